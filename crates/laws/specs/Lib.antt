@@ -1,0 +1,9 @@
+pub mod Cases
+pub mod Iter
+pub mod All
+pub mod Any
+pub mod Tables
+pub mod Put
+pub mod Functions
+pub mod Members
+pub mod Order

@@ -1,0 +1,31 @@
+-- A list with other elements in the place of those from a position on: what writers are said by.
+use Prim.Native.Nat.{ℕ, zero, suc, _+_, _≤_, _<_}
+use mathlib.Core.Path.{_≡_, refl, sym, ap, _∙_}
+use mathlib.Core.List.{List, [], _∷_, _++_, append-assoc}
+use native.Mathlib.Omega.{arith}
+use native.Mathlib.Numerals.{add-one}
+use native.Mathlib.Nat.{add-assoc}
+use lib.ListN.{length, take, drop, set, length-append, length-take, length-drop}
+use lib.Seq.{set-split, take-at, drop-append-add, drop-drop, length-take-le}
+
+-- the list with vs in the place of what stood from `at` on
+unfoldable pub put : List ℕ → ℕ → List ℕ → List ℕ
+put l at vs = take at l ++ (vs ++ drop (at + length vs) l)
+
+pub put-one : (l : List ℕ) (at b : ℕ) → at < length l → set l at b ≡ put l at (b ∷ [])
+unfolding put
+put-one l at b h = rw (set-split l at b h, add-one)
+
+pub length-put : (l : List ℕ) (at : ℕ) (vs : List ℕ) → at + length vs ≤ length l → length (put l at vs) ≡ length l
+unfolding put
+length-put l at vs h = simp (length-append, length-take, length-drop) (omega arith)
+
+pub put-put : (l : List ℕ) (at : ℕ) (a b : List ℕ) → at + length (a ++ b) ≤ length l → put (put l at a) (at + length a) b ≡ put l at (a ++ b)
+unfolding put
+put-put l at a b h =
+    let g : at + (length a + length b) ≤ length l = rw length-append at h in
+    let e : length (take at l ++ a) ≡ at + length a = simp (length-append, length-take) (omega arith) in
+    let t : take (at + length a) ((take at l ++ a) ++ drop (at + length a) l) ≡ take at l ++ a = take-at _ _ _ e in
+    let d : drop (at + length a + length b) ((take at l ++ a) ++ drop (at + length a) l) ≡ drop (at + length (a ++ b)) l =
+    rw (← e, drop-append-add, e, drop-drop, length-append, add-assoc) in
+    rw (← append-assoc (take at l) a (drop (at + length a) l), t, d, append-assoc, append-assoc a b)

@@ -1,0 +1,1 @@
+// Laws on lists, tables, loops and tests, with no word of the domain; no code.

@@ -1,0 +1,299 @@
+-- THE CALLS: what each does, what each refuses, what each answers; steps, runs and the start.
+use mathlib.Core.Bool.{Bool, true, false, not, cond, _&&_, _||_}
+use mathlib.Core.List.{List, [], _∷_, _++_}
+use Prim.Native.Nat.{ℕ, zero, suc, _+_, _-_, _*_, _%_}
+use lib.Dec.{leb, ltb, eqb}
+use lib.ListN.{length, getD, set}
+use Rattle.laws.specs.Iter.{iter}
+use Rattle.laws.specs.Any.{any}
+use Rattle.laws.specs.Put.{put}
+use Rattle.rules.specs.Rig.{Rig}
+use Rattle.rules.specs.State.{State, Entry, Work, Done, stateOf, valueOf, withCount, withTables, withChains, withRunning, active, on, off, uninvoked, inactive, blank}
+use Rattle.rules.specs.Conditions.{relax, met}
+use Rattle.rules.specs.Serving.{push, activate, serve}
+use Rattle.rules.specs.Waiting.{waitOn, waitUntilCount, leave, wakeDue}
+use Rattle.rules.specs.Family.{family, cleared, deserted, offs}
+use Rattle.rules.specs.Running.{dispatch}
+use Rattle.rules.specs.Bus.{areaWords, blockWords, written, copied, busWords}
+
+-- Every call that the paper has on a record. A value is 0 or 1; a list is what a lent buffer holds.
+--   tick: its buffer; readBlock, writeBlock: row, area, the caller's buffer
+pub data Call : Type 0 where
+  schedule cancel terminate : ℕ → Call
+  finish : Call
+  tick : List ℕ → Call
+  waitUntil waitFor : ℕ → Call
+  latched unlatched signal : ℕ → ℕ → Call
+  readFlag : ℕ → Call
+  readBlock writeBlock : ℕ → List ℕ → List ℕ → Call
+
+-- ---- what each call does before its queue is served
+
+-- "Schedule: unlatched conditions take the undesired value; inactive; if all conditions are as desired, none included,
+-- the task is activated."
+unfoldable pub scheduled : Rig → State → ℕ → Work
+scheduled r s t =
+    let conds = relax (r .present) (r .latched) (r .desired) t (s .conds) in
+    let w : Work = record { now = withTables s conds (set (s .states) t inactive); queue = [] } in
+    cond (met (r .present) (r .desired) t conds) (activate r t w) w
+
+-- "Finish (the running task): inactive, activation flag queued off."
+unfoldable pub finished : Rig → State → Work
+finished r s =
+    record {
+      now = withRunning (withTables s (s .conds) (set (s .states) (s .running) inactive)) 0;
+      queue = push (r .activation (s .running)) off [];
+    }
+
+-- "Terminate: the same for the named active task, taken out of any chain."
+unfoldable pub terminated : Rig → State → ℕ → Work
+terminated r s t =
+    record {
+      now = withChains s (set (s .states) t inactive) (leave t (s .chains));
+      queue = push (r .activation t) off [];
+    }
+
+-- "Cancel: the named task and all its descendants become uninvoked and leave their chains; then activation flags of
+-- those that were active are queued off, by rising task number."
+unfoldable pub cancelled : Rig → State → ℕ → Work
+cancelled r s t =
+    let marks = family (r .controller) t in
+    record {
+      now = withChains s (cleared marks (s .states)) (deserted marks (s .chains));
+      queue = offs (r .activation) marks (s .states);
+    }
+
+-- "the M list of cycle (count modulo 64) is queued, each flag on, in file order"
+abbrev pub queueOne : (ℕ → ℕ) → ℕ → List Entry → List Entry
+queueOne flags i q = push (flags i) on q
+
+unfoldable pub cycleQueue : (ℕ → ℕ) → List Entry
+cycleQueue flags = iter 15 (queueOne flags) []
+
+-- "In this order: the count rises by one; tasks due at it become dispatchable; the M list .. is queued"
+unfoldable pub ticked : Rig → State → Work
+ticked r s =
+    let count = suc (s .count) in
+    record { now = wakeDue (withCount s count); queue = cycleQueue (r .minor (count % 64)) }
+
+-- a state with nothing queued
+abbrev pub quiet : State → Work
+quiet s = record { now = s; queue = [] }
+
+unfoldable pub effect : Rig → State → Call → Work
+effect r s (schedule t) = scheduled r s t
+effect r s (cancel t) = cancelled r s t
+effect r s (terminate t) = terminated r s t
+effect r s finish = finished r s
+effect r s (tick buffer) = ticked r s
+-- "if the waking count is at or below the count, no wait; else waiting"
+effect r s (waitUntil t) = quiet (cond (leb t (s .count)) s (waitUntilCount s t))
+effect r s (waitFor n) = quiet (cond (leb (s .count + n) (s .count)) s (waitUntilCount s (s .count + n)))
+-- "Latched wait for a flag's value: no wait if it has it. Unlatched: always waits for the next service of that flag with
+-- that value."
+effect r s (latched f v) = quiet (cond (eqb (valueOf s f) v) s (waitOn s f v))
+effect r s (unlatched f v) = quiet (waitOn s f v)
+-- "Signal: the flag and value are queued."
+effect r s (signal f v) = record { now = s; queue = push f v [] }
+effect r s (readFlag f) = quiet s
+effect r s (readBlock k area buffer) = quiet s
+effect r s (writeBlock k area buffer) = quiet s
+
+-- ---- what each call refuses
+
+-- a row of the refusal table: the number, and whether it is to be given
+pub record Refusal : Type 0 where
+  pub number : ℕ
+  pub given : Bool
+
+-- "the smallest number" of a table that rises: the first that is to be given; 0 for none
+unfoldable pub decide : List Refusal → ℕ
+decide [] = 0
+decide (x ∷ xs) = cond (x .given) (x .number) (decide xs)
+
+abbrev pub row : ℕ → Bool → Refusal
+row n given = record { number = n; given = given }
+
+-- 5: "any call on a record but the tick .., while no task is running"
+abbrev pub nobodyRuns : State → Bool
+nobodyRuns s = eqb (s .running) 0
+
+-- 6: "no such task, flag or row": numbers run from 1
+unfoldable pub noSuch : ℕ → ℕ → Bool
+noSuch many n = eqb n 0 || ltb many n
+
+-- 7: "caller is not the named task's controller". The caller is the running task.
+abbrev pub notController : Rig → State → ℕ → Bool
+notController r s t = not (eqb (r .controller t) (s .running))
+
+-- "Flags on M lines are minor-cycle flags"
+abbrev pub inCycleOne : (ℕ → ℕ) → ℕ → ℕ → Bool
+inCycleOne flags f i = eqb (flags i) f
+
+unfoldable pub inCycle : (ℕ → ℕ) → ℕ → Bool
+inCycle flags f = any 15 (inCycleOne flags f)
+
+abbrev pub minorOne : (ℕ → ℕ → ℕ) → ℕ → ℕ → Bool
+minorOne minor f c = inCycle (minor c) f
+
+-- 7: "wait on or reading of a minor-cycle flag"
+unfoldable pub isMinor : (ℕ → ℕ → ℕ) → ℕ → Bool
+isMinor minor f = any 64 (minorOne minor f)
+
+-- the flag is a task's activation flag
+abbrev pub activationOne : (ℕ → ℕ) → ℕ → ℕ → Bool
+activationOne activation f i = eqb (activation (i + 1)) f
+
+unfoldable pub isActivation : (ℕ → ℕ) → ℕ → Bool
+isActivation activation f = any 64 (activationOne activation f)
+
+-- 7: "signal of an activation or minor-cycle flag"
+abbrev pub notPlain : Rig → ℕ → Bool
+notPlain r f = isMinor (r .minor) f || isActivation (r .activation) f
+
+-- 8: "schedule of an invoked task, cancel of an uninvoked one, terminate of one not active"
+abbrev pub isUninvoked : State → ℕ → Bool
+isUninvoked s t = eqb (stateOf s t) uninvoked
+
+abbrev pub isInvoked : State → ℕ → Bool
+isInvoked s t = not (isUninvoked s t)
+
+abbrev pub notActive : State → ℕ → Bool
+notActive s t = eqb (active (stateOf s t)) 0
+
+-- 9: "waking count above 2,147,483,647; tick at that count"
+unfoldable pub lastCount : ℕ
+lastCount = 2147483647
+
+-- 10: "a lent buffer has not the length that this paper states for it": of a tick "at least 128 words"; the area "has
+-- exactly 33 words a row; the caller's buffer has exactly the row's words"
+unfoldable pub wrongBlock : Rig → ℕ → List ℕ → List ℕ → Bool
+wrongBlock r k area buffer = not (eqb (length area) (areaWords r)) || not (eqb (length buffer) (blockWords r k))
+
+-- the rows of the table that a call can meet, in the table's order (12, a record that is not sound, comes before them)
+unfoldable pub refusals : Rig → State → Call → List Refusal
+refusals r s (schedule t) =
+    row 5 (nobodyRuns s) ∷ row 6 (noSuch (r .tasks) t) ∷ row 7 (notController r s t) ∷ row 8 (isInvoked s t) ∷ []
+refusals r s (cancel t) =
+    row 5 (nobodyRuns s) ∷ row 6 (noSuch (r .tasks) t) ∷ row 7 (notController r s t) ∷ row 8 (isUninvoked s t) ∷ []
+refusals r s (terminate t) =
+    row 5 (nobodyRuns s) ∷ row 6 (noSuch (r .tasks) t) ∷ row 7 (notController r s t) ∷ row 8 (notActive s t) ∷ []
+refusals r s finish = row 5 (nobodyRuns s) ∷ []
+refusals r s (tick buffer) = row 9 (leb lastCount (s .count)) ∷ row 10 (ltb (length buffer) 128) ∷ []
+refusals r s (waitUntil t) = row 5 (nobodyRuns s) ∷ row 9 (ltb lastCount t) ∷ []
+refusals r s (waitFor n) = row 5 (nobodyRuns s) ∷ row 9 (ltb lastCount (s .count + n)) ∷ []
+refusals r s (latched f v) = row 5 (nobodyRuns s) ∷ row 6 (noSuch (r .flags) f) ∷ row 7 (isMinor (r .minor) f) ∷ []
+refusals r s (unlatched f v) = row 5 (nobodyRuns s) ∷ row 6 (noSuch (r .flags) f) ∷ row 7 (isMinor (r .minor) f) ∷ []
+refusals r s (signal f v) = row 5 (nobodyRuns s) ∷ row 6 (noSuch (r .flags) f) ∷ row 7 (notPlain r f) ∷ []
+refusals r s (readFlag f) = row 5 (nobodyRuns s) ∷ row 6 (noSuch (r .flags) f) ∷ row 7 (isMinor (r .minor) f) ∷ []
+refusals r s (readBlock k area buffer) =
+    row 5 (nobodyRuns s) ∷ row 6 (noSuch (r .rows) k) ∷ row 10 (wrongBlock r k area buffer) ∷ []
+refusals r s (writeBlock k area buffer) =
+    row 5 (nobodyRuns s) ∷ row 6 (noSuch (r .rows) k) ∷ row 10 (wrongBlock r k area buffer) ∷ []
+
+unfoldable pub refusal : Rig → State → Call → ℕ
+refusal r s k = decide (refusals r s k)
+
+-- ---- what each call answers and writes
+
+-- served: "the number of flags it served"; words: how many bus words a tick wrote; value: of the flag that was read
+pub record Report : Type 0 where
+  pub served : ℕ
+  pub words : ℕ
+  pub value : ℕ
+
+-- code: 0 accepted, else the refusal's number
+pub record Answer : Type 0 where
+  pub code : ℕ
+  pub report : Report
+
+abbrev pub nothing : Report
+nothing = record { served = 0; words = 0; value = 0 }
+
+-- the bus words of a tick that made the count
+unfoldable pub wordsAt : Rig → ℕ → List ℕ
+wordsAt r count = busWords (r .rows) (r .master) (r .row) count
+
+-- the buffer that a call may write, as it is lent
+unfoldable pub lent : Call → List ℕ
+lent (schedule t) = []
+lent (cancel t) = []
+lent (terminate t) = []
+lent finish = []
+lent (tick buffer) = buffer
+lent (waitUntil t) = []
+lent (waitFor n) = []
+lent (latched f v) = []
+lent (unlatched f v) = []
+lent (signal f v) = []
+lent (readFlag f) = []
+lent (readBlock k area buffer) = buffer
+lent (writeBlock k area buffer) = area
+
+-- what an accepted call that left state s puts out beside the flags it served: how many bus words, the flag's value, and
+-- what the lent buffer holds after it
+pub record Output : Type 0 where
+  pub words : ℕ
+  pub value : ℕ
+  pub lent : List ℕ
+
+abbrev pub silent : Output
+silent = record { words = 0; value = 0; lent = [] }
+
+unfoldable pub output : Rig → State → Call → Output
+output r s (schedule t) = silent
+output r s (cancel t) = silent
+output r s (terminate t) = silent
+output r s finish = silent
+-- "bus words are written and their number answered"; "words past those written stay"
+output r s (tick buffer) =
+    record { words = length (wordsAt r (s .count)); value = 0; lent = put buffer 0 (wordsAt r (s .count)) }
+output r s (waitUntil t) = silent
+output r s (waitFor n) = silent
+output r s (latched f v) = silent
+output r s (unlatched f v) = silent
+output r s (signal f v) = silent
+output r s (readFlag f) = record { words = 0; value = valueOf s f; lent = [] }
+output r s (readBlock k area buffer) = record { words = 0; value = 0; lent = copied k area buffer }
+output r s (writeBlock k area buffer) = record { words = 0; value = 0; lent = written (s .count) k area buffer }
+
+-- ---- a step, a run, the start
+
+-- the state after the call, its answer, and what the buffer that it may write then holds
+pub record Step : Type 0 where
+  pub next : State
+  pub answer : Answer
+  pub lent : List ℕ
+
+unfoldable pub accepted : Rig → State → Call → Step
+accepted r s k =
+    let d = serve r (effect r s k) in
+    let n = dispatch r (d .now) in
+    let o = output r n k in
+    record {
+      next = n;
+      answer = record { code = 0; report = record { served = d .served; words = o .words; value = o .value } };
+      lent = o .lent;
+    }
+
+-- "A refused call returns the record unchanged and writes nothing"
+abbrev pub refused : ℕ → State → Call → Step
+refused n s k = record { next = s; answer = record { code = n; report = nothing }; lent = lent k }
+
+unfoldable pub after : ℕ → Rig → State → Call → Step
+after zero r s k = accepted r s k
+after (suc n) r s k = refused (suc n) s k
+
+unfoldable pub step : Rig → State → Call → Step
+step r s k = after (refusal r s k) r s k
+
+unfoldable pub run : Rig → State → List Call → State
+run r s [] = s
+run r s (k ∷ ks) = run r (step r s k .next) ks
+
+-- "Start: count 0, flags and conditions off, all tasks uninvoked; then task 1 is scheduled."
+unfoldable pub started : Rig → Done
+started r = serve r (scheduled r blank 1)
+
+unfoldable pub start : Rig → State
+start r = dispatch r (started r .now)

@@ -1,0 +1,9 @@
+pub mod Rig
+pub mod State
+pub mod Conditions
+pub mod Serving
+pub mod Waiting
+pub mod Family
+pub mod Running
+pub mod Bus
+pub mod Calls

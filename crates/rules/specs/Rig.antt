@@ -1,0 +1,42 @@
+-- THE RIG as the rules see it: what a rig file says, by number.
+-- Tasks and flags are numbered from 1, and a place that the file does not fill reads as 0.
+use Prim.Native.Nat.{ℕ, _+_, _*_}
+
+-- "B, sender, its sub-address, receiver, its sub-address, words, period, phase"
+pub record Row : Type 0 where
+  pub sender : ℕ
+  pub senderSub : ℕ
+  pub receiver : ℕ
+  pub receiverSub : ℕ
+  pub words : ℕ
+  pub period : ℕ
+  pub phase : ℕ
+
+pub record Rig : Type 0 where
+  -- "RIG, edition (always 1), tasks, flags, master's bus address"
+  pub tasks : ℕ
+  pub flags : ℕ
+  pub master : ℕ
+  -- "T, task, controller (0 for none), priority, privileged 0/1, activation flag (0 for none)", by task number
+  pub controller : ℕ → ℕ
+  pub priority : ℕ → ℕ
+  pub privileged : ℕ → ℕ
+  pub activation : ℕ → ℕ
+  -- "C, task, position, latched 0/1, desired 0/1", by the condition's place; present is 1 where there is a C line
+  pub present : ℕ → ℕ
+  pub latched : ℕ → ℕ
+  pub desired : ℕ → ℕ
+  -- "A, task, position, flag", in file order from 0
+  pub lines : ℕ
+  pub lineTask : ℕ → ℕ
+  pub linePos : ℕ → ℕ
+  pub lineFlag : ℕ → ℕ
+  -- "M, cycle 0 to 63, flag": the flags of a cycle in file order from 0; 0 behind the last of its up to fifteen
+  pub minor : ℕ → ℕ → ℕ
+  -- B lines in row order from 0: row number k of the paper is `row (k - 1)`
+  pub rows : ℕ
+  pub row : ℕ → Row
+
+-- "up to 16 conditions a task at positions 0 to 15": the place of a condition in a table of all of them
+abbrev pub place : ℕ → ℕ → ℕ
+place task position = 16 * task + position

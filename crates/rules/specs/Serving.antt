@@ -1,0 +1,86 @@
+-- SERVING: how a task is activated, and what serving the queued flags does.
+use mathlib.Core.Bool.{Bool, true, false, not, cond, _&&_, _||_}
+use mathlib.Core.List.{List, [], _∷_}
+use Prim.Native.Nat.{ℕ, zero, suc, _+_}
+use lib.Dec.{eqb}
+use lib.ListN.{length, set}
+use Rattle.laws.specs.Iter.{iter}
+use Rattle.laws.specs.Tables.{over}
+use Rattle.laws.specs.Functions.{upd}
+use Rattle.rules.specs.Rig.{Rig}
+use Rattle.rules.specs.State.{State, Entry, Work, Done, stateOf, withValues, withTables, withChains, chainOf, inactive, dispatchable, on}
+use Rattle.rules.specs.Conditions.{relax, met, drive, names}
+
+-- "queued"; activation flag 0 is none, and queues nothing
+abbrev pub push : ℕ → ℕ → List Entry → List Entry
+push zero v q = q
+push (suc f) v q = record { flag = suc f; value = v } ∷ q
+
+-- "Activate: dispatchable, unlatched conditions undesired again, its activation flag queued on."
+unfoldable pub activate : Rig → ℕ → Work → Work
+activate r t w =
+    record {
+      now =
+          withTables (w .now)
+          (relax (r .present) (r .latched) (r .desired) t (w .now .conds))
+          (set (w .now .states) t dispatchable);
+      queue = push (r .activation t) on (w .queue);
+    }
+
+-- "Serving: the last queued is taken off first. The flag takes the value; every condition with that flag takes it"
+unfoldable pub takes : Rig → Entry → State → State
+takes r e s =
+    withValues s
+    (set (s .flags) (e .flag) (e .value))
+    (drive (r .lines) (r .lineTask) (r .linePos) (r .lineFlag) (e .flag) (e .value) (s .conds))
+
+-- "tasks waiting on that flag and value become dispatchable": all of a chain, which is then empty
+unfoldable pub rouse : List ℕ → List ℕ → List ℕ
+rouse [] states = states
+rouse (t ∷ ts) states = rouse ts (set states t dispatchable)
+
+unfoldable pub wake : ℕ → State → State
+wake c s = withChains s (rouse (s .chains c) (s .states)) (upd (s .chains) c [])
+
+-- "then, by rising number, each inactive task with that flag in a condition and all conditions as desired is activated"
+unfoldable pub ready : Rig → ℕ → ℕ → State → Bool
+ready r f t s = names (r .lines) (r .lineTask) (r .lineFlag) t f && met (r .present) (r .desired) t (s .conds)
+
+unfoldable pub offer : Rig → ℕ → ℕ → Work → Work
+offer r f t w = cond (eqb (stateOf (w .now) t) inactive && ready r f t (w .now)) (activate r t w) w
+
+abbrev pub offerNext : Rig → ℕ → ℕ → Work → Work
+offerNext r f i w = offer r f (i + 1) w
+
+-- tasks 1 to k
+unfoldable pub offers : Rig → ℕ → ℕ → Work → Work
+offers r f k w = iter k (offerNext r f) w
+
+-- one flag is served, with q queued behind it
+unfoldable pub serveFlag : Rig → Entry → State → List Entry → Work
+serveFlag r e s q =
+    offers r (e .flag) 64 (record { now = wake (chainOf (e .flag) (e .value)) (takes r e s); queue = q })
+
+abbrev pub another : Done → Done
+another d = record { now = d .now; served = suc (d .served) }
+
+-- "This goes on until the queue is empty." The number k only bounds how many are served: `serve` gives one that never
+-- cuts it short (theorems serve-nil and serve-cons).
+unfoldable pub serving : Rig → ℕ → State → List Entry → Done
+serving r zero s q = record { now = s; served = 0 }
+serving r (suc k) s [] = record { now = s; served = 0 }
+serving r (suc k) s (e ∷ q) =
+    let w = serveFlag r e s q in
+    another (serving r k (w .now) (w .queue))
+
+-- how many tasks are inactive
+abbrev pub isInactive : ℕ → ℕ
+isInactive zero = 0
+isInactive (suc zero) = 1
+isInactive (suc (suc n)) = 0
+
+abbrev pub inactives : List ℕ → ℕ
+inactives states = over isInactive states
+
+unfoldable pub serve : Rig → Work → Done
+serve r w = serving r (length (w .queue) + inactives (w .now .states)) (w .now) (w .queue)

@@ -1,0 +1,1 @@
+// Command and status words of the bus, and their parity.
