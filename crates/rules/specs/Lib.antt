@@ -7,3 +7,7 @@ pub mod Family
 pub mod Running
 pub mod Bus
 pub mod Calls
+pub mod Scripts
+pub mod Cases
+pub mod Morning
+pub mod Full
