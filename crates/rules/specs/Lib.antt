@@ -10,3 +10,5 @@ pub mod Calls
 pub mod RigOk
 pub mod Soundness
 pub mod Proper
+pub mod Serve
+pub mod Lengths
