@@ -16,3 +16,4 @@ pub mod Queued
 pub mod Agreement
 pub mod Rousing
 pub mod Ranks
+pub mod WaitingLaws
