@@ -17,3 +17,5 @@ pub mod Agreement
 pub mod Rousing
 pub mod Ranks
 pub mod WaitingLaws
+pub mod TableLaws
+pub mod Good
