@@ -19,3 +19,6 @@ pub mod Ranks
 pub mod WaitingLaws
 pub mod TableLaws
 pub mod Good
+pub mod Acceptance
+pub mod FamilyLaws
+pub mod Effects
