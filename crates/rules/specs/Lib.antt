@@ -22,3 +22,4 @@ pub mod Good
 pub mod Acceptance
 pub mod FamilyLaws
 pub mod Effects
+pub mod Cancelling
