@@ -23,3 +23,4 @@ pub mod Acceptance
 pub mod FamilyLaws
 pub mod Effects
 pub mod Cancelling
+pub mod Steps
