@@ -24,3 +24,4 @@ pub mod FamilyLaws
 pub mod Effects
 pub mod Cancelling
 pub mod Steps
+pub mod Bound
