@@ -28,4 +28,5 @@ pub mod FamilyLaws
 pub mod Effects
 pub mod Cancelling
 pub mod Steps
+pub mod BenchRig
 pub mod Bound
