@@ -28,5 +28,7 @@ pub mod FamilyLaws
 pub mod Effects
 pub mod Cancelling
 pub mod Steps
+pub mod History
+pub mod InOrder
 pub mod BenchRig
 pub mod Bound
