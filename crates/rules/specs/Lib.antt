@@ -30,5 +30,7 @@ pub mod Cancelling
 pub mod Steps
 pub mod History
 pub mod InOrder
+pub mod Waking
+pub mod WakingLaws
 pub mod BenchRig
 pub mod Bound
