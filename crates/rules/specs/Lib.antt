@@ -33,4 +33,5 @@ pub mod InOrder
 pub mod Waking
 pub mod WakingLaws
 pub mod BenchRig
+pub mod FullRig
 pub mod Bound
