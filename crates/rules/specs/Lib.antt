@@ -25,3 +25,6 @@ pub mod Effects
 pub mod Cancelling
 pub mod Steps
 pub mod Bound
+pub mod Reasons
+pub mod Refusals
+pub mod RefusedExactly
