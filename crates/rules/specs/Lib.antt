@@ -28,3 +28,4 @@ pub mod Bound
 pub mod Reasons
 pub mod Refusals
 pub mod RefusedExactly
+pub mod RunningOn
