@@ -29,3 +29,4 @@ pub mod Reasons
 pub mod Refusals
 pub mod RefusedExactly
 pub mod RunningOn
+pub mod Demand

@@ -54,14 +54,13 @@ decide-least k n (x ∷ xs) h g = go (x .given) refl g (λ y. decide-least (x .n
 -- "the smallest number": n is decided exactly when it is to be given and no smaller one is
 pub decide-smallest : (xs : List Refusal) → Rising 0 xs → (n : ℕ) → n ≢ 0
     → (decide xs ≡ n) ↔ (Given n xs × ((m : ℕ) → m < n → Given m xs → ⊥))
-decide-smallest xs h n z =
-    (
-      (λ e. (
-        subst (λ (m : ℕ). Given m xs) e (decide-given xs (λ q. z (sym e ∙ q))),
-        (λ m l g. omega (arith, e, decide-least 0 m xs h g .1)),
-      )),
-      (λ p. go p (dec-eq (decide xs) n)),
-    )
+decide-smallest xs h n z = (
+  (λ e. (
+    subst (λ (m : ℕ). Given m xs) e (decide-given xs (λ q. z (sym e ∙ q))),
+    (λ m l g. omega (arith, e, decide-least 0 m xs h g .1)),
+  )),
+  (λ p. go p (dec-eq (decide xs) n)),
+)
   where
     go : Given n xs × ((m : ℕ) → m < n → Given m xs → ⊥) → Dec (decide xs ≡ n) → decide xs ≡ n
     go p (yes e) = e

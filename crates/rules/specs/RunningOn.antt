@@ -49,8 +49,11 @@ pub caller-unmarked : (r : Rig) → RigOk r → (t : ℕ) → 1 ≤ t → t ≤ 
 caller-unmarked r ok t a b n =
     let low : r .controller t < t = ok .controller-low t (λ q. omega arith) in
     by (isMarked (family (r .controller) t) (r .controller t))
-    (λ e. absurd (omega (arith, under-le r ok t (r .controller t)
-        (family-is r ok t a b (r .controller t) (omega arith) (omega arith) .0 (eqb-true _ 1 e)))))
+    (λ e. absurd (omega (
+      arith,
+      under-le r ok t (r .controller t)
+          (family-is r ok t a b (r .controller t) (omega arith) (omega arith) .0 (eqb-true _ 1 e)),
+    )))
     (λ e. e)
 
 -- what was dispatchable is so after a serving
