@@ -30,3 +30,4 @@ pub mod Refusals
 pub mod RefusedExactly
 pub mod RunningOn
 pub mod Demand
+pub mod Lent
