@@ -8,3 +8,4 @@ pub mod Functions
 pub mod Members
 pub mod Order
 pub mod Says
+pub mod Stores

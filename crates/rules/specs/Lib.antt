@@ -31,3 +31,4 @@ pub mod RefusedExactly
 pub mod RunningOn
 pub mod Demand
 pub mod Lent
+pub mod ConditionLaws
