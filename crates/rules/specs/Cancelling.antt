@@ -1,5 +1,5 @@
--- Cancel: who is marked is uninvoked, in no chain, and its activation flag is queued off if it was active; nobody else
--- is touched. So it too hands the serving a state and a queue that it can start from.
+-- Cancel: the activation flag of who is marked is queued off if it was active. So it too hands the serving a state and a
+-- queue that it can start from.
 use mathlib.Core.Path.{_≡_, refl, sym, ap, _∙_, subst}
 use mathlib.Core.Logic.{_≢_}
 use mathlib.Core.Bool.{Bool, true, false, cond, _&&_, true≢false}
@@ -12,44 +12,21 @@ use lib.Dec.{eqb}
 use lib.ListN.{length, getD, set}
 use Rattle.laws.specs.Cases.{by, dec-eq}
 use Rattle.laws.specs.Iter.{iter, iter-ind}
-use Rattle.laws.specs.Tables.{set-le, has-place}
-use Rattle.laws.specs.Stores.{stores-keep, stores-hit, stores-miss}
+use Rattle.laws.specs.Tables.{has-place}
 use Rattle.rules.specs.Rig.{Rig}
 use Rattle.rules.specs.RigOk.{RigOk}
 use Rattle.rules.specs.State.{State, Work, Entry, stateOf, active}
 use Rattle.rules.specs.Serving.{push}
-use Rattle.rules.specs.Family.{family, isMarked, cleared, offOne, offs, deserted}
+use Rattle.rules.specs.Family.{family, isMarked, cleared, deserted, offOne, offs}
 use Rattle.rules.specs.Calls.{cancelled}
 use Rattle.rules.specs.Soundness.{Tasks}
 use Rattle.rules.specs.Queued.{Fine, fine-push, look, look-nil, look-absent, absent, Agree, Clear, rest-absent}
 use Rattle.rules.specs.Agreement.{push-absent, push-look, push-look-self}
 use Rattle.rules.specs.Lengths.{cleared-length}
+use Rattle.rules.specs.Leaving.{cleared-hit, cleared-miss, cleared-small}
 use Rattle.rules.specs.FamilyLaws.{marked-down, family-none}
 use Rattle.rules.specs.WaitingLaws.{chains-desert}
 use Rattle.rules.specs.Good.{Good, Ready}
-
--- ---- the states after it
-
-module _ (marks l : List ℕ) where
-  -- who is marked becomes uninvoked
-  pub cleared-hit : (u : ℕ) → isMarked marks u ≡ true → 1 ≤ u → u < length l → u ≤ 64 → getD (cleared marks l) u 0 ≡ 0
-  unfolding cleared
-  cleared-hit zero h a b c = absurd (omega arith)
-  cleared-hit (suc i) h a b c =
-      subst (λ (u : ℕ). getD (cleared marks l) u 0 ≡ 0) (add-one i)
-      (stores-hit (λ i. isMarked marks (i + 1)) (λ i. i + 1) (λ i. 0) 64 l i (omega arith) (rw add-one h) (rw add-one b) (λ j d e q. refl))
-
-  -- who is not stays as he is
-  pub cleared-miss : (u : ℕ) → isMarked marks u ≡ false → getD (cleared marks l) u 0 ≡ getD l u 0
-  unfolding cleared
-  cleared-miss u h =
-      stores-miss (λ i. isMarked marks (i + 1)) (λ i. i + 1) (λ i. 0) 64 l u (λ i a e q. true≢false (sym e ∙ sym (ap (isMarked marks) q) ∙ h))
-
-  cleared-small : ((u : ℕ) → getD l u 0 ≤ 3) → (u : ℕ) → getD (cleared marks l) u 0 ≤ 3
-  unfolding cleared
-  cleared-small h =
-      stores-keep (λ i. isMarked marks (i + 1)) (λ i. i + 1) (λ i. 0) (λ m. (u : ℕ) → getD m u 0 ≤ 3) 64
-      (λ i m a e g. set-le 3 m (i + 1) 0 (omega arith) g) l h
 
 -- ---- what is queued
 

@@ -14,7 +14,7 @@ use Rattle.laws.specs.Cases.{or-false}
 use Rattle.laws.specs.Iter.{iter, iter-ind}
 use Rattle.laws.specs.Put.{put, length-put, put-inside, put-before, put-behind}
 use Rattle.rules.specs.Rig.{Rig, Row}
-use Rattle.rules.specs.RigOk.{RigOk}
+use Rattle.rules.specs.RigOk.{RowsOk}
 use Rattle.rules.specs.State.{State}
 use Rattle.rules.specs.Bus.{blockAt, areaWords, blockWords, written, copied, rowDue, receiveWord, transmitWord, rowWords, busOne, busWords}
 use Rattle.rules.specs.Calls.{Call, schedule, cancel, terminate, finish, tick, waitUntil, waitFor, latched, unlatched, signal, readFlag, readBlock, writeBlock}
@@ -42,7 +42,7 @@ words-length rows master row count =
     go true i ws h = omega (arith, length-append ws (rowWords master (row i)), row-length master (row i))
     go false i ws h = omega arith
 
-pub words-fit : (r : Rig) → RigOk r → (count : ℕ) → length (wordsAt r count) ≤ 128
+pub words-fit : (r : Rig) → RowsOk r → (count : ℕ) → length (wordsAt r count) ≤ 128
 unfolding wordsAt
 words-fit r ok count = omega (arith, words-length (r .rows) (r .master) (r .row) count, ok .rows-le)
 
@@ -64,7 +64,7 @@ block-is r k area buffer a b =
       buffer-is = eqb-true (length buffer) (blockWords r k) (not-false (eqb (length buffer) (blockWords r k)) (e .1));
     }
 
-module _ (r : Rig) (ok : RigOk r) (k : ℕ) (area buffer : List ℕ) (h : Block r k area buffer) where
+module _ (r : Rig) (ok : RowsOk r) (k : ℕ) (area buffer : List ℕ) (h : Block r k area buffer) where
   -- the block lies in the area
   pub block-inside : blockAt k + suc (length buffer) ≤ length area
   block-inside = omega (arith, h .known .0, h .known .1, h .area-is, h .buffer-is, ok .words-le (k - 1) (omega (arith, h .known .0, h .known .1)))
@@ -105,7 +105,7 @@ module _ (r : Rig) (ok : RigOk r) (k : ℕ) (area buffer : List ℕ) (h : Block 
 
 -- ---- every call
 
-module _ (r : Rig) (ok : RigOk r) (s : State) where
+module _ (r : Rig) (ok : RowsOk r) (s : State) where
   -- "words past those written stay"
   pub tick-other : (buffer : List ℕ) (count j : ℕ) → 128 ≤ length buffer → length (wordsAt r count) ≤ j
       → getD (put buffer 0 (wordsAt r count)) j 0 ≡ getD buffer j 0

@@ -22,6 +22,7 @@ pub mod Good
 pub mod Acceptance
 pub mod FamilyLaws
 pub mod Effects
+pub mod Leaving
 pub mod Cancelling
 pub mod Steps
 pub mod Bound
@@ -32,3 +33,5 @@ pub mod RunningOn
 pub mod Demand
 pub mod Lent
 pub mod ConditionLaws
+pub mod Enough
+pub mod ServingKeeps

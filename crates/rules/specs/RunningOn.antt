@@ -31,7 +31,7 @@ use Rattle.rules.specs.Ranks.{stays-on, lowest-first}
 use Rattle.rules.specs.Acceptance.{named-is}
 use Rattle.rules.specs.Refusals.{accepted-is}
 use Rattle.rules.specs.FamilyLaws.{Under, itself, below, family-is}
-use Rattle.rules.specs.Cancelling.{cleared-miss}
+use Rattle.rules.specs.Leaving.{cleared-miss}
 use Rattle.rules.specs.Good.{serve-keeps, serve-running, serve-good}
 use Rattle.rules.specs.Steps.{effect-ready}
 
