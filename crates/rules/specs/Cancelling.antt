@@ -3,21 +3,20 @@
 use mathlib.Core.Path.{_≡_, refl, sym, ap, _∙_, subst}
 use mathlib.Core.Logic.{_≢_}
 use mathlib.Core.Bool.{Bool, true, false, cond, _&&_, true≢false}
-use mathlib.Core.List.{List, [], _∷_}
+use mathlib.Core.List.{List, []}
 use Prim.Native.Nat.{ℕ, zero, suc, _+_, _≤_, _<_}
 use native.Mathlib.Omega.{arith}
 use native.Mathlib.Numerals.{add-one}
-use native.Mathlib.Nat.{le-refl}
 use lib.Dec.{eqb}
-use lib.ListN.{length, getD, set}
+use lib.ListN.{length, getD}
 use Rattle.laws.specs.Cases.{by, dec-eq}
 use Rattle.laws.specs.Iter.{iter, iter-ind}
 use Rattle.laws.specs.Tables.{has-place}
 use Rattle.rules.specs.Rig.{Rig}
 use Rattle.rules.specs.RigOk.{RigOk}
-use Rattle.rules.specs.State.{State, Work, Entry, stateOf, active}
+use Rattle.rules.specs.State.{State, Entry, active}
 use Rattle.rules.specs.Serving.{push}
-use Rattle.rules.specs.Family.{family, isMarked, cleared, deserted, offOne, offs}
+use Rattle.rules.specs.Family.{family, isMarked, cleared, offOne, offs}
 use Rattle.rules.specs.Calls.{cancelled}
 use Rattle.rules.specs.Soundness.{Tasks}
 use Rattle.rules.specs.Queued.{Fine, fine-push, look, look-nil, look-absent, absent, Agree, Clear, rest-absent}

@@ -1,15 +1,14 @@
 -- What the rules over conditions say, place by place.
-use mathlib.Core.Path.{_≡_, refl, sym, ap, _∙_, subst}
-use mathlib.Core.Logic.{_≢_, _⊎_, inl, inr, ⊎-elim, _↔_}
-use mathlib.Core.Bool.{Bool, true, false, not, _&&_, _||_}
+use mathlib.Core.Path.{_≡_, refl, ap}
+use mathlib.Core.Logic.{_≢_, _⊎_, _↔_}
+use mathlib.Core.Bool.{Bool, true, not, _&&_}
 use mathlib.Core.List.{List}
-use Prim.Native.Nat.{ℕ, _+_, _-_, _*_, _≤_, _<_}
-use native.Mathlib.Omega.{arith}
+use Prim.Native.Nat.{ℕ, _-_, _<_}
 use borrow.Author.Tests.{eqb-true, eq-eqb}
 use lib.Dec.{eqb}
 use lib.ListN.{length, getD}
-use Rattle.laws.specs.Cases.{dec-eq, and-true, and-go}
-use Rattle.laws.specs.Says.{Says, says-not, says-or, says-and, says-eq, says-all, says-any, says-iff}
+use Rattle.laws.specs.Cases.{and-true, and-go}
+use Rattle.laws.specs.Says.{says-not, says-or, says-and, says-eq, says-all, says-any, says-iff}
 use Rattle.laws.specs.Stores.{stores-hit, stores-miss}
 use Rattle.rules.specs.Rig.{place}
 use Rattle.rules.specs.Conditions.{relax, metOne, met, drive, namesOne, names}

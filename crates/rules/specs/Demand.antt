@@ -1,13 +1,13 @@
 -- DEMAND 3, of the rules: from an accepted start, after any run, refused calls among it.
 -- "each chain lists exactly who waits there, once, in order; activation flag on iff task active; at most 79 served a call".
 -- (That waking is exact, and that the order is that of the history, are theorems of their own.)
-use mathlib.Core.Path.{_≡_, refl, sym, ap, _∙_, subst}
+use mathlib.Core.Path.{_≡_, refl, sym, _∙_}
 use mathlib.Core.Logic.{_≢_, _⊎_, inl, inr, ⊎-elim, _↔_}
-use mathlib.Core.List.{List, [], _∷_}
-use Prim.Native.Nat.{ℕ, zero, suc, _+_, _*_, _≤_, _<_}
+use mathlib.Core.List.{List, _∷_}
+use Prim.Native.Nat.{ℕ, zero, suc, _*_, _≤_, _<_}
 use native.Mathlib.Omega.{arith}
 use native.Mathlib.Nat.{le-trans}
-use lib.ListN.{length, getD}
+use lib.ListN.{getD}
 use Rattle.laws.specs.Cases.{dec-eq}
 use Rattle.laws.specs.Members.{In, Distinct}
 use Rattle.laws.specs.Order.{Sorted}
@@ -15,11 +15,11 @@ use Rattle.rules.specs.Rig.{Rig}
 use Rattle.rules.specs.RigOk.{RigOk}
 use Rattle.rules.specs.State.{State, Work, Entry, stateOf, valueOf, wakeOf, active, on, waiting, dispatchable, timeChain}
 use Rattle.rules.specs.Serving.{serveFlag}
-use Rattle.rules.specs.Calls.{Call, step, run, started, start, lastCount}
-use Rattle.rules.specs.Proper.{Proper, ProperRun}
+use Rattle.rules.specs.Calls.{Call, step, run, started, start}
+use Rattle.rules.specs.Proper.{ProperRun}
 use Rattle.rules.specs.Soundness.{Sound}
 use Rattle.rules.specs.Queued.{Agree}
-use Rattle.rules.specs.Good.{Good, Clean, Ready, clean-ready, serveFlag-clean}
+use Rattle.rules.specs.Good.{Ready, clean-ready, serveFlag-clean}
 use Rattle.rules.specs.Steps.{always}
 use Rattle.rules.specs.Bound.{served-79, start-served}
 

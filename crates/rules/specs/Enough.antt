@@ -1,16 +1,16 @@
 -- No bound of a loop cuts a rule short: more turns than the rules make would change nothing.
 -- (The serving's own bound: serve-nil and serve-cons. The family of a task: family-is.)
-use mathlib.Core.Path.{_≡_, refl, sym, ap, _∙_, subst}
-use mathlib.Core.Bool.{Bool, true, false, cond, _&&_, _||_}
-use mathlib.Core.List.{List, [], _∷_}
-use Prim.Native.Nat.{ℕ, zero, suc, _+_, _≤_, _<_}
+use mathlib.Core.Path.{_≡_, ap}
+use mathlib.Core.Bool.{Bool, false, cond, _&&_, _||_}
+use mathlib.Core.List.{List}
+use Prim.Native.Nat.{ℕ, suc, _+_, _≤_}
 use native.Mathlib.Omega.{arith}
 use borrow.Author.Tests.{ne-eqb}
 use lib.Dec.{eqb, ltb}
 use lib.ListN.{length, getD, List·getD-eq-default}
-use Rattle.laws.specs.Iter.{iter, iter-stop}
+use Rattle.laws.specs.Iter.{iter-stop}
 use Rattle.rules.specs.Rig.{Rig}
-use Rattle.rules.specs.State.{Work, stateOf}
+use Rattle.rules.specs.State.{Work}
 use Rattle.rules.specs.Serving.{activate, ready, offer, offerNext, offers}
 use Rattle.rules.specs.Running.{rank, bestOne, best}
 use Rattle.rules.specs.ServingKeeps.{Sized, offers-sized}

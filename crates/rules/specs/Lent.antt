@@ -1,17 +1,17 @@
 -- LENT BUFFERS: what a call writes fits, a buffer keeps its length, and no other word is touched.
-use mathlib.Core.Path.{_≡_, refl, sym, ap, _∙_, subst}
-use mathlib.Core.Logic.{_≢_, _⊎_, inl, inr, ⊎-elim}
-use mathlib.Core.Bool.{Bool, true, false, not, cond, _||_}
+use mathlib.Core.Path.{_≡_, refl, sym, ap, _∙_}
+use mathlib.Core.Logic.{_⊎_, inl, inr}
+use mathlib.Core.Bool.{Bool, true, false, not, cond}
 use mathlib.Core.List.{List, [], _∷_, _++_}
 use Prim.Native.Nat.{ℕ, zero, suc, _+_, _-_, _*_, _%_, _≤_, _<_}
 use native.Mathlib.Omega.{arith}
 use native.Mathlib.Nat.{le-refl, add-zero}
 use borrow.Author.Tests.{eqb-true, ltb-false, not-false}
 use lib.Dec.{eqb, ltb, leb}
-use lib.ListN.{length, getD, take, drop, length-append, length-drop}
+use lib.ListN.{length, getD, drop, length-append, length-drop}
 use lib.Seq.{length-take-le, getD-take, getD-drop}
 use Rattle.laws.specs.Cases.{or-false}
-use Rattle.laws.specs.Iter.{iter, iter-ind}
+use Rattle.laws.specs.Iter.{iter-ind}
 use Rattle.laws.specs.Put.{put, length-put, put-inside, put-before, put-behind}
 use Rattle.rules.specs.Rig.{Rig, Row}
 use Rattle.rules.specs.RigOk.{RowsOk}

@@ -1,17 +1,17 @@
 -- Who runs: dispatchable, with none of higher rank; or none, with none dispatchable.
-use mathlib.Core.Path.{_≡_, refl, sym, ap, _∙_, subst}
+use mathlib.Core.Path.{_≡_, refl, sym, _∙_}
 use mathlib.Core.Logic.{_≢_}
 use mathlib.Core.Bool.{Bool, true, false, not, cond, _&&_, _||_}
-use mathlib.Core.List.{List, [], _∷_}
-use Prim.Native.Nat.{ℕ, zero, suc, _+_, _*_, _≤_, _<_, zero-le}
+use mathlib.Core.List.{List}
+use Prim.Native.Nat.{ℕ, zero, suc, _≤_, _<_}
 use native.Mathlib.Omega.{arith}
 use native.Mathlib.Numerals.{add-one}
 use native.Mathlib.Nat.{le-refl, le-trans}
-use borrow.Author.Tests.{eqb-true, eqb-false, eq-eqb, ne-eqb, le-leb, ltb-true, ltb-false, leb-true, leb-false, not-true}
+use borrow.Author.Tests.{eqb-true, eqb-false, eq-eqb, le-leb, ltb-true, ltb-false, leb-true, not-true}
 use lib.Dec.{eqb, ltb, leb}
 use lib.ListN.{length, getD}
 use Rattle.laws.specs.Cases.{by-eqb, and-true}
-use Rattle.laws.specs.Iter.{iter, iter-ind}
+use Rattle.laws.specs.Iter.{iter-ind}
 use Rattle.laws.specs.Tables.{in-range, below-suc}
 use Rattle.rules.specs.Rig.{Rig}
 use Rattle.rules.specs.RigOk.{RigOk}

@@ -1,16 +1,16 @@
 -- One turn of a serving, for who walks through it turn by turn: tables keep their lengths, what is queued stays fine.
-use mathlib.Core.Path.{_≡_, refl, sym, ap, _∙_, subst}
+use mathlib.Core.Path.{_≡_, _∙_}
 use mathlib.Core.Bool.{Bool, true, false, cond, _&&_}
-use mathlib.Core.List.{List, [], _∷_}
-use Prim.Native.Nat.{ℕ, zero, suc, _+_, _≤_, _<_}
+use mathlib.Core.List.{List}
+use Prim.Native.Nat.{ℕ, _+_}
 use native.Mathlib.Omega.{arith}
 use lib.Dec.{eqb}
-use lib.ListN.{length, getD, set, length-set}
-use Rattle.laws.specs.Iter.{iter, iter-ind}
+use lib.ListN.{length, length-set}
+use Rattle.laws.specs.Iter.{iter-ind}
 use Rattle.rules.specs.Rig.{Rig}
 use Rattle.rules.specs.RigOk.{RigOk}
 use Rattle.rules.specs.State.{State, Work, Entry, stateOf, chainOf}
-use Rattle.rules.specs.Serving.{push, activate, ready, offer, offerNext, offers, takes, wake, serveFlag}
+use Rattle.rules.specs.Serving.{activate, ready, offer, offerNext, offers, takes, wake, serveFlag}
 use Rattle.rules.specs.Queued.{Fine, fine-push}
 use Rattle.rules.specs.Lengths.{relax-length, drive-length, rouse-length}
 
