@@ -30,8 +30,10 @@ pub mod Reasons
 pub mod Refusals
 pub mod RefusedExactly
 pub mod RunningOn
+pub mod WhileServing
 pub mod Demand
 pub mod Lent
 pub mod ConditionLaws
 pub mod Enough
 pub mod ServingKeeps
+pub mod Offering
