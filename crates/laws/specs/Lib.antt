@@ -7,3 +7,5 @@ pub mod Put
 pub mod Functions
 pub mod Members
 pub mod Order
+pub mod Says
+pub mod Stores
