@@ -9,3 +9,4 @@ pub mod Members
 pub mod Order
 pub mod Says
 pub mod Stores
+pub mod Bits
