@@ -186,7 +186,8 @@ answer exec_cancel(exec *e, uint32_t task)
 
 static void deactivate(exec *e, serving *s, unsigned task)
 {
-    leave_line(e, task);
+    if (!MUTATED(TERMINATE_LEAVES_LINKED))
+        leave_line(e, task);
     e->state[task] = INACTIVE;
     queue_activation(s, e, task, 0);
 }
@@ -195,6 +196,8 @@ answer exec_terminate(exec *e, uint32_t task)
 {
     serving s = {.served = 0};
     enum refusal refusal = judge_named_task(e, task);
+    if (MUTATED(STATE_BEFORE_CONTROLLER) && refusal == NOT_ALLOWED && e->state[task] < WAITING)
+        refusal = WRONG_STATE;
     if (refusal != ACCEPTED)
         return refused(refusal);
     if (e->state[task] < WAITING)
@@ -271,7 +274,7 @@ answer exec_wait_unlatched(exec *e, uint32_t flag, bool value)
 answer exec_signal(exec *e, uint32_t flag, bool value)
 {
     serving s = {.served = 0};
-    enum refusal refusal = judge_named_flag(e, flag, FLAG_ACTIVATION);
+    enum refusal refusal = judge_named_flag(e, flag, MUTATED(ACTIVATION_SIGNALLED) ? FLAG_MINOR : FLAG_ACTIVATION);
     if (refusal != ACCEPTED)
         return refused(refusal);
     queue_flag(&s, flag, value);

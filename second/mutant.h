@@ -44,7 +44,14 @@
     M(30, SIZES_BEFORE_SHAPE, "a field's size is judged before the next field's shape") \
     M(31, LENGTH_OF_INPUT, "the whole input counts toward the file's length") \
     M(32, AREA_AT_LEAST, "a compool area longer than 33 words a row is taken") \
-    M(33, TAG_NOT_WRITTEN, "a block is written without its tag")
+    M(33, TAG_NOT_WRITTEN, "a block is written without its tag") \
+    M(34, SERVES_INSIDE, "an activation's flag is served before the next task is tested") \
+    M(35, TERMINATE_LEAVES_LINKED, "terminate leaves the task in its line") \
+    M(36, STATE_BEFORE_CONTROLLER, "a task's state is judged before its controller") \
+    M(37, WAKES_FIRST_ONLY, "a service wakes only the first task that waits for it") \
+    M(38, LAST_LINE_RUNS, "a last script line without LF is run") \
+    M(39, SPARE_ZEROS, "script numbers may have spare zeros") \
+    M(40, ACTIVATION_SIGNALLED, "activation flags may be signalled")
 
 #define MUTANT_NAME(number, name, text) MUTANT_##name = number,
 enum { MUTANT_LIST(MUTANT_NAME) MUTANT_END };

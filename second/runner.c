@@ -49,7 +49,8 @@ static size_t run_line(exec *e, const in_line *line, char *out)
 {
     script_call call;
     uint16_t words[TICK_WORDS];
-    if (!line->whole || !script_judge(line->text, line->length, &call))
+    bool whole = line->whole || (MUTATED(LAST_LINE_RUNS) && line->length <= SCRIPT_LINE_MAX);
+    if (!whole || !script_judge(line->text, line->length, &call))
         return print_wrong_line(out);
     answer a = script_apply(e, &call, words);
     return print_call(out, &call, &a, e, words);

@@ -2,6 +2,8 @@
 
 #include <string.h>
 
+#include "mutant.h"
+
 /* ---- Judging ---- */
 
 /* What follows the verb. */
@@ -41,7 +43,7 @@ bool script_number(const uint8_t **at, const uint8_t *end, uint32_t *out)
         if (value > UINT32_MAX)
             return false;
     }
-    if (p == digits || (*digits == '0' && p - digits > 1))
+    if (p == digits || (*digits == '0' && p - digits > 1 && !MUTATED(SPARE_ZEROS)))
         return false;
     *out = (uint32_t)value;
     *at = p;

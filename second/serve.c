@@ -80,10 +80,13 @@ static void wake_waiting_on(exec *e, unsigned flag, unsigned value)
     unsigned i = 0;
     while (i < e->flagged.tasks) {
         const exec_wait *w = &e->wait[e->flagged.task[i]];
-        if (w->flag == flag && (w->value == value || MUTATED(WAKES_ON_EITHER)))
+        if (w->flag == flag && (w->value == value || MUTATED(WAKES_ON_EITHER))) {
             wake(e, &e->flagged, i);
-        else
+            if (MUTATED(WAKES_FIRST_ONLY))
+                return;
+        } else {
             i++;
+        }
     }
 }
 
@@ -179,8 +182,13 @@ static void serve_flag(exec *e, serving *s, unsigned flag, unsigned value)
     wake_waiting_on(e, flag, value);
     while (tasks != 0) {
         unsigned t = take_task(&tasks);
-        if (e->state[t] == INACTIVE && exec_as_desired(e, t))
-            activate(e, s, t);
+        if (e->state[t] != INACTIVE || !exec_as_desired(e, t))
+            continue;
+        activate(e, s, t);
+        if (MUTATED(SERVES_INSIDE) && e->rig.task[t].activation != 0) {
+            take_from_queue(s, &flag, &value);
+            serve_flag(e, s, flag, value);
+        }
     }
 }
 
