@@ -175,10 +175,15 @@ static bool do_wait_time(player *p)
 
 static bool do_wait_flag(player *p)
 {
-    unsigned flag = flag_up_to(p, FLAG_ACTIVATION);
+    unsigned flag = flag_up_to(p, FLAG_ACTIVATION), value = pick(p->c, 0, 1);
+    unsigned other = awaited_task(p);
+    if (other != 0 && likely(p->c, 40)) { /* several tasks wait for the same */
+        flag = p->e.wait[other].flag;
+        value = p->e.wait[other].value;
+    }
     if (flag == 0 || spared(p))
         return false;
-    call(p, likely(p->c, 50) ? 'L' : 'N', flag, pick(p->c, 0, 1));
+    call(p, likely(p->c, 50) ? 'L' : 'N', flag, value);
     return true;
 }
 
