@@ -199,3 +199,33 @@ void gen_entries_input(uint64_t seed, uint64_t index, text *out)
     add_run(out);
     gen_entries_script(&c, &r, pick(&c, 100, 300), out);
 }
+
+/* The first full-size rig of the seed that has all 1,024 A lines and all 64 rows. */
+static void fullest_rig(uint64_t seed, rig *r)
+{
+    uint64_t index = 0;
+    do {
+        chance c = chance_of(seed, index++);
+        gen_rig(&c, SIZE_FULL, r);
+    } while (r->a_lines < A_LINES_MAX || r->rows < ROWS_MAX || r->cycle[0].flags < CYCLE_FLAGS_MAX);
+}
+
+void gen_ticks_load(uint64_t seed, unsigned ticks, text *out)
+{
+    static rig r;
+    fullest_rig(seed, &r);
+    gen_print_rig(&r, out);
+    add_run(out);
+    while (ticks-- > 0)
+        text_print(out, "K\n");
+}
+
+void gen_mixed_load(uint64_t seed, unsigned lines, text *out)
+{
+    static rig r;
+    chance c = chance_of(seed, 0);
+    gen_race_rig(&c, &r);
+    gen_print_rig(&r, out);
+    add_run(out);
+    gen_race_script(&c, &r, lines, out);
+}

@@ -22,6 +22,10 @@ unsigned gen_round(void);
 /* The same for the lines of entries.h. */
 void gen_entries_input(uint64_t seed, uint64_t index, text *out);
 
+/* Loads for measuring: a full-size rig with so many ticks; a small rig with about so many mixed lines. */
+void gen_ticks_load(uint64_t seed, unsigned ticks, text *out);
+void gen_mixed_load(uint64_t seed, unsigned lines, text *out);
+
 /* ---- Right rigs (gen_rig.c) ---- */
 
 typedef enum { SIZE_SMALL, SIZE_MEDIUM, SIZE_FULL } rig_size;
