@@ -98,8 +98,11 @@ static rig_rule judge_tasks(const rig *r, const flag_set *minor)
 
 static rig_rule judge_cycles(const rig *r)
 {
+    static const rig_cycle empty;
     for (unsigned c = 0; c < CYCLES; c++) {
         const rig_cycle *cycle = &r->cycle[c];
+        if (memcmp(cycle, &empty, sizeof empty) == 0)
+            continue;
         if (cycle->flags > CYCLE_FLAGS_MAX)
             return RULE_SIZES;
         unsigned last = 0;
@@ -201,16 +204,21 @@ static rig_rule judge_rows(const rig *r)
     return RULE_KEPT;
 }
 
-rig_rule rig_broken_rule(const rig *r)
+rig_rule judge_rig(const rig *r, flag_set *minor)
 {
     rig_rule rule;
-    flag_set minor;
     if ((rule = judge_counts(r)) || (rule = judge_unused(r)) || (rule = judge_cycles(r)))
         return rule;
-    mark_minor_flags(r, &minor);
-    if ((rule = judge_controllers(r)) || (rule = judge_tasks(r, &minor)) ||
-        (rule = judge_conditions(r)) || (rule = judge_a_lines(r, &minor)) ||
+    mark_minor_flags(r, minor);
+    if ((rule = judge_controllers(r)) || (rule = judge_tasks(r, minor)) ||
+        (rule = judge_conditions(r)) || (rule = judge_a_lines(r, minor)) ||
         (rule = judge_rows(r)))
         return rule;
     return RULE_KEPT;
+}
+
+rig_rule rig_broken_rule(const rig *r)
+{
+    flag_set minor;
+    return judge_rig(r, &minor);
 }

@@ -21,4 +21,7 @@ bool is_period(uint32_t period);
 /* The flags on M lines. */
 void mark_minor_flags(const rig *r, flag_set *minor);
 
+/* As rig_broken_rule; a rig that keeps the rules also has its minor-cycle flags marked. */
+rig_rule judge_rig(const rig *r, flag_set *minor);
+
 #endif

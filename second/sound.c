@@ -9,13 +9,11 @@
 
 /* ---- The plan agrees with the rig ---- */
 
-static bool kinds_agree(const exec *e)
+static bool kinds_agree(const exec *e, const flag_set *minor)
 {
-    flag_set minor;
     uint8_t kind[FLAGS_MAX + 1];
-    mark_minor_flags(&e->rig, &minor);
     for (unsigned f = 0; f <= FLAGS_MAX; f++)
-        kind[f] = minor.marked[f] ? FLAG_MINOR : FLAG_PLAIN;
+        kind[f] = minor->marked[f] ? FLAG_MINOR : FLAG_PLAIN;
     for (unsigned t = 1; t <= e->rig.tasks; t++)
         if (e->rig.task[t].activation != 0)
             kind[e->rig.task[t].activation] = FLAG_ACTIVATION;
@@ -173,7 +171,8 @@ static bool running_holds(const exec *e)
 
 bool exec_sound(const exec *e)
 {
-    return rig_broken_rule(&e->rig) == RULE_KEPT && kinds_agree(e) && places_agree(e) &&
+    flag_set minor;
+    return judge_rig(&e->rig, &minor) == RULE_KEPT && kinds_agree(e, &minor) && places_agree(e) &&
            e->count <= COUNT_MAX && states_hold(e) && values_hold(e) && activations_agree(e) &&
            waits_hold(e) && running_holds(e);
 }
