@@ -133,7 +133,7 @@ static void entries_mode(void)
            "J 127\nJ 128\nW 1 4097 2 5\nK\n", &in);
     run_bytes(MODE_ENTRIES, in.bytes, in.length, &got);
     text_add(&got, "", 1);
-    unsigned lines = 0, field[10];
+    unsigned lines = 0, field[10] = {0};
     for (char *line = strtok((char *)got.bytes, "\n"); line != NULL; line = strtok(NULL, "\n"))
         if (lines < 10)
             field[lines++] = line[1] == '\t' ? (unsigned)atoi(line + 2) : 99;
