@@ -1,4 +1,4 @@
-/* Helpers of the whole-file judge that others use too. */
+/* Parts of the whole-file judge that others use too. */
 #ifndef SECOND_RULES_H
 #define SECOND_RULES_H
 

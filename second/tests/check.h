@@ -19,7 +19,7 @@ void check_text(const text *got, const char *want, const char *what, const char 
 void run_test(const char *name, void (*test)(void));
 #define RUN(test) run_test(#test, test)
 
-/* ---- Helpers: texts are written with spaces where the file has tabs ---- */
+/* ---- Inputs: texts are written with spaces where the file has tabs ---- */
 
 void tabbed(const char *spaced, text *out);
 
