@@ -1,4 +1,5 @@
--- CASES: each rule that a wrong version could drop, as a script with what is seen after each call. One table, one statement.
+-- A CASE FOR EACH RULE that a wrong version could drop: a script, with what is seen after each call. One table, one
+-- statement. (The name puts this file first: a wrong rule is refused here, before the text of some proof no longer fits.)
 use mathlib.Core.Path.{_≡_, refl}
 use mathlib.Core.List.{List, [], _∷_, _++_}
 use Prim.Native.Nat.{ℕ, zero, suc}
