@@ -10,3 +10,4 @@ pub mod Order
 pub mod Says
 pub mod Stores
 pub mod Bits
+pub mod Ordered
