@@ -1,8 +1,8 @@
 -- Rousing: all of a list of tasks become dispatchable, and nobody else changes.
-use mathlib.Core.Path.{_≡_, refl, sym, ap, _∙_, subst}
-use mathlib.Core.Logic.{_≢_, _⊎_, inl, inr, ⊎-elim}
+use mathlib.Core.Path.{_≡_, refl, sym, _∙_}
+use mathlib.Core.Logic.{inl, inr}
 use mathlib.Core.List.{List, [], _∷_}
-use Prim.Native.Nat.{ℕ, zero, suc, _+_, _≤_, _<_}
+use Prim.Native.Nat.{ℕ, _≤_, _<_}
 use native.Mathlib.Omega.{arith}
 use lib.ListN.{length, getD, set, length-set}
 use lib.Seq.{getD-set-same, getD-set-other}
@@ -42,4 +42,3 @@ unfolding rouse
 rouse-same f [] l h u = refl
 rouse-same f (x ∷ xs) l h u =
     rouse-same f xs (set l x 3) (λ t i. h t (inr i) ∙ sym (same-under f l x t 3 (h x (inl refl)))) u ∙ same-under f l x u 3 (h x (inl refl))
-
