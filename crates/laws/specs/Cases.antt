@@ -1,6 +1,10 @@
 -- Cases on a test, with what the test says, and steps through `&&` and `cond` by what the tests said.
 use mathlib.Core.Path.{_≡_, refl}
+<<<<<<< HEAD
 use mathlib.Core.Bool.{Bool, true, false, cond, _&&_, _||_}
+=======
+use mathlib.Core.Bool.{Bool, true, false, cond, _&&_, _||_, true≢false, false≢true}
+>>>>>>> rulesproofs
 use Prim.Native.Nat.{ℕ, suc, _<_}
 use native.Mathlib.Omega.{arith}
 use lib.Dec.{eqb}
@@ -35,8 +39,23 @@ if-yes y e f = rw e f
 pub if-no : {A : Type 0} {b : Bool} {y z : A} (x : A) → b ≡ false → y ≡ z → cond b x y ≡ z
 if-no x e f = rw e f
 
+<<<<<<< HEAD
 pub or-yes : (a b : Bool) → a ≡ true → true ≡ (a || b)
 or-yes a b e = rw e
 
 pub or-skip : (a b : Bool) → a ≡ false → b ≡ (a || b)
 or-skip a b e = rw e
+=======
+-- two numbers are equal or not
+pub dec-eq : (a b : ℕ) → Dec (a ≡ b)
+dec-eq a b = by-bool (eqb a b) (λ c. Dec (a ≡ b)) (λ e. yes (eqb-true a b e)) (λ e. no (eqb-false a b e))
+
+-- what a test that is made of two says
+pub or-false : (a b : Bool) → (a || b) ≡ false → (a ≡ false) × (b ≡ false)
+or-false true b e = absurd (true≢false e)
+or-false false b e = (refl, e)
+
+pub and-true : (a b : Bool) → (a && b) ≡ true → (a ≡ true) × (b ≡ true)
+and-true true b e = (refl, e)
+and-true false b e = absurd (false≢true e)
+>>>>>>> rulesproofs

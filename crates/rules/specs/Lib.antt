@@ -7,3 +7,8 @@ pub mod Family
 pub mod Running
 pub mod Bus
 pub mod Calls
+pub mod RigOk
+pub mod Soundness
+pub mod Proper
+pub mod Serve
+pub mod Lengths
