@@ -1,10 +1,6 @@
 -- Cases on a test, with what the test says, and steps through `&&` and `cond` by what the tests said.
 use mathlib.Core.Path.{_≡_, refl}
-<<<<<<< HEAD
-use mathlib.Core.Bool.{Bool, true, false, cond, _&&_, _||_}
-=======
 use mathlib.Core.Bool.{Bool, true, false, cond, _&&_, _||_, true≢false, false≢true}
->>>>>>> rulesproofs
 use Prim.Native.Nat.{ℕ, suc, _<_}
 use native.Mathlib.Omega.{arith}
 use lib.Dec.{eqb}
@@ -33,19 +29,18 @@ and-go e f = rw e f
 pub and-stop : {a : Bool} (b : Bool) → a ≡ false → (a && b) ≡ false
 and-stop b e = rw e
 
+pub or-yes : (a b : Bool) → a ≡ true → true ≡ (a || b)
+or-yes a b e = rw e
+
+pub or-skip : (a b : Bool) → a ≡ false → b ≡ (a || b)
+or-skip a b e = rw e
+
 pub if-yes : {A : Type 0} {b : Bool} {x z : A} (y : A) → b ≡ true → x ≡ z → cond b x y ≡ z
 if-yes y e f = rw e f
 
 pub if-no : {A : Type 0} {b : Bool} {y z : A} (x : A) → b ≡ false → y ≡ z → cond b x y ≡ z
 if-no x e f = rw e f
 
-<<<<<<< HEAD
-pub or-yes : (a b : Bool) → a ≡ true → true ≡ (a || b)
-or-yes a b e = rw e
-
-pub or-skip : (a b : Bool) → a ≡ false → b ≡ (a || b)
-or-skip a b e = rw e
-=======
 -- two numbers are equal or not
 pub dec-eq : (a b : ℕ) → Dec (a ≡ b)
 dec-eq a b = by-bool (eqb a b) (λ c. Dec (a ≡ b)) (λ e. yes (eqb-true a b e)) (λ e. no (eqb-false a b e))
@@ -58,4 +53,3 @@ or-false false b e = (refl, e)
 pub and-true : (a b : Bool) → (a && b) ≡ true → (a ≡ true) × (b ≡ true)
 and-true true b e = (refl, e)
 and-true false b e = absurd (false≢true e)
->>>>>>> rulesproofs
