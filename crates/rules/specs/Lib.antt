@@ -12,3 +12,8 @@ pub mod Soundness
 pub mod Proper
 pub mod Serve
 pub mod Lengths
+pub mod Queued
+pub mod Agreement
+pub mod Rousing
+pub mod Ranks
+pub mod WaitingLaws
