@@ -1,12 +1,19 @@
 -- FOR THE READER: the chain of an anchor as one reads it in the arrays, forward and backward, and what an operation's
 -- contract says of it. The chains X of a contract are no hidden value: where the links are sound they are what is read.
-use mathlib.Core.Path.{_≡_, refl, sym, _∙_, ap}
+use mathlib.Core.Path.{_≡_, refl, sym, _∙_, ap, subst, fun-ext}
+use mathlib.Core.Logic.{_⊎_, inl, inr, ⊎-elim, _≢_}
+use mathlib.Core.Bool.{Bool, true, false, cond, _&&_, true≢false}
 use mathlib.Core.List.{List, [], _∷_, _++_, reverse}
 use Prim.Native.Nat.{ℕ, _≤_, _<_}
-use Rattle.laws.specs.Functions.{upd}
-use Rattle.laws.specs.Members.{Distinct}
+use lib.Dec.{ltb}
+use borrow.Author.Tests.{ltb-true, lt-ltb}
+use Rattle.laws.specs.Cases.{by}
+use Rattle.laws.specs.All.{and-left, and-right}
+use Rattle.laws.specs.Functions.{upd, upd-other}
+use Rattle.laws.specs.Members.{In, Distinct}
 use Rattle.laws.specs.Order.{place}
-use Rattle.chains.specs.Chains.{nodes-distinct}
+use Rattle.chains.specs.Link.{Chain}
+use Rattle.chains.specs.Chains.{Chains, nodes-distinct}
 use Rattle.chains.specs.Ops.{walk, forward, reversed}
 use Rattle.chains.specs.Check.{accepted-sound, sound-accepted}
 use Rattle.chains.specs.Held.{at, Held, Sound, Joins, Places}
@@ -42,3 +49,59 @@ module _ (l r : Links) (h : Sound l) (d : ℕ) (ld : 64 < d) (hd : d < 322) wher
 
   pub read-places : (wake : List ℕ) (s t : ℕ) → Places l wake s t r → chainAt r d ≡ upd (chainAt l) s (place (at wake) t (chainAt l s)) d
   read-places wake s t f = read-forward r (upd (chainAt l) s (place (at wake) t (chainAt l s))) (f (chainAt l) (sound-held l h)) d ld hd
+
+-- ---- all chains at once, as one function of the links: what is no anchor has no chain
+
+unfoldable pub chainsOf : Links → ℕ → List ℕ
+chainsOf l s = cond (ltb 64 s && ltb s 322) (chainAt l s) []
+
+abbrev pub inside : ℕ → Bool
+inside s = ltb 64 s && ltb s 322
+
+pub inside-low : (s : ℕ) → inside s ≡ true → 64 < s
+inside-low s e = ltb-true 64 s (and-left (ltb 64 s) (ltb s 322) e)
+
+pub inside-high : (s : ℕ) → inside s ≡ true → s < 322
+inside-high s e = ltb-true s 322 (and-right (ltb 64 s) (ltb s 322) e)
+
+pub inside-is : (s : ℕ) → 64 < s → s < 322 → inside s ≡ true
+inside-is s a b = rw (lt-ltb 64 s a, lt-ltb s 322 b)
+
+-- no chain but at an anchor
+abbrev pub Only : (ℕ → List ℕ) → Type 0
+Only X = (s : ℕ) → inside s ≡ false → X s ≡ []
+
+pub only-of : (l : Links) → Only (chainsOf l)
+unfolding chainsOf
+only-of l s e = rw e
+
+pub only-upd : (X : ℕ → List ℕ) (s : ℕ) (ys : List ℕ) → 64 < s → s < 322 → Only X → Only (upd X s ys)
+only-upd X s ys a b h d e =
+    upd-other X s ys d (λ q. true≢false (sym (inside-is s a b) ∙ ap inside (sym q) ∙ e)) ∙ h d e
+
+-- the links show the chains that they hold
+pub held-chains : (l : Links) (X : ℕ → List ℕ) → Held l X → Only X → chainsOf l ≡ X
+unfolding chainsOf
+held-chains l X h o =
+    fun-ext λ s.
+    by (inside s)
+    (λ e. rw e (read-forward l X h s (inside-low s e) (inside-high s e)))
+    (λ e. rw e (sym (o s e)))
+
+-- chains that are the same at each anchor are held by the same links
+pub chains-ext : (T M : ℕ) (N P O : ℕ → ℕ) (X Y : ℕ → List ℕ) → Chains T M N P O X → ((s : ℕ) → T < s → s < M → X s ≡ Y s) → Chains T M N P O Y
+chains-ext T M N P O X Y h e =
+    record {
+      link = λ s a b. subst (λ (l : List ℕ). Chain N P s l) (e s a b) (h .link s a b);
+      own = λ s a b x i. h .own s a b x (subst (λ (l : List ℕ). In x l) (sym (e s a b)) i);
+      task = λ x xT. ⊎-elim (λ k. inl k) (λ k. inr (k .0, k .1, subst (λ (l : List ℕ). In x l) (e (O x) (k .0) (k .1)) (k .2))) (h .task x xT);
+    }
+
+pub chains-at : (l : Links) (s : ℕ) → 64 < s → s < 322 → chainsOf l s ≡ chainAt l s
+unfolding chainsOf
+chains-at l s a b = rw (inside-is s a b)
+
+-- sound links hold the chains that they show
+pub sound-chains : (l : Links) → Sound l → Held l (chainsOf l)
+sound-chains l h =
+    chains-ext 64 322 (at (l .next)) (at (l .prev)) (at (l .on)) (chainAt l) (chainsOf l) (sound-held l h) (λ s a b. sym (chains-at l s a b))
