@@ -1,0 +1,180 @@
+-- The soundness check: the tests that the code makes, and that they all hold exactly when the record is sound.
+use mathlib.Core.Path.{_≡_, refl, sym, _∙_, ap, subst}
+use mathlib.Core.Logic.{_≢_, _⊎_, inl, inr, ⊎-elim, _↔_}
+use mathlib.Core.Bool.{Bool, true, false, cond}
+use mathlib.Core.List.{List, [], _∷_}
+use Prim.Native.Nat.{ℕ, zero, suc, _+_, _<_, _≤_}
+use native.Mathlib.Omega.{arith}
+use lib.Dec.{eqb, leb}
+use lib.ListN.{length, getD}
+use borrow.Author.Tests.{leb-true, le-leb, eqb-true, eq-eqb}
+use Rattle.laws.specs.Cases.{by}
+use Rattle.laws.specs.All.{allOf, allOf-at, allOf-cons, allOf-nil, allOf-skip, allOf-last}
+use Rattle.laws.specs.Members.{In, Distinct}
+use Rattle.laws.specs.Tables.{has-place}
+use Rattle.chains.specs.Held.{at, Held, Sized}
+use Rattle.chains.specs.Held as L
+use Rattle.chains.specs.Read.{chainsOf, sound-chains, read-once, inside, inside-low, inside-high, only-of}
+use Rattle.chains.specs.declared.Links.{Links}
+use Rattle.rings.specs.Order.{risingb, rising-sorted, sorted-rising}
+use Rattle.rig.specs.Rules.{Right}
+use Rattle.rig.specs.declared.Rig.{Rig}
+use Rattle.rules.specs.State.{timeChain}
+use Rattle.rules.specs.Running.{chosen}
+use Rattle.rules.specs.Calls.{lastCount}
+use Rattle.rules.specs.Ranks.{chosen-runs, runs-chosen}
+use Rattle.rules.specs.Soundness as R
+use Rattle.tests.specs.Tests.{withinB, emptyB, condsB, treeB, waitsB, flagsB}
+use Rattle.tests.specs.Exact.{within-facts, within-back, empty-facts, empty-back, conds-facts, conds-back, tree-facts, tree-back, waits-facts, waits-back, flags-facts, flags-back}
+use Rattle.state.specs.View.{rigOf, viewOf}
+use Rattle.state.specs.declared.State.{State}
+use Rattle.exec.specs.Sound.{rigIn, view, Sound}
+use Rattle.exec.specs.declared.Exec.{Exec}
+
+-- the tables have these lengths in every record that a program holds
+pub record Sizes (s : State) : Type 0 where
+  pub state : length (s .state) ≡ 65
+  pub value : length (s .value) ≡ 129
+  pub cond : length (s .cond) ≡ 1040
+  pub wake : length (s .wake) ≡ 65
+
+-- who runs by the rules
+abbrev pub runner : Rig → State → ℕ
+runner g s = chosen (at (g .privileged)) (at (g .priority)) (s .state) (s .running)
+
+unfoldable pub tableTests : Rig → State → List Bool
+tableTests g s =
+    leb (s .count) 2147483647 ∷
+    withinB (s .state) (g .tasks) 3 ∷
+    treeB (g .controller) (s .state) ∷
+    withinB (s .value) (g .flags) 1 ∷
+    condsB (g .present) (s .cond) ∷
+    emptyB (s .wake) (g .tasks) ∷
+    flagsB (g .activation) (s .state) (s .value) ∷
+    waitsB (s .state) (s .links .on) ∷
+    leb (s .running) 64 ∷
+    eqb (runner g s) (s .running) ∷
+    []
+
+-- ---- the chains that sound links show
+
+module _ (l : Links) (h : Held l (chainsOf l)) where
+  seen-inside : (t c : ℕ) → In t (chainsOf l c) → inside c ≡ true
+  seen-inside t c i = by (inside c) (λ e. e) (λ e. absurd (subst (λ (ys : List ℕ). In t ys) (only-of l c e) i))
+
+  -- who is in a chain names it
+  pub seen : (t c : ℕ) → In t (chainsOf l c) → (t ≤ 64) × (at (l .on) t ≡ c) × (64 < c) × (c < 322)
+  seen t c i =
+      let e = seen-inside t c i in
+      let k = h .own c (inside-low c e) (inside-high c e) t i in
+      (k .1, k .2, inside-low c e, inside-high c e)
+
+  seen-once : (c : ℕ) → Distinct (chainsOf l c)
+  seen-once c =
+      by (inside c) (λ e. read-once l (chainsOf l) h c (inside-low c e) (inside-high c e))
+      (λ e. rw (only-of l c e) tt)
+
+  seen-apart : R.Apart (chainsOf l)
+  seen-apart t c d i j = sym (seen t c i .1) ∙ seen t d j .1
+
+  -- a task names a chain exactly when it is in one
+  pub named : (t : ℕ) → t < 65 → at (l .on) t ≢ 0 → R.Somewhere t (chainsOf l)
+  named t b n = ⊎-elim (λ q. absurd (n (q .0))) (λ q. (at (l .on) t, q .2)) (h .task t (omega arith))
+
+  pub names : (t : ℕ) → R.Somewhere t (chainsOf l) → at (l .on) t ≢ 0
+  names t w = let s = seen t (w .0) (w .1) in λ q. omega (arith, s .1, s .2)
+
+  pub chains-sound : (n : ℕ) (wakes states : List ℕ) → length states ≡ 65
+      → ((t : ℕ) → t < 65 → (getD states t 0 ≡ 2) ↔ (at (l .on) t ≢ 0))
+      → risingb (at wakes) (n + 1) (chainsOf l timeChain) ≡ true
+      → R.Chains n wakes (chainsOf l) states
+  chains-sound n wakes states z w e =
+      let k = rising-sorted (at wakes) (n + 1) (chainsOf l timeChain) e in
+      record {
+        listed =
+            record {
+              there = λ t q. let b = waiting t q in named t b (w t b .0 q);
+              two = λ t s. w t (omega (arith, seen t (s .0) (s .1) .0)) .1 (names t s);
+            };
+        apart = seen-apart;
+        once = seen-once;
+        only = λ t c i. let s = seen t c i in (omega (arith, s .2), omega (arith, s .3));
+        ordered = k .0;
+        ahead = λ t i. omega (arith, k .1 t i);
+      }
+    where
+      waiting : (t : ℕ) → getD states t 0 ≡ 2 → t < 65
+      waiting t q = omega (arith, has-place states t (λ y. omega (arith, q, y)))
+
+  pub waits-agree : (n : ℕ) (wakes states : List ℕ) → R.Chains n wakes (chainsOf l) states
+      → (t : ℕ) → t < 65 → (getD states t 0 ≡ 2) ↔ (at (l .on) t ≢ 0)
+  waits-agree n wakes states c t b = ((λ e. names t (c .listed .there t e)), (λ m. c .listed .two t (named t b m)))
+
+-- ---- the tests and what they say
+
+module _ (x : Exec) (z : Sizes (x .st)) (g : Right (x .rig) (x .cycles)) where
+  pub tests-sound : allOf (tableTests (x .rig) (x .st)) ≡ true → L.Sound (x .st .links) → Sized (x .st .links)
+      → risingb (at (x .st .wake)) (x .st .count + 1) (chainsOf (x .st .links) 65) ≡ true → Sound x
+  unfolding tableTests lastCount
+  tests-sound e l y o =
+      let s = x .st in
+      let k = allOf-at (tableTests (x .rig) s) e in
+      let small = within-facts (s .state) (x .rig .tasks) 3 (k 1) in
+      let values = within-facts (s .value) (x .rig .flags) 1 (k 3) in
+      let conds = conds-facts (x .rig .present) (s .cond) (z .cond) (k 4) in
+      record {
+        rig = g;
+        links = l;
+        sized = y;
+        state =
+            record {
+              range = leb-true (s .count) 2147483647 (k 0);
+              tasks =
+                  record { sized = z .state; small = small .0; within = small .1; tree = tree-facts (x .rig .controller) (s .state) (z .state) (k 2) };
+              flags = record { sized = z .value; small = values .0; within = values .1 };
+              conds = record { sized = z .cond; small = conds .0; within = conds .1 };
+              wakes = record { sized = z .wake; within = empty-facts (s .wake) (x .rig .tasks) (z .wake) (k 5) };
+              chains =
+                  chains-sound (s .links) (sound-chains (s .links) l) (s .count) (s .wake) (s .state) (z .state)
+                  (waits-facts (s .state) (s .links .on) (k 7)) o;
+              agree = flags-facts (x .rig .activation) (s .state) (s .value) (g .shaped .activation) (k 6);
+              runs =
+                  subst (λ (n : ℕ). R.Runs (at (x .rig .privileged)) (at (x .rig .priority)) (s .state) n)
+                  (eqb-true (runner (x .rig) s) (s .running) (k 9))
+                  (chosen-runs (at (x .rig .privileged)) (at (x .rig .priority)) (s .state) (z .state) (s .running));
+            };
+      }
+
+pub running-low : (x : Exec) → Sound x → x .st .running ≤ 64
+running-low x h = go (x .st .running) (h .state .runs .up)
+  where
+    go : (n : ℕ) → (n ≢ 0 → getD (x .st .state) n 0 ≡ 3) → n ≤ 64
+    go zero f = omega arith
+    go (suc n) f =
+        let e = f (λ q. omega arith) in
+        omega (arith, has-place (x .st .state) (suc n) (λ q. omega (arith, e, q)), h .state .tasks .sized)
+
+pub sound-tests : (x : Exec) → Sound x → allOf (tableTests (x .rig) (x .st)) ≡ true
+unfolding tableTests lastCount
+sound-tests x h =
+    let s = x .st in
+    let p = h .state in
+    allOf-cons _ _ (le-leb (s .count) 2147483647 (p .range))
+    (allOf-cons _ _ (within-back (s .state) (x .rig .tasks) 3 (p .tasks .small) (p .tasks .within))
+    (allOf-cons _ _ (tree-back (x .rig .controller) (s .state) (p .tasks .tree))
+    (allOf-cons _ _ (within-back (s .value) (x .rig .flags) 1 (p .flags .small) (p .flags .within))
+    (allOf-cons _ _ (conds-back (x .rig .present) (s .cond) (p .conds .small) (p .conds .within))
+    (allOf-cons _ _ (empty-back (s .wake) (x .rig .tasks) (p .wakes .within))
+    (allOf-cons _ _ (flags-back (x .rig .activation) (s .state) (s .value) (p .agree))
+    (allOf-cons _ _
+    (waits-back (s .state) (s .links .on) (waits-agree (s .links) (sound-chains (s .links) (h .links)) (s .count) (s .wake) (s .state) (p .chains)))
+    (allOf-cons _ _ (le-leb (s .running) 64 (running-low x h))
+    (allOf-cons _ _
+    (eq-eqb (runner (x .rig) s) (s .running)
+    (runs-chosen (at (x .rig .privileged)) (at (x .rig .priority)) (s .state) (p .tasks .sized) (s .running) (p .runs)))
+    allOf-nil)))))))))
+
+pub sound-order : (x : Exec) → Sound x → risingb (at (x .st .wake)) (x .st .count + 1) (chainsOf (x .st .links) 65) ≡ true
+sound-order x h =
+    sorted-rising (at (x .st .wake)) (x .st .count + 1) (chainsOf (x .st .links) 65) (h .state .chains .ordered)
+    (λ a i. omega (arith, h .state .chains .ahead a i))

@@ -1,0 +1,5 @@
+pub mod Sound
+pub mod Call
+pub mod Unique
+pub mod RightRig
+pub mod Check
