@@ -17,3 +17,10 @@ pub mod Agreement
 pub mod Rousing
 pub mod Ranks
 pub mod WaitingLaws
+pub mod TableLaws
+pub mod Good
+pub mod Acceptance
+pub mod FamilyLaws
+pub mod Effects
+pub mod Cancelling
+pub mod Steps
