@@ -4,7 +4,10 @@ use mathlib.Core.Bool.{Bool, true, false, not, cond, _&&_, _||_}
 use mathlib.Core.List.{List}
 use lib.ListN.{getD}
 use Rattle.rules.specs.Running.{best, rank, chosen}
-use Prim.Native.Nat.{ℕ}
+use Prim.Native.Nat.{ℕ, zero, suc}
+use native.Mathlib.Omega.{arith}
+use borrow.Author.Tests.{lt-ltb}
+use Rattle.rules.specs.State.{active}
 use lib.Dec.{eqb, ltb, leb}
 
 pub better-same : (s b : ℕ) {x y u v : ℕ} → x ≡ u → y ≡ v → (eqb s 3 && (eqb b 0 || ltb u v)) ≡ (eqb s 3 && (eqb b 0 || ltb x y))
@@ -31,3 +34,9 @@ pub choice : (pv pr : ℕ → ℕ) (l : List ℕ) (n b x y : ℕ) (r : Bool) →
     → r ≡ (not (eqb n 0) && (eqb (getD l n 0) 3 && leb x y)) → cond r n b ≡ chosen pv pr l n
 unfolding chosen
 choice pv pr l n b x y r eb ex ey er = rw (er, ex, ey, eb)
+
+-- "Active is 2 or 3." as the code tests it
+pub active-is : (s : ℕ) → ltb 1 s ≡ eqb (active s) 1
+active-is zero = refl
+active-is (suc zero) = refl
+active-is (suc (suc n)) = lt-ltb 1 (suc (suc n)) (omega arith)

@@ -1,14 +1,20 @@
 // The loops of the executive over single tables, each with the rule that it computes as its contract.
+use chains::Links;
+use rig::Cycle;
 ghost use mathlib.Core.Path.{_≡_};
-ghost use mathlib.Core.Bool.{not, _&&_, _||_};
+ghost use mathlib.Core.Bool.{cond, not, _&&_, _||_};
+ghost use mathlib.Core.List.{[]};
 ghost use Prim.Native.Nat.{ℕ, _+_, _-_, _*_, _<_, _≤_};
 ghost use lib.Dec.{eqb, ltb, leb};
 ghost use lib.ListN.{length, getD, take};
-ghost use Rattle.chains.specs.Held.{at};
+ghost use Rattle.chains.specs.Held.{at, Sound};
 ghost use Rattle.rules.specs.Conditions.{relax, met, drive, names};
 ghost use Rattle.rules.specs.Running.{best, chosen};
-ghost use Rattle.rules.specs.Calls.{isActivation};
-ghost use Rattle.steps.specs.Post.{Lines};
+ghost use Rattle.rules.specs.Calls.{isActivation, inCycle, isMinor, cycleQueue};
+ghost use Rattle.rules.specs.State.{active};
+ghost use Rattle.rules.specs.Family.{family, cleared, offs};
+ghost use Rattle.steps.specs.View.{minorOf, entriesOf};
+ghost use Rattle.steps.specs.Post.{Lines, Controllers, Left, Deserted, Pushed};
 
 pub fn undesired(d: u8) -> u8
     ensures { λ r. ⌜ r ≡ 1 - d ⌝ }
@@ -212,4 +218,177 @@ pub fn chosen<'a>(
     let rb = rank(privileged[b], priority[b]);
     let rn = rank(privileged[n], priority[n]);
     if stays(n, state[n], rb, rn) { n } else { b }
+}
+
+// Whether flag f is on the list of a minor cycle.
+pub fn in_cycle(cycle: Cycle, f: u8) -> bool
+    ensures { λ r. ⌜ r ≡ inCycle (at (cycle .flags)) f ⌝ }
+{
+    let mut i: usize = 0;
+    while i < 15 {
+        if cycle.flags[i] == f {
+            return true;
+        }
+        i = i + 1;
+    }
+    false
+}
+
+// Whether f is a minor-cycle flag.
+pub fn is_minor(cycles: [Cycle; 64], f: u8) -> bool
+    ensures { λ r. ⌜ r ≡ isMinor (minorOf cycles) f ⌝ }
+{
+    let mut c: usize = 0;
+    while c < 64 {
+        let cycle = cycles[c];
+        if in_cycle(cycle, f) {
+            return true;
+        }
+        c = c + 1;
+    }
+    false
+}
+
+// The mark of task u in the family of task t, by its controller's mark.
+pub fn mark(u: usize, t: usize, above: u8) -> u8
+    ensures { λ r. ⌜ r ≡ cond (eqb u t || eqb above 1) 1 0 ⌝ }
+{
+    if u == t {
+        1
+    } else {
+        if above == 1 { 1 } else { 0 }
+    }
+}
+
+// Task t and all its descendants are marked 1.
+pub fn family(controller: &[u8; 65], t: usize) -> [u8; 65]
+    requires { ⌜ Controllers (now controller) ⌝ }
+    ensures { λ r. ⌜ r ≡ family (at (now (controller .entry))) t ⌝ }
+{
+    let mut marks = [0u8; 65];
+    let mut i: usize = 0;
+    while i < 64 {
+        let u = i + 1;
+        let c = controller[u] as usize;
+        let above = marks[c];
+        marks[u] = mark(u, t, above);
+        i = i + 1;
+    }
+    marks
+}
+
+// The marked tasks become uninvoked.
+pub fn uninvoke(marks: &[u8; 65], state: &mut [u8; 65])
+    ensures { λ r. ⌜ now (state .exit) ≡ cleared (now (marks .entry)) (now (state .entry)) ⌝ }
+{
+    let mut i: usize = 0;
+    while i < 64 {
+        let t = i + 1;
+        if marks[t] == 1 {
+            state[t] = 0;
+        }
+        i = i + 1;
+    }
+}
+
+// Task t is taken out of its chain, if it is in one.
+pub fn leave(l: Links, t: usize) -> Links
+    requires { ⌜ Sound l ⌝ }
+    requires { ⌜ (0 < t) × (t ≤ 64) ⌝ }
+    ensures { λ r. ⌜ Left l t r ⌝ }
+{
+    if l.on[t] == 0 {
+        l
+    } else {
+        chains::unlink(l, t)
+    }
+}
+
+// The marked tasks leave their chains.
+pub fn desert(l: Links, marks: [u8; 65]) -> Links
+    requires { ⌜ Sound l ⌝ }
+    ensures { λ r. ⌜ Deserted l marks r ⌝ }
+{
+    let mut k = l;
+    let mut i: usize = 0;
+    while i < 64 {
+        let t = i + 1;
+        if marks[t] == 1 {
+            k = leave(k, t);
+        }
+        i = i + 1;
+    }
+    k
+}
+
+// What is queued: entries 0 to n - 1; the last is taken off first.
+pub struct Queue {
+    pub n: usize,
+    pub flag: [u8; 80],
+    pub value: [u8; 80],
+}
+
+impl Queue {
+    pub fn empty() -> Queue
+        ensures { λ r. ⌜ (entriesOf r ≡ []) × (r .n ≡ 0) ⌝ }
+    {
+        Queue {
+            n: 0,
+            flag: [0; 80],
+            value: [0; 80],
+        }
+    }
+
+    // Flag 0 is none, and queues nothing.
+    pub fn push(mut self, f: u8, v: u8) -> Queue
+        requires { ⌜ self .n < 80 ⌝ }
+        ensures { λ r. ⌜ Pushed self f v r ⌝ }
+    {
+        if f == 0 {
+            return self;
+        }
+        let k = self.n;
+        self.flag[k] = f;
+        self.value[k] = v;
+        self.n = k + 1;
+        self
+    }
+
+    // The flags of a cycle's list, each on, in file order.
+    pub fn of_cycle(cycle: Cycle) -> Queue
+        ensures { λ r. ⌜ entriesOf r ≡ cycleQueue (at (cycle .flags)) ⌝ }
+    {
+        let mut q = Queue::empty();
+        let mut i: usize = 0;
+        while i < 15 {
+            let f = cycle.flags[i];
+            q = q.push(f, 1);
+            i = i + 1;
+        }
+        q
+    }
+
+    // The activation flags of those marked who are active, each off, by rising number.
+    pub fn of_offs<'a>(activation: &'a [u8; 65], marks: &'a [u8; 65], state: &'a [u8; 65]) -> Queue
+        ensures { λ r. ⌜ entriesOf r ≡ offs (at (now (activation .entry))) (now (marks .entry)) (now (state .entry)) ⌝ }
+    {
+        let mut q = Queue::empty();
+        let mut i: usize = 0;
+        while i < 64 {
+            let t = i + 1;
+            if struck(marks[t], state[t]) {
+                let f = activation[t];
+                q = q.push(f, 0);
+            }
+            i = i + 1;
+        }
+        q
+    }
+}
+
+// Whether a task with the mark and the state is marked and active.
+pub fn struck(mark: u8, state: u8) -> bool
+    ensures { λ r. ⌜ r ≡ (eqb mark 1 && eqb (active state) 1) ⌝ }
+{
+    if mark == 1 { 1 < state } else { false }
 }
