@@ -38,6 +38,16 @@ pub record Sizes (s : State) : Type 0 where
   pub cond : length (s .cond) ≡ 1040
   pub wake : length (s .wake) ≡ 65
 
+-- what a rig's numbers name is there in the tables
+pub record Placed (g : Rig) : Type 0 where
+  pub controller : (t : ℕ) → t < 65 → at (g .controller) t < 65
+  pub activation : (t : ℕ) → t < 65 → at (g .activation) t < 129
+
+-- the links hold chains, the time chain in order, all of it above the count
+pub record ChainsSound (s : State) : Type 0 where
+  pub links : L.Sound (s .links)
+  pub order : risingb (at (s .wake)) (s .count + 1) (chainsOf (s .links) 65) ≡ true
+
 -- who runs by the rules
 abbrev pub runner : Rig → State → ℕ
 runner g s = chosen (at (g .privileged)) (at (g .priority)) (s .state) (s .running)
@@ -53,8 +63,20 @@ tableTests g s =
     flagsB (g .activation) (s .state) (s .value) ∷
     waitsB (s .state) (s .links .on) ∷
     leb (s .running) 64 ∷
-    eqb (runner g s) (s .running) ∷
+    eqb (s .running) (runner g s) ∷
     []
+
+-- where all tests but the last hold, the last is the answer
+pub last-test : (g : Rig) (s : State) → leb (s .count) 2147483647 ≡ true → withinB (s .state) (g .tasks) 3 ≡ true
+    → treeB (g .controller) (s .state) ≡ true → withinB (s .value) (g .flags) 1 ≡ true → condsB (g .present) (s .cond) ≡ true
+    → emptyB (s .wake) (g .tasks) ≡ true → flagsB (g .activation) (s .state) (s .value) ≡ true
+    → waitsB (s .state) (s .links .on) ≡ true → leb (s .running) 64 ≡ true
+    → (n : ℕ) → n ≡ runner g s → eqb (s .running) n ≡ allOf (tableTests g s)
+unfolding tableTests
+last-test g s a b c d e f h i j n q =
+    ap (eqb (s .running)) q
+    ∙ sym
+    (allOf-skip _ _ a ∙ allOf-skip _ _ b ∙ allOf-skip _ _ c ∙ allOf-skip _ _ d ∙ allOf-skip _ _ e ∙ allOf-skip _ _ f ∙ allOf-skip _ _ h ∙ allOf-skip _ _ i ∙ allOf-skip _ _ j ∙ allOf-last _)
 
 -- ---- the chains that sound links show
 
@@ -110,6 +132,18 @@ module _ (l : Links) (h : Held l (chainsOf l)) where
       → (t : ℕ) → t < 65 → (getD states t 0 ≡ 2) ↔ (at (l .on) t ≢ 0)
   waits-agree n wakes states c t b = ((λ e. names t (c .listed .there t e)), (λ m. c .listed .two t (named t b m)))
 
+-- ---- the time chain's test
+
+module _ (s : State) (h : L.Sound (s .links)) (b : Bool) (e : (X : ℕ → List ℕ) → Held (s .links) X → b ≡ risingb (at (s .wake)) (s .count + 1) (X 65)) where
+  is : b ≡ risingb (at (s .wake)) (s .count + 1) (chainsOf (s .links) 65)
+  is = e (chainsOf (s .links)) (sound-chains (s .links) h)
+
+  pub order-facts : b ≡ true → ChainsSound s
+  order-facts q = record { links = h; order = sym is ∙ q }
+
+  pub order-back : ChainsSound s → b ≡ true
+  order-back c = is ∙ c .order
+
 -- ---- the tests and what they say
 
 module _ (x : Exec) (z : Sizes (x .st)) (g : Right (x .rig) (x .cycles)) where
@@ -140,7 +174,7 @@ module _ (x : Exec) (z : Sizes (x .st)) (g : Right (x .rig) (x .cycles)) where
               agree = flags-facts (x .rig .activation) (s .state) (s .value) (g .shaped .activation) (k 6);
               runs =
                   subst (λ (n : ℕ). R.Runs (at (x .rig .privileged)) (at (x .rig .priority)) (s .state) n)
-                  (eqb-true (runner (x .rig) s) (s .running) (k 9))
+                  (sym (eqb-true (s .running) (runner (x .rig) s) (k 9)))
                   (chosen-runs (at (x .rig .privileged)) (at (x .rig .priority)) (s .state) (z .state) (s .running));
             };
       }
@@ -170,8 +204,8 @@ sound-tests x h =
     (waits-back (s .state) (s .links .on) (waits-agree (s .links) (sound-chains (s .links) (h .links)) (s .count) (s .wake) (s .state) (p .chains)))
     (allOf-cons _ _ (le-leb (s .running) 64 (running-low x h))
     (allOf-cons _ _
-    (eq-eqb (runner (x .rig) s) (s .running)
-    (runs-chosen (at (x .rig .privileged)) (at (x .rig .priority)) (s .state) (p .tasks .sized) (s .running) (p .runs)))
+    (eq-eqb (s .running) (runner (x .rig) s)
+    (sym (runs-chosen (at (x .rig .privileged)) (at (x .rig .priority)) (s .state) (p .tasks .sized) (s .running) (p .runs))))
     allOf-nil)))))))))
 
 pub sound-order : (x : Exec) → Sound x → risingb (at (x .st .wake)) (x .st .count + 1) (chainsOf (x .st .links) 65) ≡ true

@@ -3,3 +3,4 @@ pub mod Call
 pub mod Unique
 pub mod RightRig
 pub mod Check
+pub mod Meeting

@@ -1,11 +1,19 @@
 // The executive: the record, and every call on it by value.
+use rig::Rig;
+use state::State;
+ghost use mathlib.Core.Path.{_≡_};
+ghost use mathlib.Core.Bool.{true};
+ghost use mathlib.Core.Logic.{_↔_};
+ghost use Prim.Native.Nat.{ℕ, _<_, _≤_};
+ghost use Rattle.laws.specs.All.{allOf};
+ghost use Rattle.exec.specs.Check.{Placed, tableTests, ChainsSound};
 
 // The rig and its cycles stay as they are from the start on; calls change the state. Numbers only: a record may stand in
 // memory of any bytes, and each is answered.
 pub struct Exec {
-    pub rig: rig::Rig,
+    pub rig: Rig,
     pub cycles: [rig::Cycle; 64],
-    pub st: state::State,
+    pub st: State,
 }
 
 // What an accepted call tells: the flags it served, the bus words it wrote, the value of the flag it read.
@@ -23,4 +31,57 @@ pub enum Answer {
 pub struct Step {
     pub exec: Exec,
     pub answer: Answer,
+}
+
+// The tests of the soundness check over the tables.
+fn tables_ok(rig: Rig, st: State) -> bool
+    requires { ⌜ Placed rig ⌝ }
+    ensures { λ r. ⌜ r ≡ allOf (tableTests rig st) ⌝ }
+{
+    let tasks = rig.tasks as usize;
+    let flags = rig.flags as usize;
+    let n = st.running as usize;
+    let links = st.links;
+    if 2147483647 < st.count {
+        return false;
+    }
+    if !tests::within(&st.state, tasks, 3) {
+        return false;
+    }
+    if !tests::tree(&rig.controller, &st.state) {
+        return false;
+    }
+    if !tests::within(&st.value, flags, 1) {
+        return false;
+    }
+    if !tests::conds(&rig.present, &st.cond) {
+        return false;
+    }
+    if !tests::empty(&st.wake, tasks) {
+        return false;
+    }
+    if !tests::flags(&rig.activation, &st.state, &st.value) {
+        return false;
+    }
+    if !tests::waits(&st.state, &links.on) {
+        return false;
+    }
+    if 64 < n {
+        return false;
+    }
+    n == steps::chosen(&rig.privileged, &rig.priority, &st.state, n)
+}
+
+// The links hold chains, and the time chain is in order of waking count, all above the count.
+fn chains_ok(st: State) -> bool
+    requires { ⌜ st .count ≤ 2147483647 ⌝ }
+    ensures { λ r. ⌜ (r ≡ true) ↔ ChainsSound st ⌝ }
+{
+    let links = st.links;
+    if !rings::sound(links) {
+        return false;
+    }
+    let wake = st.wake;
+    let lo = st.count + 1;
+    rings::in_order(links, wake, 65, lo)
 }

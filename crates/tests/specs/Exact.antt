@@ -8,24 +8,17 @@ use native.Mathlib.Omega.{arith}
 use lib.Dec.{eqb, leb, ltb}
 use lib.ListN.{length, getD}
 use borrow.Author.Tests.{leb-true, le-leb, ltb-true, ltb-false, le-ltb, eqb-true, eqb-false, eq-eqb, ne-eqb}
-use Rattle.laws.specs.Cases.{by, by-eqb, or-false}
+use Rattle.laws.specs.Cases.{by, by-eqb}
 use Rattle.laws.specs.All.{all, all-at, all-all}
 use Rattle.laws.specs.Tables.{beyond, has-place}
 use Rattle.rules.specs.State.{active}
 use Rattle.rules.specs.Calls.{noSuch}
 use Rattle.rules.specs.Soundness.{Within, Tree}
+use Rattle.rules.specs.Acceptance.{there-is}
 use Rattle.tests.specs.Tests.{withinOne, withinB, emptyOne, emptyB, condOne, condsB, treeOne, treeB, waitOne, waitsB, flagOne, flagsB}
 
--- a number that is one of 1 to many, or is not
-pub such : (many n : ℕ) → noSuch many n ≡ false → (1 ≤ n) × (n ≤ many)
-unfolding noSuch
-such many n e =
-    let k = or-false (eqb n 0) (ltb many n) e in
-    let a : n ≢ 0 = eqb-false n 0 (k .0) in
-    let b : n ≤ many = ltb-false many n (k .1) in
-    (omega arith, b)
-
-pub no-such : (many n : ℕ) → noSuch many n ≡ true → (1 ≤ n) × (n ≤ many) → ⊥
+-- a number that is none of 1 to many
+no-such : (many n : ℕ) → noSuch many n ≡ true → (1 ≤ n) × (n ≤ many) → ⊥
 unfolding noSuch
 no-such many n e h = true≢false (sym e ∙ rw (ne-eqb n 0 (λ q. omega (arith, h .0)), le-ltb many n (h .1)))
 
@@ -47,7 +40,7 @@ module _ (l : List ℕ) (many : ℕ) where
         go true e q =
             let z : getD l i 0 ≤ 0 = leb-true (getD l i 0) 0 q in
             (omega arith, (λ n. absurd (n (omega arith))))
-        go false e q = (leb-true (getD l i 0) top q, (λ n. such many i e))
+        go false e q = (leb-true (getD l i 0) top q, (λ n. there-is many i e))
 
     one-within : (i : ℕ) → getD l i 0 ≤ top → (getD l i 0 ≢ 0 → (1 ≤ i) × (i ≤ many)) → withinOne l many top i ≡ true
     one-within i a b = go (noSuch many i) refl
@@ -71,7 +64,7 @@ module _ (l : List ℕ) (many : ℕ) where
     where
       go : (b : Bool) → noSuch many i ≡ b → (not b || eqb (getD l i 0) 0) ≡ true → (1 ≤ i) × (i ≤ many)
       go true x q = absurd (n (eqb-true (getD l i 0) 0 q))
-      go false x q = such many i x
+      go false x q = there-is many i x
 
   pub empty-back : Within many l → emptyB l many ≡ true
   empty-back b = all-all 65 (emptyOne l many) (λ i h. go i (noSuch many i) refl)
@@ -96,8 +89,7 @@ module _ (present conds : List ℕ) where
   pub conds-facts : length conds ≡ 1040 → condsB present conds ≡ true → ((i : ℕ) → getD conds i 0 ≤ 1) × ((i : ℕ) → getD conds i 0 ≢ 0 → getD present i 0 ≡ 1)
   conds-facts z e =
       let k : (i : ℕ) → i < 1040 → (getD conds i 0 ≤ 1) × (getD conds i 0 ≢ 0 → getD present i 0 ≡ 1) =
-      λ i h. cond-one i (all-at 1040 (condOne present conds) e i h) in
-      (
+      λ i h. cond-one i (all-at 1040 (condOne present conds) e i h) in (
         (λ i. everywhere conds (λ j x. x ≤ 1) (λ j. omega arith) (λ j h. k j (omega (arith, h)) .0) i),
         (λ i n. k i (omega (arith, has-place conds i n)) .1 n),
       )

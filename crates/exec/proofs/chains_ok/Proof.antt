@@ -1,0 +1,42 @@
+use mathlib.Core.Path.{_≡_, refl, sym, _∙_, ap}
+use mathlib.Core.Bool.{true, false, false≢true}
+use borrow.Author.Tests.{not-true, not-false}
+use native.Mathlib.Omega.{arith}
+use Rattle.exec.specs.Check.{ChainsSound, order-facts, order-back}
+use Rattle.chains.specs.Held.{Sound}
+use borrow.Author.Needs.{needs}
+use Rattle.exec.proofs.chains_ok.Statement.{statement}
+use Rattle.exec.proofs.chains_ok.Tie as tie
+use Rattle.exec.proofs.chains_ok.Reads as reads
+use Rattle.exec.proofs.chains_ok.Lts as lts
+use Rattle.rings.proofs.in_order.Reads as in-order-reads
+use Rattle.rings.proofs.sound.Reads as sound-reads
+
+held : (c : tie.Else1) → Sound (c .before .before .before .args .st .links)
+held c = c .before .sound .ensures .0 (not-false (c .before .sound .result) (c .if1 .left))
+
+-- src/lib.rt:81:9
+sound-requires : tie.Need-sound-requires
+sound-requires c κs = search needs
+
+-- src/lib.rt:82:9
+returns : tie.Need-returns
+returns c = ((λ e. absurd (false≢true e)), (λ h. absurd (false≢true (sym (not-true (c .before .sound .result) (c .if1 .taken)) ∙ c .before .sound .ensures .1 (h .links)))))
+
+-- src/lib.rt:85:14
+add-lo : tie.Need-add-lo
+add-lo c = search needs
+
+-- src/lib.rt:86:5
+in-order-requires : tie.Need-in-order-requires
+in-order-requires c κs = (held (c .before .before), (omega arith, omega arith))
+
+-- src/lib.rt:76:1
+returns-2 : tie.Need-returns-2
+returns-2 c =
+    let s = c .before .before .before .before .before .before .args .st in
+    let h = held (c .before .before .before) in
+    (order-facts s h (c .in-order .result) (c .in-order .ensures), order-back s h (c .in-order .result) (c .in-order .ensures))
+
+pub chains-ok-spec : {M : Type 1} → statement M
+chains-ok-spec = tie.close (tie.spec sound-requires returns add-lo in-order-requires returns-2)
