@@ -8,3 +8,4 @@ pub mod Functions
 pub mod Members
 pub mod Order
 pub mod First
+pub mod Says

@@ -169,8 +169,7 @@ distinct-keep p (x ∷ xs) d =
 -- one that is not in the list goes to its end
 pub distinct-end : (a : ℕ) (xs : List ℕ) → (In a xs → ⊥) → Distinct xs → Distinct (xs ++ a ∷ [])
 distinct-end a [] n d = ((λ i. i), tt)
-distinct-end a (x ∷ xs) n d =
-    (
-      (λ i. ⊎-elim (λ j. d .0 j) (λ j. ⊎-elim (λ q. n (inl (sym q))) (λ z. z) j) (in-cases x xs (a ∷ []) i)),
-      distinct-end a xs (λ i. n (inr i)) (d .1),
-    )
+distinct-end a (x ∷ xs) n d = (
+  (λ i. ⊎-elim (λ j. d .0 j) (λ j. ⊎-elim (λ q. n (inl (sym q))) (λ z. z) j) (in-cases x xs (a ∷ []) i)),
+  distinct-end a xs (λ i. n (inr i)) (d .1),
+)

@@ -24,3 +24,9 @@ pub mod FamilyLaws
 pub mod Effects
 pub mod Cancelling
 pub mod Steps
+pub mod Bound
+pub mod Reasons
+pub mod Refusals
+pub mod RefusedExactly
+pub mod RunningOn
+pub mod Demand

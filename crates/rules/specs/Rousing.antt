@@ -42,4 +42,3 @@ unfolding rouse
 rouse-same f [] l h u = refl
 rouse-same f (x ∷ xs) l h u =
     rouse-same f xs (set l x 3) (λ t i. h t (inr i) ∙ sym (same-under f l x t 3 (h x (inl refl)))) u ∙ same-under f l x u 3 (h x (inl refl))
-
