@@ -4,3 +4,4 @@ pub mod Unique
 pub mod RightRig
 pub mod Check
 pub mod Meeting
+pub mod Settling
