@@ -10,3 +10,5 @@ pub mod Signal
 pub mod Reading
 pub mod Waits
 pub mod Tasks
+pub mod Tick
+pub mod Blocks
