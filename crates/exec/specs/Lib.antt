@@ -12,3 +12,4 @@ pub mod Waits
 pub mod Tasks
 pub mod Tick
 pub mod Blocks
+pub mod Starting
