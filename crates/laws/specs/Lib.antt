@@ -8,3 +8,5 @@ pub mod Functions
 pub mod Members
 pub mod Order
 pub mod First
+pub mod Decides
+pub mod Owners
