@@ -10,3 +10,4 @@ pub mod Order
 pub mod First
 pub mod Decides
 pub mod Owners
+pub mod Mapped

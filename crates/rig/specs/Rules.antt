@@ -4,7 +4,7 @@ use mathlib.Core.Path.{_≡_}
 use mathlib.Core.Logic.{_⊎_, _≢_}
 use mathlib.Core.List.{List, [], _∷_}
 use Prim.Native.Nat.{ℕ, _+_, _-_, _*_, _≤_, _<_}
-use lib.ListN.{length, getD, replicate}
+use lib.ListN.{length, getD}
 use Rattle.laws.specs.Members.{In}
 pub use Rattle.rigtests.specs.Tests.{at, place}
 use Rattle.rig.specs.declared.Row.{Row}
@@ -15,7 +15,7 @@ abbrev pub noRow : Row
 noRow = record { sender = 0; sendersub = 0; receiver = 0; receiversub = 0; words = 0; period = 0; phase = 0 }
 
 abbrev pub noCycle : Cycle
-noCycle = record { flags = replicate 15 0 }
+noCycle = record { flags = [] }
 
 -- the i-th flag of cycle c in file order, from 0; 0 behind the last
 abbrev pub flagAt : List Cycle → ℕ → ℕ → ℕ

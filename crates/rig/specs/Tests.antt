@@ -15,11 +15,14 @@ use Rattle.rigtests.specs.Tests.{at, within, smallB, conditionsB, linesRiseB, c
 use Rattle.rig.specs.declared.Row.{Row}
 use Rattle.rig.specs.declared.Cycle.{Cycle}
 use Rattle.rig.specs.declared.Rig.{Rig}
-use Rattle.rig.specs.Rules.{noRow, noCycle}
+use Rattle.rig.specs.Rules.{noRow, noCycle, periods}
 
 -- addresses, sub-addresses, words, period and phase of a row
+abbrev pub isPeriod : ℕ → ℕ → Bool
+isPeriod p i = eqb (at periods i) p
+
 unfoldable pub listedB : ℕ → Bool
-listedB p = eqb p 1 || (eqb p 2 || (eqb p 4 || (eqb p 8 || (eqb p 16 || (eqb p 32 || eqb p 64)))))
+listedB p = any 7 (isPeriod p)
 
 unfoldable pub rowTests : Row → List Bool
 rowTests b =
@@ -35,14 +38,15 @@ rowTests b =
 abbrev pub rowOne : List Row → ℕ → Bool
 rowOne row k = allOf (rowTests (getD row k noRow))
 
+-- there are places for sixty-four rows, and the first n have their sizes
 unfoldable pub rowsB : ℕ → List Row → Bool
-rowsB n row = all n (rowOne row)
+rowsB n row = eqb (length row) 64 && all n (rowOne row)
 
 abbrev pub cycleRisesOne : List Cycle → ℕ → Bool
 cycleRisesOne cycles c = cycleRises (getD cycles c noCycle .flags)
 
 unfoldable pub cyclesRiseB : List Cycle → Bool
-cyclesRiseB cycles = all 64 (cycleRisesOne cycles)
+cyclesRiseB cycles = eqb (length cycles) 64 && all 64 (cycleRisesOne cycles)
 
 abbrev pub cycleSmallOne : ℕ → List Cycle → ℕ → Bool
 cycleSmallOne top cycles c = cycleSmall top (getD cycles c noCycle .flags)
@@ -69,17 +73,19 @@ differOne row k = not (eqb (getD row k noRow .sender) (getD row k noRow .receive
 unfoldable pub differB : ℕ → List Row → Bool
 differB n row = all n (differOne row)
 
-unfoldable pub rowZero : Row → Bool
-rowZero b =
-    allOf
-    (eqb (b .sender) 0 ∷
+unfoldable pub rowZeros : Row → List Bool
+rowZeros b =
+    eqb (b .sender) 0 ∷
     eqb (b .sendersub) 0 ∷
     eqb (b .receiver) 0 ∷
     eqb (b .receiversub) 0 ∷
     eqb (b .words) 0 ∷
     eqb (b .period) 0 ∷
     eqb (b .phase) 0 ∷
-    [])
+    []
+
+unfoldable pub rowZero : Row → Bool
+rowZero b = allOf (rowZeros b)
 
 abbrev pub rowZeroOne : ℕ → List Row → ℕ → Bool
 rowZeroOne n row k = ltb k n || rowZero (getD row k noRow)
@@ -87,12 +93,9 @@ rowZeroOne n row k = ltb k n || rowZero (getD row k noRow)
 unfoldable pub rowZerosB : ℕ → List Row → Bool
 rowZerosB n row = all 64 (rowZeroOne n row)
 
--- the tables have their lengths
-abbrev pub fifteenOne : List Cycle → ℕ → Bool
-fifteenOne cycles c = eqb (length (getD cycles c noCycle .flags)) 15
-
-unfoldable pub shapedTests : Rig → List Cycle → List Bool
-shapedTests g cycles =
+-- the tables of numbers have their lengths
+unfoldable pub shapedTests : Rig → List Bool
+shapedTests g =
     eqb (length (g .controller)) 65 ∷
     eqb (length (g .priority)) 65 ∷
     eqb (length (g .privileged)) 65 ∷
@@ -103,9 +106,6 @@ shapedTests g cycles =
     eqb (length (g .atask)) 1024 ∷
     eqb (length (g .apos)) 1024 ∷
     eqb (length (g .aflag)) 1024 ∷
-    eqb (length (g .row)) 64 ∷
-    eqb (length cycles) 64 ∷
-    all 64 (fifteenOne cycles) ∷
     []
 
 -- ---- the rules by number, in groups: 1 to 9 sizes, 10 and 11 orders, 12 to 22 rules over the whole file, 23 to 25 zeros
@@ -149,16 +149,50 @@ restTests tasks alines rows controller priority privileged activation atask apos
     rowZerosB rows row ∷
     []
 
+abbrev pub countGroup : Rig → List Bool
+countGroup g = countTests (g .tasks) (g .flags) (g .master) (g .alines) (g .rows)
+
+abbrev pub sizeGroup : Rig → List Bool
+sizeGroup g = sizeTests (g .priority) (g .privileged) (g .present) (g .latched) (g .desired) (g .rows) (g .row)
+
+abbrev pub orderGroup : Rig → List Cycle → List Bool
+orderGroup g cycles = orderTests (g .alines) (g .atask) (g .apos) (g .aflag) cycles
+
+abbrev pub numberGroup : Rig → List Cycle → List Bool
+numberGroup g cycles =
+    numberTests (g .tasks) (g .flags) (g .alines) (g .activation) (g .present) (g .atask) (g .apos) (g .aflag) cycles
+
+abbrev pub taskGroup : Rig → List Cycle → List Bool
+taskGroup g cycles = taskTests (g .tasks) (g .controller) (g .activation) (minorB cycles)
+
+abbrev pub lineGroup : Rig → List Cycle → List Bool
+lineGroup g cycles =
+    lineTests (g .alines) (g .present) (g .latched) (g .desired) (g .atask) (g .apos) (g .aflag) (minorB cycles)
+
+abbrev pub restGroup : Rig → List Bool
+restGroup g =
+    restTests (g .tasks) (g .alines) (g .rows) (g .controller) (g .priority) (g .privileged) (g .activation) (g .atask) (g .apos) (g .aflag) (g .row)
+
+abbrev pub fromRest : Rig → List Bool
+fromRest g = restGroup g ++ (allOf (shapedTests g) ∷ [])
+
+abbrev pub fromLines : Rig → List Cycle → List Bool
+fromLines g cycles = lineGroup g cycles ++ fromRest g
+
+abbrev pub fromTasks : Rig → List Cycle → List Bool
+fromTasks g cycles = taskGroup g cycles ++ fromLines g cycles
+
+abbrev pub fromNumbers : Rig → List Cycle → List Bool
+fromNumbers g cycles = numberGroup g cycles ++ fromTasks g cycles
+
+abbrev pub fromOrders : Rig → List Cycle → List Bool
+fromOrders g cycles = orderGroup g cycles ++ fromNumbers g cycles
+
+abbrev pub fromSizes : Rig → List Cycle → List Bool
+fromSizes g cycles = sizeGroup g ++ fromOrders g cycles
+
 unfoldable pub tests : Rig → List Cycle → List Bool
-tests g cycles =
-    countTests (g .tasks) (g .flags) (g .master) (g .alines) (g .rows)
-    ++ (sizeTests (g .priority) (g .privileged) (g .present) (g .latched) (g .desired) (g .rows) (g .row)
-    ++ (orderTests (g .alines) (g .atask) (g .apos) (g .aflag) cycles
-    ++ (numberTests (g .tasks) (g .flags) (g .alines) (g .activation) (g .present) (g .atask) (g .apos) (g .aflag) cycles
-    ++ (taskTests (g .tasks) (g .controller) (g .activation) (minorB cycles)
-    ++ (lineTests (g .alines) (g .present) (g .latched) (g .desired) (g .atask) (g .apos) (g .aflag) (minorB cycles)
-    ++ (restTests (g .tasks) (g .alines) (g .rows) (g .controller) (g .priority) (g .privileged) (g .activation) (g .atask) (g .apos) (g .aflag) (g .row)
-    ++ (allOf (shapedTests g cycles) ∷ [])))))))
+tests g cycles = countGroup g ++ fromSizes g cycles
 
 -- the number of the first rule that is broken, 0 for none
 unfoldable pub firstBroken : Rig → List Cycle → ℕ

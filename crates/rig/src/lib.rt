@@ -5,7 +5,7 @@ ghost use Prim.Native.Nat.{ℕ, _≤_, _<_};
 ghost use Rattle.laws.specs.All.{allOf};
 ghost use Rattle.laws.specs.First.{firstFalse};
 ghost use Rattle.rigtests.specs.Tables.{marked, LinesFit};
-ghost use Rattle.rig.specs.Rules.{at, flagAt, noRow};
+ghost use Rattle.rig.specs.Rules.{at, flagAt};
 ghost use Rattle.rig.specs.Tests.{listedB, rowTests, rowsB, cyclesRiseB, cyclesSmallB, minorMarks, differB, rowZero, rowZerosB, countTests, sizeTests, orderTests, numberTests, taskTests, lineTests, restTests, firstBroken, rightB};
 ghost use Rattle.rig.specs.Forms.{cyclesOf, tableOf, noRig, noCycles};
 
@@ -46,11 +46,11 @@ pub struct Rig {
     pub row: [Row; 64],
 }
 
-// A row of all zeros.
-pub fn no_row() -> Row
-    ensures { λ r. ⌜ r ≡ noRow ⌝ }
+// The rig of all zeros.
+pub fn none() -> Rig
+    ensures { λ r. ⌜ r ≡ noRig ⌝ }
 {
-    Row {
+    let b = Row {
         sender: 0,
         sendersub: 0,
         receiver: 0,
@@ -58,14 +58,7 @@ pub fn no_row() -> Row
         words: 0,
         period: 0,
         phase: 0,
-    }
-}
-
-// The rig of all zeros.
-pub fn none() -> Rig
-    ensures { λ r. ⌜ r ≡ noRig ⌝ }
-{
-    let b = no_row();
+    };
     Rig {
         tasks: 0,
         flags: 0,
@@ -123,14 +116,19 @@ pub fn table_of(cycles: [Cycle; 64]) -> [[u8; 15]; 64]
     table
 }
 
-// One of the periods 1, 2, 4, 8, 16, 32, 64.
+const PERIODS: [u8; 7] = [1, 2, 4, 8, 16, 32, 64];
+
 fn listed(p: u8) -> bool
     ensures { λ r. ⌜ r ≡ listedB p ⌝ }
 {
-    match p {
-        1 | 2 | 4 | 8 | 16 | 32 | 64 => true,
-        _ => false,
+    let mut i: usize = 0;
+    while i < 7 {
+        if PERIODS[i] == p {
+            return true;
+        }
+        i = i + 1;
     }
+    false
 }
 
 // Addresses, sub-addresses, words, period and phase of a row.
@@ -179,7 +177,8 @@ fn cycles_rise(cycles: [Cycle; 64]) -> bool
     let mut c: usize = 0;
     while c < 64 {
         let cycle = cycles[c];
-        if !rigtests::cycle_rises(&cycle.flags) {
+        let flags = cycle.flags;
+        if !rigtests::cycle_rises(flags) {
             return false;
         }
         c = c + 1;
@@ -257,6 +256,7 @@ fn row_zero(b: Row) -> bool
 }
 
 fn row_zeros(n: usize, row: [Row; 64]) -> bool
+    requires { ⌜ n ≤ 64 ⌝ }
     ensures { λ r. ⌜ r ≡ rowZerosB n row ⌝ }
 {
     let mut k = n;
@@ -476,9 +476,9 @@ pub fn broken(rig: Rig, cycles: [Cycle; 64]) -> u8
     if a != 0 {
         return a;
     }
-    let alines = rigtests::wide16(rig.alines);
-    let rows = rigtests::wide(rig.rows);
-    let tasks = rigtests::wide(rig.tasks);
+    let alines = rig.alines as usize;
+    let rows = rig.rows as usize;
+    let tasks = rig.tasks as usize;
     let row = rig.row;
     let b = sizes(
         &rig.priority,

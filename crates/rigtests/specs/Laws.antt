@@ -26,18 +26,20 @@ pub some-suc : (n : ℕ) → n ≢ 0 → (i : ℕ) × (n ≡ suc i)
 some-suc zero h = absurd (h refl)
 some-suc (suc n) h = (n, refl)
 
--- an activation flag is owned by its task exactly where it serves no other
+-- an activation flag serves one task
+abbrev pub Serves : List ℕ → ℕ → Type 0
+Serves activation t = at activation t ≢ 0 → (u : ℕ) → u < 65 → at activation u ≡ at activation t → u ≡ t
+
+pub serves-is : (activation : List ℕ) (t : ℕ) → Is (servesOne activation t) (Serves activation t)
+serves-is activation t =
+    is-else (is-eqb (at activation t) 0)
+    (is-all 65 (λ u h.
+      is-said (is-or (is-eqb u t) (is-not (is-eqb (at activation u) (at activation t))))
+          (λ w e. ⊎-elim (λ q. q) (λ n. absurd (n e)) w)
+          (λ f. by (eqb u t) (λ e. inl (eqb-true u t e)) (λ e. inr (λ q. eqb-false u t e (f q))))))
+
+-- it is owned by its task exactly where it serves no other
 module _ (activation : List ℕ) (small : (t : ℕ) → t < 65 → at activation t ≤ 128) where
-  abbrev Serves : ℕ → Type 0
-  Serves t = at activation t ≢ 0 → (u : ℕ) → u < 65 → at activation u ≡ at activation t → u ≡ t
-
-  serves-is : (t : ℕ) → Is (servesOne activation t) (Serves t)
-  serves-is t =
-      is-else (is-eqb (at activation t) 0)
-      (is-all 65 (λ u h. is-said (is-or (is-eqb u t) (is-not (is-eqb (at activation u) (at activation t))))
-      (λ w e. ⊎-elim (λ q. q) (λ n. absurd (n e)) w)
-      (λ f. by (eqb u t) (λ e. inl (eqb-true u t e)) (λ e. inr (λ q. eqb-false u t e (f q))))))
-
   abbrev table : List ℕ
   table = owners 65 (at activation) 129
 
@@ -46,12 +48,12 @@ module _ (activation : List ℕ) (small : (t : ℕ) → t < 65 → at activation
 
   pub served-law : servedB activation (owners 65 (at activation) 129) ≡ servesOneB activation
   unfolding servedB servesOneB
-  served-law = is-same (is-said (is-all 65 served-is) there back) (is-all 65 (λ t h. serves-is t))
+  served-law = is-same (is-said (is-all 65 served-is) there back) (is-all 65 (λ t h. serves-is activation t))
     where
-      there : ((t : ℕ) → t < 65 → at activation t ≢ 0 → at table (at activation t) ≡ t + 1) → (t : ℕ) → t < 65 → Serves t
+      there : ((t : ℕ) → t < 65 → at activation t ≢ 0 → at table (at activation t) ≡ t + 1) → (t : ℕ) → t < 65 → Serves activation t
       there f t h n u g e = omega (arith, f t h n, f u g (λ z. n (sym e ∙ z)), ap (at table) e)
 
-      back : ((t : ℕ) → t < 65 → Serves t) → (t : ℕ) → t < 65 → at activation t ≢ 0 → at table (at activation t) ≡ t + 1
+      back : ((t : ℕ) → t < 65 → Serves activation t) → (t : ℕ) → t < 65 → at activation t ≢ 0 → at table (at activation t) ≡ t + 1
       back f t h n =
           let s = some-suc (at table (at activation t)) (owner-some (at activation) 129 65 t h (omega (arith, small t h))) in
           let k = owner-key (at activation) 129 65 (at activation t) (s .0) (s .1) in

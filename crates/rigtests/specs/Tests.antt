@@ -5,7 +5,7 @@ use mathlib.Core.Bool.{Bool, true, false, not, cond, _&&_, _||_}
 use mathlib.Core.List.{List, [], _∷_}
 use Prim.Native.Nat.{ℕ, zero, suc, _+_, _-_, _*_}
 use lib.Dec.{eqb, leb, ltb}
-use lib.ListN.{getD}
+use lib.ListN.{length, getD}
 use Rattle.laws.specs.All.{all}
 use Rattle.laws.specs.Any.{any}
 
@@ -55,8 +55,9 @@ flagTest f h = eqb h 0 || (not (eqb f 0) && ltb f h)
 abbrev pub flagRises : List ℕ → ℕ → Bool
 flagRises flags i = flagTest (at flags i) (at flags (i + 1))
 
+-- a cycle has fifteen places, and its flags rise
 unfoldable pub cycleRises : List ℕ → Bool
-cycleRises flags = all 14 (flagRises flags)
+cycleRises flags = eqb (length flags) 15 && all 14 (flagRises flags)
 
 -- no number above the RIG line's
 abbrev pub conditionTaskTest : ℕ → ℕ → ℕ → Bool

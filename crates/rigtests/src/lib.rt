@@ -126,8 +126,8 @@ fn flag_rises(f: u8, h: u8) -> bool
 }
 
 // The flags of one cycle rise, and nothing stands behind the last.
-pub fn cycle_rises(flags: &[u8; 15]) -> bool
-    ensures { λ r. ⌜ r ≡ cycleRises (now (flags .entry)) ⌝ }
+pub fn cycle_rises(flags: [u8; 15]) -> bool
+    ensures { λ r. ⌜ r ≡ cycleRises flags ⌝ }
 {
     let mut i: usize = 0;
     while i < 14 {
