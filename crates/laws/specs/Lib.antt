@@ -10,6 +10,9 @@ pub mod Members
 pub mod Order
 pub mod First
 pub mod Says
+pub mod Stores
+pub mod Bits
+pub mod Ordered
 pub mod Decides
 pub mod Owners
 pub mod Mapped

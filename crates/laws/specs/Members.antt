@@ -184,3 +184,22 @@ pub in-at : (a : ℕ) (xs : List ℕ) → In a xs → (i : ℕ) × (i < length x
 in-at a [] h = absurd h
 in-at a (x ∷ xs) (inl e) = (0, omega arith, sym e)
 in-at a (x ∷ xs) (inr h) = let w = in-at a xs h in (suc (w .0), omega (arith, w .1), w .2)
+
+-- ---- tests of elements, one after the other
+
+-- tests that agree on the list's elements keep the same
+pub keep-same : (p q : ℕ → Bool) (xs : List ℕ) → ((a : ℕ) → In a xs → p a ≡ q a) → keep p xs ≡ keep q xs
+keep-same p q [] h = refl
+keep-same p q (x ∷ xs) h = rw (h x (inl refl), keep-same p q xs (λ a i. h a (inr i)))
+
+pub keep-all : (p : ℕ → Bool) (xs : List ℕ) → ((a : ℕ) → In a xs → p a ≡ true) → keep p xs ≡ xs
+keep-all p [] h = refl
+keep-all p (x ∷ xs) h = rw (h x (inl refl), keep-all p xs (λ a i. h a (inr i)))
+
+-- to be without x is to fail the test of being x
+pub without-keep : (x : ℕ) (p : ℕ → Bool) (xs : List ℕ) → without x (keep p xs) ≡ keep (λ (y : ℕ). p y && not (eqb y x)) xs
+without-keep x p [] = refl
+without-keep x p (y ∷ ys) =
+    by (p y)
+    (λ e. by (eqb y x) (λ f. rw (e, f, without-keep x p ys)) (λ f. rw (e, f, without-keep x p ys)))
+    (λ e. rw (e, without-keep x p ys))
