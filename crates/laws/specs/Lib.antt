@@ -4,10 +4,15 @@ pub mod All
 pub mod Any
 pub mod Tables
 pub mod Put
+pub mod Reading
 pub mod Functions
 pub mod Members
 pub mod Order
+pub mod First
 pub mod Says
 pub mod Stores
 pub mod Bits
 pub mod Ordered
+pub mod Decides
+pub mod Owners
+pub mod Mapped

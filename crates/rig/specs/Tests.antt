@@ -1,0 +1,203 @@
+-- THE RULES AS TESTS: each rule of a rig as a Bool that a program can compute, in the order in which they are numbered. The
+-- tests of single tables of numbers are those of crate rigtests. Exact.antt proves of each test that it is true exactly when
+-- its rule holds.
+use mathlib.Core.Bool.{Bool, true, false, not, cond, _&&_, _||_}
+use mathlib.Core.List.{List, [], _∷_, _++_}
+use Prim.Native.Nat.{ℕ}
+use lib.Dec.{eqb, leb, ltb}
+use lib.ListN.{length, getD, set, replicate}
+use Rattle.laws.specs.Iter.{iter}
+use Rattle.laws.specs.All.{all, allOf}
+use Rattle.laws.specs.Any.{any}
+use Rattle.laws.specs.First.{firstFalse}
+use Rattle.laws.specs.Owners.{marks}
+use Rattle.rigtests.specs.Tests.{at, within, smallB, conditionsB, linesRiseB, cycleRises, conditionTasksB, linesB, cycleSmall, controllersB, servesOneB, inCycle, notMinorB, namedB, usedB, minorConditionsB, taskZerosB, lineZerosB}
+use Rattle.rig.specs.declared.Row.{Row}
+use Rattle.rig.specs.declared.Cycle.{Cycle}
+use Rattle.rig.specs.declared.Rig.{Rig}
+use Rattle.rig.specs.Rules.{noRow, noCycle, periods}
+
+-- addresses, sub-addresses, words, period and phase of a row
+abbrev pub isPeriod : ℕ → ℕ → Bool
+isPeriod p i = eqb (at periods i) p
+
+unfoldable pub listedB : ℕ → Bool
+listedB p = any 7 (isPeriod p)
+
+unfoldable pub rowTests : Row → List Bool
+rowTests b =
+    leb (b .sender) 31 ∷
+    within 1 (b .sendersub) 30 ∷
+    leb (b .receiver) 31 ∷
+    within 1 (b .receiversub) 30 ∷
+    within 1 (b .words) 32 ∷
+    listedB (b .period) ∷
+    ltb (b .phase) (b .period) ∷
+    []
+
+abbrev pub rowOne : List Row → ℕ → Bool
+rowOne row k = allOf (rowTests (getD row k noRow))
+
+-- there are places for sixty-four rows, and the first n have their sizes
+unfoldable pub rowsB : ℕ → List Row → Bool
+rowsB n row = eqb (length row) 64 && all n (rowOne row)
+
+abbrev pub cycleRisesOne : List Cycle → ℕ → Bool
+cycleRisesOne cycles c = cycleRises (getD cycles c noCycle .flags)
+
+unfoldable pub cyclesRiseB : List Cycle → Bool
+cyclesRiseB cycles = eqb (length cycles) 64 && all 64 (cycleRisesOne cycles)
+
+abbrev pub cycleSmallOne : ℕ → List Cycle → ℕ → Bool
+cycleSmallOne top cycles c = cycleSmall top (getD cycles c noCycle .flags)
+
+unfoldable pub cyclesSmallB : ℕ → List Cycle → Bool
+cyclesSmallB top cycles = all 64 (cycleSmallOne top cycles)
+
+abbrev pub inCycleOne : List Cycle → ℕ → ℕ → Bool
+inCycleOne cycles f c = inCycle (getD cycles c noCycle .flags) f
+
+unfoldable pub minorB : List Cycle → ℕ → Bool
+minorB cycles f = not (eqb f 0) && any 64 (inCycleOne cycles f)
+
+-- the minor-cycle flags, marked by 1 in a table: minor-marks (Exact.antt) says that they are those that minorB finds
+abbrev pub markCycle : List Cycle → ℕ → List ℕ → List ℕ
+markCycle cycles c table = marks 15 (at (getD cycles c noCycle .flags)) table
+
+unfoldable pub minorMarks : List Cycle → List ℕ
+minorMarks cycles = set (iter 64 (markCycle cycles) (replicate 129 0)) 0 0
+
+abbrev pub differOne : List Row → ℕ → Bool
+differOne row k = not (eqb (getD row k noRow .sender) (getD row k noRow .receiver))
+
+unfoldable pub differB : ℕ → List Row → Bool
+differB n row = all n (differOne row)
+
+unfoldable pub rowZeros : Row → List Bool
+rowZeros b =
+    eqb (b .sender) 0 ∷
+    eqb (b .sendersub) 0 ∷
+    eqb (b .receiver) 0 ∷
+    eqb (b .receiversub) 0 ∷
+    eqb (b .words) 0 ∷
+    eqb (b .period) 0 ∷
+    eqb (b .phase) 0 ∷
+    []
+
+unfoldable pub rowZero : Row → Bool
+rowZero b = allOf (rowZeros b)
+
+abbrev pub rowZeroOne : ℕ → List Row → ℕ → Bool
+rowZeroOne n row k = ltb k n || rowZero (getD row k noRow)
+
+unfoldable pub rowZerosB : ℕ → List Row → Bool
+rowZerosB n row = all 64 (rowZeroOne n row)
+
+-- the tables of numbers have their lengths
+unfoldable pub shapedTests : Rig → List Bool
+shapedTests g =
+    eqb (length (g .controller)) 65 ∷
+    eqb (length (g .priority)) 65 ∷
+    eqb (length (g .privileged)) 65 ∷
+    eqb (length (g .activation)) 65 ∷
+    eqb (length (g .present)) 1040 ∷
+    eqb (length (g .latched)) 1040 ∷
+    eqb (length (g .desired)) 1040 ∷
+    eqb (length (g .atask)) 1024 ∷
+    eqb (length (g .apos)) 1024 ∷
+    eqb (length (g .aflag)) 1024 ∷
+    []
+
+-- ---- the rules by number, in groups: 1 to 9 sizes, 10 and 11 orders, 12 to 22 rules over the whole file, 23 to 25 zeros
+-- beyond the counts; 26 is broken by no rig that a program holds
+
+abbrev pub countTests : ℕ → ℕ → ℕ → ℕ → ℕ → List Bool
+countTests tasks flags master alines rows =
+    within 1 tasks 64 ∷ within 1 flags 128 ∷ leb master 31 ∷ leb alines 1024 ∷ leb rows 64 ∷ []
+
+abbrev pub sizeTests : List ℕ → List ℕ → List ℕ → List ℕ → List ℕ → ℕ → List Row → List Bool
+sizeTests priority privileged present latched desired rows row =
+    smallB priority 255 ∷ smallB privileged 1 ∷ conditionsB present latched desired ∷ rowsB rows row ∷ []
+
+abbrev pub orderTests : ℕ → List ℕ → List ℕ → List ℕ → List Cycle → List Bool
+orderTests alines atask apos aflag cycles = linesRiseB alines atask apos aflag ∷ cyclesRiseB cycles ∷ []
+
+abbrev pub numberTests : ℕ → ℕ → ℕ → List ℕ → List ℕ → List ℕ → List ℕ → List ℕ → List Cycle → List Bool
+numberTests tasks flags alines activation present atask apos aflag cycles =
+    smallB activation flags ∷
+    conditionTasksB tasks present ∷
+    linesB alines tasks flags atask apos aflag ∷
+    cyclesSmallB flags cycles ∷
+    []
+
+abbrev pub taskTests : ℕ → List ℕ → List ℕ → (ℕ → Bool) → List Bool
+taskTests tasks controller activation minor =
+    controllersB tasks controller ∷ servesOneB activation ∷ notMinorB activation minor ∷ []
+
+abbrev pub lineTests : ℕ → List ℕ → List ℕ → List ℕ → List ℕ → List ℕ → List ℕ → (ℕ → Bool) → List Bool
+lineTests alines present latched desired atask apos aflag minor =
+    namedB alines present atask apos ∷
+    usedB alines present atask apos ∷
+    minorConditionsB alines latched desired atask apos aflag minor ∷
+    []
+
+abbrev pub restTests : ℕ → ℕ → ℕ → List ℕ → List ℕ → List ℕ → List ℕ → List ℕ → List ℕ → List ℕ → List Row → List Bool
+restTests tasks alines rows controller priority privileged activation atask apos aflag row =
+    differB rows row ∷
+    taskZerosB tasks controller priority privileged activation ∷
+    lineZerosB alines atask apos aflag ∷
+    rowZerosB rows row ∷
+    []
+
+abbrev pub countGroup : Rig → List Bool
+countGroup g = countTests (g .tasks) (g .flags) (g .master) (g .alines) (g .rows)
+
+abbrev pub sizeGroup : Rig → List Bool
+sizeGroup g = sizeTests (g .priority) (g .privileged) (g .present) (g .latched) (g .desired) (g .rows) (g .row)
+
+abbrev pub orderGroup : Rig → List Cycle → List Bool
+orderGroup g cycles = orderTests (g .alines) (g .atask) (g .apos) (g .aflag) cycles
+
+abbrev pub numberGroup : Rig → List Cycle → List Bool
+numberGroup g cycles =
+    numberTests (g .tasks) (g .flags) (g .alines) (g .activation) (g .present) (g .atask) (g .apos) (g .aflag) cycles
+
+abbrev pub taskGroup : Rig → List Cycle → List Bool
+taskGroup g cycles = taskTests (g .tasks) (g .controller) (g .activation) (minorB cycles)
+
+abbrev pub lineGroup : Rig → List Cycle → List Bool
+lineGroup g cycles =
+    lineTests (g .alines) (g .present) (g .latched) (g .desired) (g .atask) (g .apos) (g .aflag) (minorB cycles)
+
+abbrev pub restGroup : Rig → List Bool
+restGroup g =
+    restTests (g .tasks) (g .alines) (g .rows) (g .controller) (g .priority) (g .privileged) (g .activation) (g .atask) (g .apos) (g .aflag) (g .row)
+
+abbrev pub fromRest : Rig → List Bool
+fromRest g = restGroup g ++ (allOf (shapedTests g) ∷ [])
+
+abbrev pub fromLines : Rig → List Cycle → List Bool
+fromLines g cycles = lineGroup g cycles ++ fromRest g
+
+abbrev pub fromTasks : Rig → List Cycle → List Bool
+fromTasks g cycles = taskGroup g cycles ++ fromLines g cycles
+
+abbrev pub fromNumbers : Rig → List Cycle → List Bool
+fromNumbers g cycles = numberGroup g cycles ++ fromTasks g cycles
+
+abbrev pub fromOrders : Rig → List Cycle → List Bool
+fromOrders g cycles = orderGroup g cycles ++ fromNumbers g cycles
+
+abbrev pub fromSizes : Rig → List Cycle → List Bool
+fromSizes g cycles = sizeGroup g ++ fromOrders g cycles
+
+unfoldable pub tests : Rig → List Cycle → List Bool
+tests g cycles = countGroup g ++ fromSizes g cycles
+
+-- the number of the first rule that is broken, 0 for none
+unfoldable pub firstBroken : Rig → List Cycle → ℕ
+firstBroken g cycles = firstFalse 1 (tests g cycles)
+
+-- whether the rig obeys every rule
+unfoldable pub rightB : Rig → List Cycle → Bool
+rightB g cycles = eqb (firstBroken g cycles) 0
