@@ -3,6 +3,8 @@ pub mod Call
 pub mod Unique
 pub mod RightRig
 pub mod Check
-pub mod Refusing
 pub mod Meeting
+pub mod Refusing
 pub mod Settling
+pub mod Signal
+pub mod Reading
