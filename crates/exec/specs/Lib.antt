@@ -8,3 +8,5 @@ pub mod Refusing
 pub mod Settling
 pub mod Signal
 pub mod Reading
+pub mod Waits
+pub mod Tasks
