@@ -10,3 +10,6 @@ pub mod Signal
 pub mod Reading
 pub mod Waits
 pub mod Tasks
+pub mod Blocks
+pub mod Tick
+pub mod Silent
