@@ -10,3 +10,6 @@ pub mod Members
 pub mod Order
 pub mod First
 pub mod Says
+pub mod Stores
+pub mod Bits
+pub mod Ordered
