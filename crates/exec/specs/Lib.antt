@@ -10,6 +10,7 @@ pub mod Signal
 pub mod Reading
 pub mod Waits
 pub mod Tasks
-pub mod Blocks
 pub mod Tick
+pub mod Blocks
+pub mod Starting
 pub mod Silent

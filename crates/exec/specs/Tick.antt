@@ -1,49 +1,55 @@
--- The tick: what soundness and acceptance give to it, and that what was served and sent is what it owes.
-use mathlib.Core.Path.{_≡_, refl, sym, _∙_, ap, subst}
-use mathlib.Core.Logic.{_≢_}
-use mathlib.Core.Bool.{Bool, true, false}
-use mathlib.Core.List.{List, [], _∷_}
-use Prim.Native.Nat.{ℕ, _+_, _<_, _≤_}
+-- The tick: what its parts ask, and what it owes.
+use mathlib.Core.Path.{_≡_, refl, sym, _∙_, ap}
+use mathlib.Core.Logic.{_≢_, _⊎_, inl, inr, ⊎-elim}
+use mathlib.Core.Bool.{Bool, true, false, cond}
+use mathlib.Core.List.{List, [], _∷_, _++_}
+use Prim.Native.Nat.{ℕ, zero, suc, _+_, _<_, _≤_}
 use native.Mathlib.Omega.{arith}
 use lib.Dec.{leb, ltb}
-use lib.ListN.{length}
+use lib.ListN.{length, length-append}
 use borrow.Author.Tests.{leb-false, ltb-false}
+use Rattle.laws.specs.Members.{In}
+use Rattle.laws.specs.Iter.{iter-ind}
 use Rattle.laws.specs.Put.{put}
+use Rattle.rig.specs.Rules.{Right, RowSizes, periods}
+use Rattle.rig.specs.declared.Cycle.{Cycle}
 use Rattle.rig.specs.declared.Rig.{Rig}
+use Rattle.rules.specs.Rig as G
 use Rattle.rules.specs.State as S
+use Rattle.rules.specs.Bus.{rowDue, rowWords, busOne, busWords}
 use Rattle.rules.specs.Calls as R
-use Rattle.rules.specs.Bus.{busWords}
 use Rattle.rules.specs.Acceptance.{passed}
 use Rattle.compool.specs.View.{rowsOf}
 use Rattle.compool.specs.Post.{RowsFit}
-use Rattle.state.specs.View.{viewOf, workOf}
+use Rattle.compool.specs.Words.{row-short}
+use Rattle.state.specs.View.{workOf}
 use Rattle.state.specs.Post.{TickOk, Ticked}
 use Rattle.state.specs.declared.Work.{Work}
 use Rattle.state.specs.declared.Done.{Done}
 use Rattle.exec.specs.Sound.{rigIn, view, Sound}
-use Rattle.exec.specs.Call.{Meets, refuse}
-use Rattle.exec.specs.Refusing.{tickRows, tick-table, Judged, judged-sound, judged-none, judged-meets}
+use Rattle.exec.specs.Call.{Meets}
 use Rattle.exec.specs.Meeting.{accept, accepted}
-use Rattle.exec.specs.Settling.{Settles, Settled, settles, next-is, served-is}
+use Rattle.exec.specs.Refusing.{tickRows}
+use Rattle.exec.specs.Settling.{Settled, next-is, served-is}
 use Rattle.exec.specs.declared.Exec.{Exec}
-use Rattle.exec.specs.declared.Step.{Step}
 
--- the bus words that a rig sends at a count
-abbrev pub sent : Rig → ℕ → List ℕ
-sent g count = busWords (g .rows) (g .master) (rowsOf (g .row)) count
+-- the rows are as the bus words ask
+some-period : (n : ℕ) → In n periods → 0 < n
+some-period n (inl e) = omega (arith, e)
+some-period n (inr (inl e)) = omega (arith, e)
+some-period n (inr (inr (inl e))) = omega (arith, e)
+some-period n (inr (inr (inr (inl e)))) = omega (arith, e)
+some-period n (inr (inr (inr (inr (inl e))))) = omega (arith, e)
+some-period n (inr (inr (inr (inr (inr (inl e)))))) = omega (arith, e)
+some-period n (inr (inr (inr (inr (inr (inr (inl e))))))) = omega (arith, e)
+some-period n (inr (inr (inr (inr (inr (inr (inr e))))))) = absurd e
 
--- they stand in the buffer, and are as many as is told
-pub record Sent (g : Rig) (count : ℕ) (before : List ℕ) (n : ℕ) (after : List ℕ) : Type 0 where
-  pub many : n ≡ length (sent g count)
-  pub is : after ≡ put before 0 (sent g count)
-
--- every row is within its sizes
-pub rows-fit : (x : Exec) → Sound x → RowsFit (x .rig .rows) (x .rig .row)
-rows-fit x h =
+pub rows-fit : (g : Rig) (cycles : List Cycle) → Right g cycles → RowsFit (g .rows) (g .row)
+rows-fit g cycles h =
     record {
-      few = h .rig .row-count;
+      few = h .row-count;
       row = λ k b.
-          let s = h .rig .rows k b in
+          let s = h .rows k b in
           record {
             sender = s .sender;
             senderSub = omega (arith, s .sendersub .1);
@@ -53,52 +59,46 @@ rows-fit x h =
           };
     }
 
-module _ (x : Exec) (buffer : List ℕ) (n : ℕ) (j : Judged x (tickRows (view x) (length buffer)) n) where
-  table : R.decide (tickRows (view x) (length buffer)) ≡ R.refusal (rigIn x) (view x) (R.tick buffer)
-  table = tick-table (rigIn x) (view x) buffer
+-- at most two words a row
+pub bus-few : (n master : ℕ) (row : ℕ → G.Row) (count : ℕ) → length (busWords n master row count) ≤ n + n
+unfolding busWords
+bus-few n master row count =
+    iter-ind (λ i l. length l ≤ i + i) (busOne master row count) [] (omega arith) (λ i l h. go i l h (rowDue (row i) count)) n
+  where
+    go : (i : ℕ) (l : List ℕ) → length l ≤ i + i → (b : Bool) → length (cond b (l ++ rowWords master (row i)) l) ≤ suc i + suc i
+    go i l h true = omega (arith, length-append l (rowWords master (row i)), row-short master (row i))
+    go i l h false = omega arith
 
-  pub tick-refused : n ≢ 0 → (r : Step) → r ≡ refuse x n → Meets x (R.tick buffer) r buffer
-  unfolding R.lent
-  tick-refused z r q = judged-meets x _ n j (R.tick buffer) table z r q buffer refl
+module _ (x : Exec) (h : Sound x) where
+  pub tick-ok : (words : ℕ) → 0 ≡ R.decide (tickRows (view x) words) → TickOk (x .st)
+  tick-ok words e =
+      record {
+        ordered = h .state .chains .ordered;
+        ahead = h .state .chains .ahead;
+        range = leb-false 2147483647 (x .st .count) (passed 8 (leb 2147483647 (x .st .count)) _ (sym e) .0);
+      }
 
-  module _ (z : n ≡ 0) where
-    pub tick-sound : Sound x
-    tick-sound = judged-sound x _ n j z
+  pub tick-room : (words : ℕ) → 0 ≡ R.decide (tickRows (view x) words) → 128 ≤ words
+  tick-room words e =
+      ltb-false words 128 (passed 9 (ltb words 128) [] (passed 8 (leb 2147483647 (x .st .count)) _ (sym e) .1) .0)
 
-    -- there is a next count, and the time chain is in order
-    pub tick-ok : TickOk (x .st)
-    tick-ok =
-        record {
-          ordered = tick-sound .state .chains .ordered;
-          ahead = tick-sound .state .chains .ahead;
-          range = leb-false _ _ (passed 8 (leb 2147483647 (x .st .count)) _ (sym (judged-none x _ n j z)) .0);
-        }
+  module _ (w : Work) (m : Ticked (x .st) (x .cycles) w) (buffer : List ℕ) where
+    pub ticked-work : workOf (w .st) (w .queue) ≡ R.effect (rigIn x) (view x) (R.tick buffer)
+    unfolding R.effect
+    ticked-work = m .is (x .rig)
 
-    pub tick-room : 128 ≤ length buffer
-    tick-room =
-        ltb-false _ _
-        (passed 9 (ltb (length buffer) 128) [] (passed 8 (leb 2147483647 (x .st .count)) _ (sym (judged-none x _ n j z)) .1) .0)
-
-    module _ (w : Work) (m : Ticked (x .st) (x .cycles) w) where
-      work : workOf (w .st) (w .queue) ≡ R.effect (rigIn x) (view x) (R.tick buffer)
-      unfolding R.effect
-      work = m .is (x .rig)
-
-      none : 0 ≡ R.refusal (rigIn x) (view x) (R.tick buffer)
-      none = judged-none x _ n j z ∙ table
-
-      pub tick-settles : Settles (x .rig) w
-      tick-settles = settles x tick-sound (R.tick buffer) tt none w work (m .sound)
-
-      pub tick-meets : (d : Done) → Settled (x .rig) w d → (k : ℕ) (after : List ℕ) → Sent (x .rig) (d .st .count) buffer k after
-          → (r : Step) → r ≡ accept x (d .st) (record { served = d .served; words = k; value = 0 }) → Meets x (R.tick buffer) r after
-      unfolding R.accepted R.output R.wordsAt
-      tick-meets d l k after s r q =
-          let c : viewOf (d .st) ≡ R.accepted (rigIn x) (view x) (R.tick buffer) .next =
-          next-is x tick-sound (R.tick buffer) tt none w work d l in
-          let v = served-is x tick-sound (R.tick buffer) tt none w work d l in
-          let ws = s .many ∙ ap (λ (y : S.State). length (sent (x .rig) (y .count))) c in
-          subst (λ (y : Step). Meets x (R.tick buffer) y after) (sym q)
-          (accepted x (R.tick buffer) tick-sound tt none (d .st) (record { served = d .served; words = k; value = 0 }) after c
-          (λ i. record { served = v i; words = ws i; value = 0 })
-          (s .is ∙ ap (λ (y : S.State). put buffer 0 (sent (x .rig) (y .count))) c) (l .sound) (l .sized))
+    -- the bus words of the count that the tick made
+    pub tick-meets : 0 ≡ R.refusal (rigIn x) (view x) (R.tick buffer) → (d : Done) → Settled (x .rig) w d → (n : ℕ) (after : List ℕ)
+        → n ≡ length (busWords (x .rig .rows) (x .rig .master) (rowsOf (x .rig .row)) (d .st .count))
+        → after ≡ put buffer 0 (busWords (x .rig .rows) (x .rig .master) (rowsOf (x .rig .row)) (d .st .count))
+        → Meets x (R.tick buffer) (accept x (d .st) (record { served = d .served; words = n; value = 0 })) after
+    unfolding R.accepted R.output R.wordsAt
+    tick-meets e d k n after f g =
+        let q = next-is x h (R.tick buffer) tt e w ticked-work d k in
+        let c : d .st .count ≡ R.accepted (rigIn x) (view x) (R.tick buffer) .next .count = ap (λ (s : S.State). s .count) q in
+        let ws : ℕ → List ℕ = busWords (x .rig .rows) (x .rig .master) (rowsOf (x .rig .row)) in
+        let u : n ≡ length (ws (R.accepted (rigIn x) (view x) (R.tick buffer) .next .count)) = f ∙ ap (λ (a : ℕ). length (ws a)) c in
+        let v = served-is x h (R.tick buffer) tt e w ticked-work d k in
+        accepted x (R.tick buffer) h tt e (d .st) (record { served = d .served; words = n; value = 0 }) after q
+        (λ i. record { served = v i; words = u i; value = 0 })
+        (g ∙ ap (λ (a : ℕ). put buffer 0 (ws a)) c) (k .sound) (k .sized)

@@ -12,9 +12,9 @@ use Rattle.exec.proofs.Exec.sound.Statement.{statement}
 use Rattle.exec.proofs.Exec.sound.Tie as tie
 use Rattle.exec.proofs.Exec.sound.Reads as reads
 use Rattle.exec.proofs.Exec.sound.Lts as lts
-use Rattle.exec.proofs.chains_ok.Reads as chains-ok-reads
-use Rattle.exec.proofs.right.Reads as right-reads
-use Rattle.exec.proofs.tables_ok.Reads as tables-ok-reads
+use Rattle.exec.proofs.soundness.chains_ok.Reads as chains-ok-reads
+use Rattle.exec.proofs.soundness.right.Reads as right-reads
+use Rattle.exec.proofs.soundness.tables_ok.Reads as tables-ok-reads
 
 rig : (c : tie.Else1) → Right (c .before .before .before .before .args .self .rig) (c .before .before .before .before .args .self .cycles)
 rig c = ?
