@@ -1,27 +1,21 @@
 -- The tick: what its parts ask, and what it owes.
-use mathlib.Core.Path.{_≡_, refl, sym, _∙_, ap}
-use mathlib.Core.Logic.{_≢_, _⊎_, inl, inr, ⊎-elim}
-use mathlib.Core.Bool.{Bool, true, false, cond}
-use mathlib.Core.List.{List, [], _∷_, _++_}
-use Prim.Native.Nat.{ℕ, zero, suc, _+_, _<_, _≤_}
+use mathlib.Core.Path.{_≡_, sym, _∙_, ap}
+use mathlib.Core.List.{List, []}
+use Prim.Native.Nat.{ℕ, _≤_}
 use native.Mathlib.Omega.{arith}
 use lib.Dec.{leb, ltb}
-use lib.ListN.{length, length-append}
+use lib.ListN.{length}
 use borrow.Author.Tests.{leb-false, ltb-false}
-use Rattle.laws.specs.Members.{In}
-use Rattle.laws.specs.Iter.{iter-ind}
 use Rattle.laws.specs.Put.{put}
-use Rattle.rig.specs.Rules.{Right, RowSizes, periods}
+use Rattle.rig.specs.Rules.{Right}
 use Rattle.rig.specs.declared.Cycle.{Cycle}
 use Rattle.rig.specs.declared.Rig.{Rig}
-use Rattle.rules.specs.Rig as G
 use Rattle.rules.specs.State as S
-use Rattle.rules.specs.Bus.{rowDue, rowWords, busOne, busWords}
+use Rattle.rules.specs.Bus.{busWords}
 use Rattle.rules.specs.Calls as R
 use Rattle.rules.specs.Acceptance.{passed}
 use Rattle.compool.specs.View.{rowsOf}
 use Rattle.compool.specs.Post.{RowsFit}
-use Rattle.compool.specs.Words.{row-short}
 use Rattle.state.specs.View.{workOf}
 use Rattle.state.specs.Post.{TickOk, Ticked}
 use Rattle.state.specs.declared.Work.{Work}
@@ -34,16 +28,6 @@ use Rattle.exec.specs.Settling.{Settled, next-is, served-is}
 use Rattle.exec.specs.declared.Exec.{Exec}
 
 -- the rows are as the bus words ask
-some-period : (n : ℕ) → In n periods → 0 < n
-some-period n (inl e) = omega (arith, e)
-some-period n (inr (inl e)) = omega (arith, e)
-some-period n (inr (inr (inl e))) = omega (arith, e)
-some-period n (inr (inr (inr (inl e)))) = omega (arith, e)
-some-period n (inr (inr (inr (inr (inl e))))) = omega (arith, e)
-some-period n (inr (inr (inr (inr (inr (inl e)))))) = omega (arith, e)
-some-period n (inr (inr (inr (inr (inr (inr (inl e))))))) = omega (arith, e)
-some-period n (inr (inr (inr (inr (inr (inr (inr e))))))) = absurd e
-
 pub rows-fit : (g : Rig) (cycles : List Cycle) → Right g cycles → RowsFit (g .rows) (g .row)
 rows-fit g cycles h =
     record {
@@ -58,16 +42,6 @@ rows-fit g cycles h =
             period = omega (arith, s .phase);
           };
     }
-
--- at most two words a row
-pub bus-few : (n master : ℕ) (row : ℕ → G.Row) (count : ℕ) → length (busWords n master row count) ≤ n + n
-unfolding busWords
-bus-few n master row count =
-    iter-ind (λ i l. length l ≤ i + i) (busOne master row count) [] (omega arith) (λ i l h. go i l h (rowDue (row i) count)) n
-  where
-    go : (i : ℕ) (l : List ℕ) → length l ≤ i + i → (b : Bool) → length (cond b (l ++ rowWords master (row i)) l) ≤ suc i + suc i
-    go i l h true = omega (arith, length-append l (rowWords master (row i)), row-short master (row i))
-    go i l h false = omega arith
 
 module _ (x : Exec) (h : Sound x) where
   pub tick-ok : (words : ℕ) → 0 ≡ R.decide (tickRows (view x) words) → TickOk (x .st)
