@@ -14,7 +14,6 @@ use rig::Cycle;
 use rig::Rig;
 use state::State;
 ghost use mathlib.Core.Path.{_≡_};
-ghost use Rattle.rig.specs.Forms.{cyclesOf, noRig, noCycles};
 ghost use Rattle.exec.specs.Starting.{noExec, Starts};
 
 // The rig and its cycles stay as they are from the start on; calls change the state. Numbers only: a record may stand in
@@ -47,8 +46,8 @@ pub fn none() -> Exec
     ensures { λ r. ⌜ r ≡ noExec ⌝ }
 {
     Exec {
-        rig: rig_none(),
-        cycles: no_cycles(),
+        rig: rig::none(),
+        cycles: rig::no_cycles(),
         st: State {
             count: 0,
             value: [0; 129],
@@ -69,8 +68,8 @@ pub fn none() -> Exec
 pub fn start(rig: Rig, cycles: [[u8; 15]; 64]) -> Step
     ensures { λ r. ⌜ Starts rig cycles r ⌝ }
 {
-    let rows = cycles_of(cycles);
-    if !soundness::right(rig, rows) {
+    let rows = rig::cycles_of(cycles);
+    if !rig::right(rig, rows) {
         return none().refuse(4);
     }
     let w = State::blank().scheduled(rig, 1);
@@ -88,24 +87,4 @@ pub fn start(rig: Rig, cycles: [[u8; 15]; 64]) -> Step
             value: 0,
         }),
     }
-}
-
-fn rig_none() -> Rig
-    ensures { λ r. ⌜ r ≡ noRig ⌝ }
-{
-    let row = rig::Row { sender: 0, sendersub: 0, receiver: 0, receiversub: 0, words: 0, period: 0, phase: 0 };
-    Rig { tasks: 0, flags: 0, master: 0, alines: 0, rows: 0, controller: [0; 65], priority: [0; 65], privileged: [0; 65], activation: [0; 65], present: [0; 1040], latched: [0; 1040], desired: [0; 1040], atask: [0; 1024], apos: [0; 1024], aflag: [0; 1024], row: [row; 64] }
-}
-
-fn no_cycles() -> [Cycle; 64]
-    ensures { λ r. ⌜ r ≡ noCycles ⌝ }
-{
-    let c = Cycle { flags: [0; 15] };
-    [c; 64]
-}
-
-fn cycles_of(table: [[u8; 15]; 64]) -> [Cycle; 64]
-    ensures { λ r. ⌜ r ≡ cyclesOf table ⌝ }
-{
-    no_cycles()
 }

@@ -7,7 +7,6 @@ ghost use mathlib.Core.Bool.{true};
 ghost use mathlib.Core.Logic.{_↔_};
 ghost use Prim.Native.Nat.{_≤_};
 ghost use Rattle.laws.specs.All.{allOf};
-ghost use Rattle.rig.specs.Tests.{rightB};
 ghost use Rattle.exec.specs.Sound.{Sound};
 ghost use Rattle.exec.specs.Check.{Placed, tableTests, ChainsSound};
 
@@ -71,7 +70,7 @@ impl Exec {
     {
         let rig = self.rig;
         let cycles = self.cycles;
-        if !right(rig, cycles) {
+        if !rig::right(rig, cycles) {
             return false;
         }
         let st = self.st;
@@ -80,10 +79,4 @@ impl Exec {
         }
         chains_ok(st)
     }
-}
-
-pub fn right(rig: Rig, cycles: [rig::Cycle; 64]) -> bool
-    ensures { λ r. ⌜ r ≡ rightB rig cycles ⌝ }
-{
-    true
 }
