@@ -13,4 +13,3 @@ pub mod Tasks
 pub mod Tick
 pub mod Blocks
 pub mod Starting
-pub mod Silent
