@@ -80,7 +80,7 @@ unfolding all
 all-all zero p h = refl
 all-all (suc n) p h = rw (all-all n p (λ k l. h k (omega arith))) (h n (omega arith))
 
--- tests that agree below n
+-- tests that agree on the first n numbers
 pub all-same : (n : ℕ) (p q : ℕ → Bool) → ((k : ℕ) → k < n → p k ≡ q k) → all n p ≡ all n q
 unfolding all
 all-same zero p q h = refl

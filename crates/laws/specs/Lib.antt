@@ -7,6 +7,10 @@ pub mod Put
 pub mod Functions
 pub mod Members
 pub mod Order
+pub mod Says
+pub mod Stores
+pub mod Bits
+pub mod Ordered
 pub mod First
 pub mod Decides
 pub mod Owners

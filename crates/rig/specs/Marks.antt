@@ -12,9 +12,9 @@ use borrow.Author.Tests.{lt-ltb, eqb-true, eqb-false}
 use Rattle.laws.specs.Cases.{by, or-yes, below-but}
 use Rattle.laws.specs.Iter.{iter, iter-ind}
 use Rattle.laws.specs.All.{all, all-all, all-same}
-use Rattle.laws.specs.Tables.{set-zero}
+use Rattle.laws.specs.Tables.{set-zero, zeros}
 use Rattle.laws.specs.Decides.{Is, is-eqb, is-and, is-not, is-any, is-said, is-same}
-use Rattle.laws.specs.Owners.{marks, marked-by, marks-it, marks-length, getD-zeros}
+use Rattle.laws.specs.Owners.{marks, marked-by, marks-it, marks-length}
 use Rattle.rigtests.specs.Tests.{inCycle, notMinorOne, notMinorB, minorConditionOne, minorConditionTest, minorConditionsB, onlyOne, placeOf}
 use Rattle.rigtests.specs.Tables.{marked}
 use Rattle.rig.specs.declared.Row.{Row}
@@ -44,7 +44,7 @@ module _ (cycles : List Cycle) (f : ℕ) where
       × ((at (iter k (markCycle cycles) (replicate 129 0)) f ≢ 0) ↔ Among k)
   table-is b =
       iter-ind (λ k l. (length l ≡ 129) × ((at l f ≢ 0) ↔ Among k)) (markCycle cycles) (replicate 129 0)
-      (length-replicate {A = ℕ} 129 0, ((λ z. absurd (z (getD-zeros 129 f))), (λ w. absurd (omega (arith, w .1)))))
+      (length-replicate {A = ℕ} 129 0, ((λ z. absurd (z (zeros 129 f))), (λ w. absurd (omega (arith, w .1)))))
       (λ k l h. (marks-length 15 (at (getD cycles k noCycle .flags)) l ∙ h .0, (there k l h, back k l h)))
     where
       there : (k : ℕ) (l : List ℕ) → (length l ≡ 129) × ((at l f ≢ 0) ↔ Among k) → at (markCycle cycles k l) f ≢ 0 → Among (suc k)
