@@ -1,17 +1,16 @@
 -- WHAT A RIGHT RIG HAS: facts of its tables, as the rules of the executive use them.
-use mathlib.Core.Path.{_≡_, refl, sym, _∙_, ap}
+use mathlib.Core.Path.{_≡_, _∙_}
 use mathlib.Core.Logic.{_≢_}
-use mathlib.Core.Bool.{true, false}
 use mathlib.Core.List.{List}
-use Prim.Native.Nat.{ℕ, zero, suc, _+_, _*_, _≤_, _<_}
+use Prim.Native.Nat.{ℕ, suc, _*_, _≤_, _<_}
 use native.Mathlib.Omega.{arith}
-use lib.Dec.{eqb, ltb, leb}
-use lib.ListN.{length, getD, List·getD-eq-default}
-use borrow.Author.Tests.{ltb-true, ltb-false, leb-true, leb-false, eqb-true, eqb-false}
+use lib.Dec.{ltb, leb}
+use lib.ListN.{length, List·getD-eq-default}
+use borrow.Author.Tests.{ltb-true, ltb-false, leb-true, leb-false}
 use Rattle.laws.specs.Cases.{by}
 use Rattle.rig.specs.declared.Cycle.{Cycle}
 use Rattle.rig.specs.declared.Rig.{Rig}
-use Rattle.rig.specs.Rules.{at, place, flagAt, rowAt, linePlace, noRow, Task, NoTask, RowSizes, Right}
+use Rattle.rig.specs.Rules.{at, place, flagAt, rowAt, linePlace, Task, NoTask, RowSizes, Right}
 use Rattle.rig.specs.Tree.{controllers-low, controllers-some}
 
 module _ (g : Rig) (cycles : List Cycle) (r : Right g cycles) where

@@ -1,15 +1,15 @@
 -- WHICH RULE A NUMBER NAMES: the number that `firstBroken` gives is that of a rule which does not hold, and all rules with lower
 -- numbers hold.
-use mathlib.Core.Path.{_≡_, refl, sym, _∙_, ap}
-use mathlib.Core.Logic.{_≢_, _↔_}
-use mathlib.Core.Bool.{Bool, true, false, true≢false, false≢true}
-use mathlib.Core.List.{List, [], _∷_, _++_}
-use Prim.Native.Nat.{ℕ, zero, suc, _+_, _≤_, _<_}
+use mathlib.Core.Path.{_≡_, refl, sym, _∙_}
+use mathlib.Core.Logic.{_≢_}
+use mathlib.Core.Bool.{Bool, true, false, true≢false}
+use mathlib.Core.List.{List, [], _∷_}
+use Prim.Native.Nat.{ℕ, zero, suc, _≤_, _<_}
 use native.Mathlib.Omega.{arith}
 use lib.ListN.{length, getD}
 use Rattle.laws.specs.All.{allOf}
-use Rattle.laws.specs.First.{firstFalse, first-fails, first-before}
-use Rattle.laws.specs.Decides.{Is, is-leb, is-eqb}
+use Rattle.laws.specs.First.{first-fails, first-before}
+use Rattle.laws.specs.Decides.{Is, is-leb}
 use Rattle.rig.specs.declared.Cycle.{Cycle}
 use Rattle.rig.specs.declared.Rig.{Rig}
 use Rattle.rig.specs.Rules.{noCycle, TaskCount, FlagCount, MasterAddress, LineCount, RowCount, Priorities, Privileges, Conditions, Rows, LineOrder, CycleOrder, ActivationNumbers, ConditionNumbers, Lines, CycleNumbers, Controllers, ActivationServesOne, ActivationNotMinor, LineHasCondition, ConditionHasLine, MinorConditions, SenderDiffers, TaskZeros, LineZeros, RowZeros}
