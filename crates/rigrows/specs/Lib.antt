@@ -1,0 +1,4 @@
+pub mod Kinds
+pub mod Line
+pub mod File
+pub mod KindLaws
