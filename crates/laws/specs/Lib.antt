@@ -7,3 +7,4 @@ pub mod Put
 pub mod Functions
 pub mod Members
 pub mod Order
+pub mod First

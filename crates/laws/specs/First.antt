@@ -1,0 +1,55 @@
+-- The first test of a list that fails, by its number.
+use mathlib.Core.Path.{_≡_, refl, sym, _∙_, ap}
+use mathlib.Core.Logic.{_≢_}
+use mathlib.Core.Bool.{Bool, true, false, cond, false≢true}
+use mathlib.Core.List.{List, [], _∷_, _++_}
+use Prim.Native.Nat.{ℕ, zero, suc, _+_, _≤_, _<_}
+use native.Mathlib.Omega.{arith}
+use native.Mathlib.Nat.{add-suc}
+use lib.ListN.{length}
+use Rattle.laws.specs.Cases.{by-bool}
+use Rattle.laws.specs.All.{allOf, allOf-cons, allOf-nil, and-left, and-right}
+
+-- the tests of the list are numbered from n on; 0 where none fails
+unfoldable pub firstFalse : ℕ → List Bool → ℕ
+firstFalse n [] = 0
+firstFalse n (b ∷ bs) = cond b (firstFalse (suc n) bs) n
+
+-- a loop through the tests: none left, one that holds, one that fails
+pub first-none : (n : ℕ) → firstFalse n [] ≡ 0
+unfolding firstFalse
+first-none n = refl
+
+pub first-skip : (n : ℕ) (b : Bool) (bs : List Bool) → b ≡ true → firstFalse n (b ∷ bs) ≡ firstFalse (suc n) bs
+unfolding firstFalse
+first-skip n b bs e = rw e
+
+pub first-here : (n : ℕ) (b : Bool) (bs : List Bool) → b ≡ false → firstFalse n (b ∷ bs) ≡ n
+unfolding firstFalse
+first-here n b bs e = rw e
+
+-- a group of tests before the others
+pub first-group : (n : ℕ) (xs ys : List Bool) → firstFalse n xs ≡ 0 → 0 < n → firstFalse n (xs ++ ys) ≡ firstFalse (n + length xs) ys
+unfolding firstFalse
+first-group n [] ys e h = ap (λ (k : ℕ). firstFalse k ys) (omega arith)
+first-group n (true ∷ xs) ys e h = first-group (suc n) xs ys e (omega arith) ∙ ap (λ (k : ℕ). firstFalse k ys) (omega arith)
+first-group n (false ∷ xs) ys e h = absurd (omega arith)
+
+pub first-in : (n : ℕ) (xs ys : List Bool) → firstFalse n xs ≢ 0 → firstFalse n (xs ++ ys) ≡ firstFalse n xs
+unfolding firstFalse
+first-in n [] ys h = absurd (h refl)
+first-in n (true ∷ xs) ys h = first-in (suc n) xs ys h
+first-in n (false ∷ xs) ys h = refl
+
+-- none fails exactly when all hold
+pub first-all : (n : ℕ) (l : List Bool) → 0 < n → firstFalse n l ≡ 0 → allOf l ≡ true
+unfolding firstFalse
+first-all n [] h e = allOf-nil
+first-all n (true ∷ bs) h e = allOf-cons true bs refl (first-all (suc n) bs (omega arith) e)
+first-all n (false ∷ bs) h e = absurd (omega arith)
+
+pub all-first : (n : ℕ) (l : List Bool) → allOf l ≡ true → firstFalse n l ≡ 0
+unfolding firstFalse allOf
+all-first n [] e = refl
+all-first n (true ∷ bs) e = all-first (suc n) bs e
+all-first n (false ∷ bs) e = absurd (false≢true e)

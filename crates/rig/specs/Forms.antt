@@ -1,0 +1,46 @@
+-- THE TWO FORMS of the sixty-four cycles, and the rig of all zeros.
+use mathlib.Core.List.{List, map}
+use Prim.Native.Nat.{ℕ}
+use lib.ListN.{replicate}
+use Rattle.rig.specs.declared.Row.{Row}
+use Rattle.rig.specs.declared.Cycle.{Cycle}
+use Rattle.rig.specs.declared.Rig.{Rig}
+use Rattle.rig.specs.Rules.{noRow, noCycle}
+
+-- "an array of arrays built from M lines, passed by value beside the rig; the record keeps it as an array of row structs"
+abbrev pub cycleOf : List ℕ → Cycle
+cycleOf flags = record { flags = flags }
+
+abbrev pub flagsOf : Cycle → List ℕ
+flagsOf cycle = cycle .flags
+
+unfoldable pub cyclesOf : List (List ℕ) → List Cycle
+cyclesOf table = map cycleOf table
+
+unfoldable pub tableOf : List Cycle → List (List ℕ)
+tableOf cycles = map flagsOf cycles
+
+-- "a refused rig is all zeros"
+abbrev pub noRig : Rig
+noRig =
+    record {
+      tasks = 0;
+      flags = 0;
+      master = 0;
+      alines = 0;
+      rows = 0;
+      controller = replicate 65 0;
+      priority = replicate 65 0;
+      privileged = replicate 65 0;
+      activation = replicate 65 0;
+      present = replicate 1040 0;
+      latched = replicate 1040 0;
+      desired = replicate 1040 0;
+      atask = replicate 1024 0;
+      apos = replicate 1024 0;
+      aflag = replicate 1024 0;
+      row = replicate 64 noRow;
+    }
+
+abbrev pub noCycles : List Cycle
+noCycles = replicate 64 noCycle
