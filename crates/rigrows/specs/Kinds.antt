@@ -64,6 +64,10 @@ highOf k f = getD highs (k * 9 + f) 0
 unfoldable pub sortOf : ℕ → ℕ → ℕ
 sortOf k f = getD sorts (k * 9 + f) 0
 
+-- "no task or flag number is above the RIG line's": of number f of a line of kind k, n, in a rig of so many tasks and flags
+unfoldable pub under : ℕ → ℕ → ℕ → ℕ → ℕ → Bool
+under tasks flags k f n = cond (eqb (sortOf k f) 1) (leb n tasks) (cond (eqb (sortOf k f) 2) (leb n flags) true)
+
 -- number f of a line of kind k is within its size
 unfoldable pub within : ℕ → ℕ → ℕ → Bool
 within k f n = leb (lowOf k f) n && leb n (highOf k f)

@@ -21,6 +21,7 @@ use Rattle.rigrows.specs.KindLaws.{kind-small, within-small}
 use Rattle.rigrows.specs.Line.{Line, first, others, lineOf, decimals, fits, placed, judge}
 use Rattle.rigrows.specs.Judged.{Sound, judged-sound, shaped-known, shaped-count, sized-fits}
 use Rattle.rigrows.specs.File.{Fault, fault, firstFault, faultOf, linesIn, linesOf}
+use Rattle.rigrows.specs.Turns.{fault-next, lines-next}
 use Rattle.rigrows.specs.Text.{bytesOf, text, Faultless}
 
 numbers-decs : (k f : ℕ) (ns : List ℕ) → fits k f ns ≡ true → map number (map dec ns) ≡ ns
@@ -131,34 +132,25 @@ line-read p r h e =
     let w = judged-sound p r e in
     rw (split-line r, kind-name (r .kind) (shaped-known r (w .shape)) h, numbers-decs (r .kind) 0 (r .nums) (sized-fits r (w .size)))
 
--- one line more in front of others
-fault-cons : (l : List ℕ) (s : List ℕ) (n p : ℕ) → judge p (lineOf l) ≡ 0 → firstFault n p (l ∷ split 10 s) ≡ firstFault (n + 1) (placed (lineOf l)) (split 10 s)
-unfolding firstFault
-fault-cons l s n p e = let w = split-cons 10 s in rw (w .2, e)
-
-lines-cons : (l : List ℕ) (s : List ℕ) → linesIn (l ∷ split 10 s) ≡ lineOf l ∷ linesIn (split 10 s)
-unfolding linesIn
-lines-cons l s = let w = split-cons 10 s in rw (w .2)
-
 text-lines : (rs : List Line) (p : ℕ) → Faultless p rs → linesIn (split 10 (text rs)) ≡ rs
 unfolding text
 text-lines [] p w = unfold split linesIn in refl
 text-lines (r ∷ rs) p w =
-    rw (split-piece 10 (bytesOf r) (text rs) (free-line r), lines-cons (bytesOf r) (text rs), line-read p r (w .0) (w .1), text-lines rs (placed r) (w .2))
+    rw (split-piece 10 (bytesOf r) (text rs) (free-line r), lines-next (bytesOf r) (text rs), line-read p r (w .0) (w .1), text-lines rs (placed r) (w .2))
 
 text-fault : (rs : List Line) (n p : ℕ) → 1 < n → Faultless p rs → firstFault n p (split 10 (text rs)) ≡ fault 0 0
 unfolding text
 text-fault [] n p h w = unfold split firstFault in rw (lt-ltb 1 n h)
 text-fault (r ∷ rs) n p h w =
     let e = line-read p r (w .0) (w .1) in
-    rw (split-piece 10 (bytesOf r) (text rs) (free-line r), fault-cons (bytesOf r) (text rs) n p (ap (judge p) e ∙ w .1), e)
+    rw (split-piece 10 (bytesOf r) (text rs) (free-line r), fault-next (bytesOf r) (text rs) n p, e, w .1)
     (text-fault rs (n + 1) (placed r) (omega arith) (w .2))
 
 pub read-lines : (r : Line) (rs : List Line) → Faultless 0 (r ∷ rs) → (faultOf (text (r ∷ rs)) ≡ fault 0 0) × (linesOf (text (r ∷ rs)) ≡ r ∷ rs)
 unfolding faultOf linesOf
 read-lines r rs w =
     let e = line-read 0 r (w .0) (w .1) in (
-      (unfold text in rw (split-piece 10 (bytesOf r) (text rs) (free-line r), fault-cons (bytesOf r) (text rs) 1 0 (ap (judge 0) e ∙ w .1), e) (text-fault rs (1 + 1) (placed r) (omega arith) (w .2))),
+      (unfold text in rw (split-piece 10 (bytesOf r) (text rs) (free-line r), fault-next (bytesOf r) (text rs) 1 0, e, w .1) (text-fault rs (1 + 1) (placed r) (omega arith) (w .2))),
       text-lines (r ∷ rs) 0 w,
     )
 

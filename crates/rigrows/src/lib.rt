@@ -3,7 +3,7 @@ ghost use mathlib.Core.Path.{_≡_};
 ghost use Prim.Native.Nat.{ℕ, _+_, _≤_, _<_};
 ghost use lib.ListN.{length, getD};
 ghost use Rattle.decimal.specs.Decimal.{cap};
-ghost use Rattle.rigrows.specs.Kinds.{kindOf, countOf, within, timed, listed, keyed, rank, follows, sortOf, letterOf};
+ghost use Rattle.rigrows.specs.Kinds.{kindOf, countOf, within, timed, listed, keyed, rank, follows, letterOf, under};
 
 // How many numbers a line may have: nine, those of the widest line of any edition.
 pub const WIDTH: usize = 9;
@@ -324,4 +324,19 @@ pub fn in_order(p: u64, k: usize, r: u64) -> bool
         return p <= r;
     }
     p < r
+}
+
+// Whether number `f` of a line of kind `k` is no task or flag number above the RIG line's.
+pub fn under(k: usize, f: usize, n: u8, tasks: u8, flags: u8) -> bool
+    requires { ⌜ (k < 7) × (f < 9) ⌝ }
+    ensures { λ r. ⌜ r ≡ under tasks flags k f n ⌝ }
+{
+    let sort = SORTS[k * 9 + f];
+    if sort == 1 {
+        return n <= tasks;
+    }
+    if sort == 2 {
+        return n <= flags;
+    }
+    true
 }
