@@ -8,3 +8,7 @@ pub mod Functions
 pub mod Members
 pub mod Order
 pub mod First
+pub mod Says
+pub mod Stores
+pub mod Bits
+pub mod Ordered
