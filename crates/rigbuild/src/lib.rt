@@ -212,7 +212,7 @@ pub fn whole(g: rig::Rig, table: [[u8; 15]; 64], marks: Marks) -> Answer
         return refused(4, 0, rule);
     }
     let cycles = rig::cycles_of(table);
-    let broken = g.broken(cycles);
+    let broken = rig::broken(g, cycles);
     if broken != 0 {
         return refused(4, 0, behind(broken));
     }

@@ -10,7 +10,7 @@ use Rattle.rigbuild.proofs.whole.Statement.{statement}
 use Rattle.rigbuild.proofs.whole.Tie as tie
 use Rattle.rigbuild.proofs.whole.Reads as reads
 use Rattle.rigbuild.proofs.whole.Lts as lts
-use Rattle.rig.proofs.Rig.broken.Reads as broken-reads
+use Rattle.rig.proofs.broken.Reads as broken-reads
 use Rattle.rig.proofs.cycles_of.Reads as cycles-of-reads
 use Rattle.rigbuild.proofs.behind.Reads as behind-reads
 use Rattle.rigbuild.proofs.marked_rule.Reads as marked-rule-reads
