@@ -1,0 +1,4 @@
+pub mod Line
+pub mod Kept
+pub mod File
+pub mod Lines
