@@ -29,6 +29,12 @@ and-go e f = rw e f
 pub and-stop : {a : Bool} (b : Bool) → a ≡ false → (a && b) ≡ false
 and-stop b e = rw e
 
+pub or-yes : (a b : Bool) → a ≡ true → true ≡ (a || b)
+or-yes a b e = rw e
+
+pub or-skip : (a b : Bool) → a ≡ false → b ≡ (a || b)
+or-skip a b e = rw e
+
 pub if-yes : {A : Type 0} {b : Bool} {x z : A} (y : A) → b ≡ true → x ≡ z → cond b x y ≡ z
 if-yes y e f = rw e f
 
