@@ -1,7 +1,8 @@
 -- THE FILE OF A RIG: its lines in the file's order, and their text.
 use Prim.Native.Nat.{ℕ, zero, suc, _+_, _*_, _/_, _%_}
 use mathlib.Core.Bool.{Bool, true, false, cond, not, _&&_}
-use mathlib.Core.List.{List, [], _∷_, _++_}
+use mathlib.Core.Path.{_≡_}
+use mathlib.Core.List.{List, [], _∷_, _++_, append-assoc}
 use lib.Dec.{eqb, leb, ltb}
 use lib.ListN.{length, getD}
 use Rattle.rig.specs.declared.Row.{Row}
@@ -10,7 +11,7 @@ use Rattle.rig.specs.declared.Rig.{Rig}
 use Rattle.rig.specs.Rules.{noRow}
 use Rattle.rigrows.specs.Line.{Line}
 use Rattle.rigrows.specs.Text.{text}
-use Rattle.rigwrite.specs.Kept.{kept}
+use Rattle.rigwrite.specs.Kept.{kept, ended, text-append}
 
 abbrev pub line : ℕ → List ℕ → Line
 line k ns = record { kind = k; nums = ns }
@@ -72,3 +73,24 @@ linesFrom g table =
 
 unfoldable pub fileOf : Rig → List (List ℕ) → List ℕ
 fileOf g table = text (linesFrom g table)
+
+-- the parts of the file, one behind the other
+abbrev pub tasksText : Rig → List ℕ
+tasksText g = text (kept 65 (isTask g) (taskLine g))
+
+abbrev pub conditionsText : Rig → List ℕ
+conditionsText g = text (kept 1040 (isCondition g) (conditionLine g))
+
+abbrev pub linesText : Rig → List ℕ
+linesText g = text (kept 1024 (isLine g) (flagLine g))
+
+abbrev pub cyclesText : List (List ℕ) → List ℕ
+cyclesText table = text (kept 960 (isFlag table) (cycleLine table))
+
+abbrev pub rowsText : Rig → List ℕ
+rowsText g = text (kept 64 (isRow g) (rowLine g))
+
+pub file-parts : (g : Rig) (table : List (List ℕ)) →
+    ((((ended (rigLine g) ++ tasksText g) ++ conditionsText g) ++ linesText g) ++ cyclesText table) ++ rowsText g ≡ fileOf g table
+unfolding fileOf linesFrom text
+file-parts g table = simp (text-append, append-assoc)

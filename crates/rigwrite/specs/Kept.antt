@@ -111,3 +111,34 @@ module _ (b₀ b : List ℕ) (at n : ℕ) (p : ℕ → Bool) (f : ℕ → Line) 
 -- room for one text is room for the same text
 pub room-as : (l m : List ℕ) (q n : ℕ) → l ≡ m → q + length m ≤ n → q + length l ≤ n
 room-as l m q n e h = rw e h
+
+-- a text written in parts, one behind the other
+pub record Wrote (b₀ b : List ℕ) (l : List ℕ) (q : ℕ) : Type 0 where
+  pub place : q ≡ length l
+  pub written : b ≡ put b₀ 0 l
+  pub size : length b ≡ length b₀
+
+module _ (b₀ b : List ℕ) (a : List ℕ) (q : ℕ) (w : Wrote b₀ b a q) where
+  pub part-room : (c : List ℕ) → length (a ++ c) ≤ length b₀ → q + length c ≤ length b
+  part-room c h = let k = length-append a c in let e = w .place in let s = w .size in omega arith
+
+  pub part-on : (c : List ℕ) (r : ℕ) (d : List ℕ) → length (a ++ c) ≤ length b₀ → r ≡ q + length c → d ≡ put b q c → Wrote b₀ d (a ++ c) r
+  part-on c r d h e t =
+      let k = length-append a c in
+      let p = w .place in
+      let s = w .size in
+      let z : 0 + length a ≡ q = omega arith in
+      let o : 0 + length (a ++ c) ≤ length b₀ = omega arith in
+      record {
+        place = omega arith;
+        written = t ∙ (ap (λ (x : List ℕ). put x q c) (w .written) ∙ (ap (λ (x : ℕ). put (put b₀ 0 a) x c) (sym z) ∙ put-put b₀ 0 a c o));
+        size = ap length t ∙ (length-put b q c (omega arith) ∙ s);
+      }
+
+pub part-first : (b₀ b : List ℕ) (l : List ℕ) (q : ℕ) → length l ≤ length b₀ → q ≡ 0 + length l → b ≡ put b₀ 0 l → Wrote b₀ b l q
+part-first b₀ b l q h e t =
+    record { place = omega arith; written = t; size = ap length t ∙ length-put b₀ 0 l (omega arith) }
+
+-- what is a part of a text is no longer than it
+pub part-short : (a c : List ℕ) (n : ℕ) → length (a ++ c) ≤ n → length a ≤ n
+part-short a c n h = let k = length-append a c in omega arith
