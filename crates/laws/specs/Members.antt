@@ -192,6 +192,7 @@ without-keep x p (y ∷ ys) =
     by (p y)
     (λ e. by (eqb y x) (λ f. rw (e, f, without-keep x p ys)) (λ f. rw (e, f, without-keep x p ys)))
     (λ e. rw (e, without-keep x p ys))
+
 -- who stands at a place of a list is in it, and who is in it stands at some place
 pub at-in : (a : ℕ) (xs : List ℕ) (i : ℕ) → i < length xs → getD xs i 0 ≡ a → In a xs
 at-in a [] i h e = absurd (omega arith)

@@ -2,3 +2,4 @@ pub mod Line
 pub mod Kept
 pub mod File
 pub mod Lines
+pub mod Chain

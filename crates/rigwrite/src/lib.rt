@@ -2,13 +2,13 @@
 ghost use mathlib.Core.Path.{_≡_};
 ghost use mathlib.Core.List.{_∷_, []};
 ghost use Prim.Native.Nat.{ℕ, _+_, _≤_, _<_};
-ghost use lib.ListN.{length, getD};
+ghost use lib.ListN.{length, getD, take};
 ghost use Rattle.laws.specs.Put.{put};
 ghost use Rattle.rigrows.specs.Kinds.{nameOf};
 ghost use Rattle.rigrows.specs.Text.{text};
 ghost use Rattle.rigwrite.specs.Line.{begun, lineText};
 ghost use Rattle.rigwrite.specs.Kept.{kept, ended};
-ghost use Rattle.rigwrite.specs.File.{rigLine, isTask, taskLine, isCondition, conditionLine, isLine, flagLine, isFlag, cycleLine, isRow, rowLine, busNumbers};
+ghost use Rattle.rigwrite.specs.File.{rigLine, isTask, taskLine, isCondition, conditionLine, isLine, flagLine, isFlag, cycleLine, isRow, rowLine, busNumbers, fileOf};
 
 fn wide(x: u8) -> usize
     ensures { λ r. ⌜ r ≡ x ⌝ }
@@ -238,4 +238,29 @@ fn put_rows(buf: &mut [u8], at: usize, g: rig::Rig) -> usize
         p = put_line(&mut *buf, p, 6, v);
     }
     p
+}
+
+// The whole file, from the buffer's start.
+fn put_file(buf: &mut [u8], g: rig::Rig, table: [[u8; 15]; 64]) -> usize
+    requires { ⌜ length (fileOf g table) ≤ length (now buf) ⌝ }
+    ensures { λ r. ⌜ (r ≡ length (fileOf g table)) × (now (buf .exit) ≡ put (now (buf .entry)) 0 (fileOf g table)) ⌝ }
+{
+    let a = put_rig(&mut *buf, 0, g);
+    let b = put_tasks(&mut *buf, a, g);
+    let c = put_conditions(&mut *buf, b, g);
+    let d = put_alines(&mut *buf, c, g);
+    let e = put_cycles(&mut *buf, d, table);
+    put_rows(&mut *buf, e, g)
+}
+
+// The first `n` bytes of `from`, at the start of `buf`.
+fn copy_in(buf: &mut [u8], from: &[u8], n: usize)
+    requires { ⌜ (n ≤ length (now buf)) × (n ≤ length (now from)) ⌝ }
+    ensures { λ r. ⌜ now (buf .exit) ≡ put (now (buf .entry)) 0 (take n (now (from .entry))) ⌝ }
+{
+    let mut i: usize = 0;
+    while i < n {
+        buf[i] = from[i];
+        i += 1;
+    }
 }
