@@ -8,6 +8,7 @@ ghost use Rattle.rigrows.specs.Kinds.{nameOf};
 ghost use Rattle.rigrows.specs.Text.{text};
 ghost use Rattle.rigwrite.specs.Line.{begun, lineText};
 ghost use Rattle.rigwrite.specs.Kept.{kept, ended};
+ghost use Rattle.rigwrite.specs.Written.{writtenOf, bufferOf};
 ghost use Rattle.rigwrite.specs.File.{rigLine, isTask, taskLine, isCondition, conditionLine, isLine, flagLine, isFlag, cycleLine, isRow, rowLine, busNumbers, fileOf};
 
 fn wide(x: u8) -> usize
@@ -263,4 +264,28 @@ fn copy_in(buf: &mut [u8], from: &[u8], n: usize)
         buf[i] = from[i];
         i += 1;
     }
+}
+
+// What writing answers: the file's length, or the refusal number.
+pub enum Written {
+    Done(usize),
+    Refused(u8),
+}
+
+// Writes the file of a rig into the lent buffer. It is put together in a buffer of its own, which the file of a right rig
+// always fits, so that nothing is written where the lent one is too short.
+pub fn write(buf: &mut [u8], g: rig::Rig, cycles: [rig::Cycle; 64]) -> Written
+    ensures { λ r. ⌜ (r ≡ writtenOf g cycles (length (now (buf .entry)))) × (now (buf .exit) ≡ bufferOf g cycles (now (buf .entry))) ⌝ }
+{
+    if !rig::right(g, cycles) {
+        return Written::Refused(4);
+    }
+    let table = rig::table_of(cycles);
+    let mut own = [0u8; 40960];
+    let n = put_file(&mut own, g, table);
+    if buf.len() < n {
+        return Written::Refused(10);
+    }
+    copy_in(&mut *buf, &own, n);
+    Written::Done(n)
 }
