@@ -13,7 +13,6 @@ pub mod Says
 pub mod Stores
 pub mod Bits
 pub mod Ordered
-pub mod First
 pub mod Decides
 pub mod Owners
 pub mod Mapped
