@@ -1,0 +1,3 @@
+pub mod Script
+pub mod Output
+pub mod Fields

@@ -1,0 +1,113 @@
+// Script lines and output lines of the bench runner.
+ghost use mathlib.Core.Path.{_≡_};
+ghost use mathlib.Core.List.{List, [], _∷_, _++_};
+ghost use Prim.Native.Nat.{ℕ, _+_, _≤_, _<_};
+ghost use lib.ListN.{length, take};
+ghost use Rattle.laws.specs.Put.{put};
+ghost use Rattle.decimal.specs.Decimal.{cap, dec};
+ghost use Rattle.script.specs.Script.{verbOf, alone, withNumber, withValue, saidOf};
+ghost use Rattle.script.specs.Output.{fieldsText};
+
+// What a script line says: a call with its numbers, or nothing that a script line may say.
+pub enum Said {
+    Schedule(u32),
+    Cancel(u32),
+    Terminate(u32),
+    Finish,
+    Tick,
+    Until(u32),
+    Cycles(u32),
+    Latched(u32, bool),
+    Unlatched(u32, bool),
+    Signal(u32, bool),
+    Ask(u32),
+    Wrong,
+}
+
+fn verb_of(f: &[u8]) -> u8
+    ensures { λ r. ⌜ r ≡ verbOf (now (f .entry)) ⌝ }
+{
+    if f.len() == 1 { f[0] } else { 0 }
+}
+
+fn alone(v: u8) -> Said
+    ensures { λ r. ⌜ r ≡ alone v ⌝ }
+{
+    if v == 70 {
+        return Said::Finish;
+    }
+    if v == 75 {
+        return Said::Tick;
+    }
+    Said::Wrong
+}
+
+fn with_number(v: u8, n: u32) -> Said
+    ensures { λ r. ⌜ r ≡ withNumber v n ⌝ }
+{
+    if v == 83 {
+        return Said::Schedule(n);
+    }
+    if v == 88 {
+        return Said::Cancel(n);
+    }
+    if v == 90 {
+        return Said::Terminate(n);
+    }
+    if v == 85 {
+        return Said::Until(n);
+    }
+    if v == 82 {
+        return Said::Cycles(n);
+    }
+    if v == 81 {
+        return Said::Ask(n);
+    }
+    Said::Wrong
+}
+
+fn with_value(v: u8, f: u32, b: bool) -> Said
+    ensures { λ r. ⌜ r ≡ withValue v f b ⌝ }
+{
+    if v == 76 {
+        return Said::Latched(f, b);
+    }
+    if v == 78 {
+        return Said::Unlatched(f, b);
+    }
+    if v == 71 {
+        return Said::Signal(f, b);
+    }
+    Said::Wrong
+}
+
+// What a script line, without its LF, says.
+pub fn read_line(line: &[u8]) -> Said
+    ensures { λ r. ⌜ r ≡ saidOf (now (line .entry)) ⌝ }
+{
+    let e = line.len();
+    let p = text::find(line, 0, e, 9);
+    let v = verb_of(&line[0..p]);
+    if p == e {
+        return alone(v);
+    }
+    let a = p + 1;
+    let q = text::find(line, a, e, 9);
+    let n = decimal::number_in(&line[a..q]);
+    if decimal::CAP <= n {
+        return Said::Wrong;
+    }
+    if q == e {
+        return with_number(v, n as u32);
+    }
+    let b = q + 1;
+    let t = text::find(line, b, e, 9);
+    if t < e {
+        return Said::Wrong;
+    }
+    let x = decimal::number_in(&line[b..t]);
+    if 1 < x {
+        return Said::Wrong;
+    }
+    with_value(v, n as u32, x == 1)
+}
