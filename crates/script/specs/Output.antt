@@ -11,4 +11,4 @@ fieldsText numbers = led 9 (map dec numbers)
 
 -- the verb's letters, the numbers, and LF
 unfoldable pub lineText : List ℕ → List ℕ → List ℕ
-lineText verb numbers = (verb ++ fieldsText numbers) ++ (10 ∷ [])
+lineText verb numbers = verb ++ (fieldsText numbers ++ (10 ∷ []))

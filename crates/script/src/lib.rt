@@ -1,12 +1,13 @@
 // Script lines and output lines of the bench runner.
 ghost use mathlib.Core.Path.{_≡_};
 ghost use mathlib.Core.List.{List, [], _∷_, _++_};
-ghost use Prim.Native.Nat.{ℕ, _+_, _≤_, _<_};
+ghost use Prim.Native.Nat.{ℕ, _+_, _*_, _≤_, _<_};
 ghost use lib.ListN.{length, take};
 ghost use Rattle.laws.specs.Put.{put};
 ghost use Rattle.decimal.specs.Decimal.{cap, dec};
 ghost use Rattle.script.specs.Script.{verbOf, alone, withNumber, withValue, saidOf};
 ghost use Rattle.script.specs.Output.{fieldsText};
+ghost use Rattle.script.specs.Written.{Wrote};
 
 // What a script line says: a call with its numbers, or nothing that a script line may say.
 pub enum Said {
@@ -110,4 +111,46 @@ pub fn read_line(line: &[u8]) -> Said
         return Said::Wrong;
     }
     with_value(v, n as u32, x == 1)
+}
+
+// A tab and the decimal of n are written at `at`; the place after them is answered.
+fn put_field(out: &mut [u8], at: usize, n: u32) -> usize
+    requires { ⌜ at + 11 ≤ length (now out) ⌝ }
+    ensures { λ r. ⌜ Wrote (now (out .entry)) at (fieldsText (n ∷ [])) (now (out .exit)) r ⌝ }
+{
+    let a = at + 1;
+    let w = n as u64;
+    out[at] = 9;
+    decimal::put_number(out, a, w)
+}
+
+fn wide(w: u16) -> u32
+    ensures { λ r. ⌜ r ≡ w ⌝ }
+{
+    w as u32
+}
+
+// Each word after a tab.
+pub fn put_words(out: &mut [u8], at: usize, words: &[u16]) -> usize
+    requires { ⌜ at + 11 * length (now words) ≤ length (now out) ⌝ }
+    ensures { λ r. ⌜ Wrote (now (out .entry)) at (fieldsText (now (words .entry))) (now (out .exit)) r ⌝ }
+{
+    let mut p = at;
+    let mut i: usize = 0;
+    while i < words.len() {
+        let w = wide(words[i]);
+        p = put_field(&mut *out, p, w);
+        i += 1;
+    }
+    p
+}
+
+// The numbers that every answer has: the answer's own, the count, the running task.
+pub fn put_answer(out: &mut [u8], at: usize, code: u32, count: u32, running: u32) -> usize
+    requires { ⌜ at + 33 ≤ length (now out) ⌝ }
+    ensures { λ r. ⌜ Wrote (now (out .entry)) at (fieldsText (code ∷ count ∷ running ∷ [])) (now (out .exit)) r ⌝ }
+{
+    let b = put_field(&mut *out, at, code);
+    let c = put_field(&mut *out, b, count);
+    put_field(out, c, running)
 }
