@@ -1,6 +1,6 @@
 -- Cases on a test, with what the test says, and steps through `&&` and `cond` by what the tests said.
 use mathlib.Core.Path.{_≡_, refl}
-use mathlib.Core.Bool.{Bool, true, false, cond, _&&_}
+use mathlib.Core.Bool.{Bool, true, false, cond, _&&_, _||_, true≢false, false≢true}
 use Prim.Native.Nat.{ℕ, suc, _<_}
 use native.Mathlib.Omega.{arith}
 use lib.Dec.{eqb}
@@ -34,3 +34,24 @@ if-yes y e f = rw e f
 
 pub if-no : {A : Type 0} {b : Bool} {y z : A} (x : A) → b ≡ false → y ≡ z → cond b x y ≡ z
 if-no x e f = rw e f
+
+-- two numbers are equal or not
+pub dec-eq : (a b : ℕ) → Dec (a ≡ b)
+dec-eq a b = by-bool (eqb a b) (λ c. Dec (a ≡ b)) (λ e. yes (eqb-true a b e)) (λ e. no (eqb-false a b e))
+
+-- what a test that is made of two says
+pub or-false : (a b : Bool) → (a || b) ≡ false → (a ≡ false) × (b ≡ false)
+or-false true b e = absurd (true≢false e)
+or-false false b e = (refl, e)
+
+pub and-true : (a b : Bool) → (a && b) ≡ true → (a ≡ true) × (b ≡ true)
+and-true true b e = (refl, e)
+and-true false b e = absurd (false≢true e)
+
+pub and-yes : (b : Bool) → (b && true) ≡ b
+and-yes true = refl
+and-yes false = refl
+
+pub and-no : (b : Bool) → (b && false) ≡ false
+and-no true = refl
+and-no false = refl

@@ -7,3 +7,6 @@ pub mod Put
 pub mod Functions
 pub mod Members
 pub mod Order
+pub mod Says
+pub mod Stores
+pub mod Bits

@@ -1,14 +1,14 @@
 -- Who is in a list, lists in which no element comes twice, and lists that some have left.
 use mathlib.Core.Path.{_≡_, refl, sym, _∙_, ap, subst}
 use mathlib.Core.Logic.{_⊎_, inl, inr, ⊎-elim, _≢_}
-use mathlib.Core.Bool.{Bool, true, false, cond, not, _&&_}
+use mathlib.Core.Bool.{Bool, true, false, cond, not, _&&_, false≢true}
 use mathlib.Core.List.{List, [], _∷_, _++_, reverse, reverse-cons}
 use Prim.Native.Nat.{ℕ, zero, suc, _+_, _≤_, _<_}
 use native.Mathlib.Omega.{arith}
 use lib.Dec.{eqb}
 use lib.ListN.{length}
 use borrow.Author.Tests.{eq-eqb, ne-eqb, eqb-true, eqb-false}
-use Rattle.laws.specs.Cases.{by}
+use Rattle.laws.specs.Cases.{by, dec-eq}
 
 -- a is an element of the list
 abbrev pub In : ℕ → List ℕ → Type 0
@@ -130,3 +130,65 @@ pub in-keep : (p : ℕ → Bool) (a : ℕ) (xs : List ℕ) → In a (keep p xs) 
 in-keep p a [] = λ i. i
 in-keep p a (x ∷ xs) =
     by (p x) (λ q. rw q (λ i. ⊎-elim (λ e. inl e) (λ j. inr (in-keep p a xs j)) i)) (λ q. rw q (λ i. inr (in-keep p a xs i)))
+
+pub dec-in : (a : ℕ) (xs : List ℕ) → Dec (In a xs)
+dec-in a [] = no (λ i. i)
+dec-in a (x ∷ xs) = go (dec-eq a x) (dec-in a xs)
+  where
+    go : Dec (a ≡ x) → Dec (In a xs) → Dec (In a (x ∷ xs))
+    go (yes e) d = yes (inl e)
+    go (no n) (yes i) = yes (inr i)
+    go (no n) (no m) = no (λ j. ⊎-elim n m j)
+
+-- who is in a list and is not x is in it without x
+pub without-in : (x a : ℕ) (xs : List ℕ) → In a xs → a ≢ x → In a (without x xs)
+without-in x a [] i n = absurd i
+without-in x a (y ∷ ys) i n =
+    by (eqb y x)
+    (λ e. rw e (⊎-elim (λ q. absurd (n (q ∙ eqb-true y x e))) (λ j. without-in x a ys j n) i))
+    (λ e. rw e (⊎-elim (λ q. inl q) (λ j. inr (without-in x a ys j n)) i))
+
+-- the elements that pass a test pass it; an element that passes is kept
+pub keep-test : (p : ℕ → Bool) (a : ℕ) (xs : List ℕ) → In a (keep p xs) → p a ≡ true
+keep-test p a [] = λ i. absurd i
+keep-test p a (x ∷ xs) =
+    by (p x) (λ q. rw q (λ i. ⊎-elim (λ e. ap p e ∙ q) (λ j. keep-test p a xs j) i)) (λ q. rw q (λ i. keep-test p a xs i))
+
+pub keep-in : (p : ℕ → Bool) (a : ℕ) (xs : List ℕ) → In a xs → p a ≡ true → In a (keep p xs)
+keep-in p a [] i q = absurd i
+keep-in p a (x ∷ xs) i q =
+    by (p x)
+    (λ e. rw e (⊎-elim (λ z. inl z) (λ j. inr (keep-in p a xs j q)) i))
+    (λ e. rw e (⊎-elim (λ z. absurd (false≢true (sym e ∙ (sym (ap p z) ∙ q)))) (λ j. keep-in p a xs j q) i))
+
+pub distinct-keep : (p : ℕ → Bool) (xs : List ℕ) → Distinct xs → Distinct (keep p xs)
+distinct-keep p [] d = tt
+distinct-keep p (x ∷ xs) d =
+    by (p x) (λ q. rw q ((λ i. d .0 (in-keep p x xs i)), distinct-keep p xs (d .1))) (λ q. rw q (distinct-keep p xs (d .1)))
+
+-- one that is not in the list goes to its end
+pub distinct-end : (a : ℕ) (xs : List ℕ) → (In a xs → ⊥) → Distinct xs → Distinct (xs ++ a ∷ [])
+distinct-end a [] n d = ((λ i. i), tt)
+distinct-end a (x ∷ xs) n d = (
+  (λ i. ⊎-elim (λ j. d .0 j) (λ j. ⊎-elim (λ q. n (inl (sym q))) (λ z. z) j) (in-cases x xs (a ∷ []) i)),
+  distinct-end a xs (λ i. n (inr i)) (d .1),
+)
+
+-- ---- tests of elements, one after the other
+
+-- tests that agree on the list's elements keep the same
+pub keep-same : (p q : ℕ → Bool) (xs : List ℕ) → ((a : ℕ) → In a xs → p a ≡ q a) → keep p xs ≡ keep q xs
+keep-same p q [] h = refl
+keep-same p q (x ∷ xs) h = rw (h x (inl refl), keep-same p q xs (λ a i. h a (inr i)))
+
+pub keep-all : (p : ℕ → Bool) (xs : List ℕ) → ((a : ℕ) → In a xs → p a ≡ true) → keep p xs ≡ xs
+keep-all p [] h = refl
+keep-all p (x ∷ xs) h = rw (h x (inl refl), keep-all p xs (λ a i. h a (inr i)))
+
+-- to be without x is to fail the test of being x
+pub without-keep : (x : ℕ) (p : ℕ → Bool) (xs : List ℕ) → without x (keep p xs) ≡ keep (λ (y : ℕ). p y && not (eqb y x)) xs
+without-keep x p [] = refl
+without-keep x p (y ∷ ys) =
+    by (p y)
+    (λ e. by (eqb y x) (λ f. rw (e, f, without-keep x p ys)) (λ f. rw (e, f, without-keep x p ys)))
+    (λ e. rw (e, without-keep x p ys))

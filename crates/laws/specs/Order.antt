@@ -8,7 +8,7 @@ use native.Mathlib.Omega.{arith}
 use lib.Dec.{eqb, leb, ltb}
 use borrow.Author.Tests.{le-leb, lt-leb, leb-true, leb-false}
 use Rattle.laws.specs.Cases.{by}
-use Rattle.laws.specs.Members.{In, keep, in-keep}
+use Rattle.laws.specs.Members.{In, Distinct, without, in-without, keep, in-keep}
 
 -- x goes behind all whose key is at most its own, before the first with a larger one
 abbrev pub place : (ℕ → ℕ) → ℕ → List ℕ → List ℕ
@@ -101,3 +101,33 @@ keep-place-out W p x (y ∷ ys) q =
     by (leb (W y) (W x))
     (λ e. by (p y) (λ r. rw (e, r, keep-place-out W p x ys q)) (λ r. rw (e, r, keep-place-out W p x ys q)))
     (λ e. rw (e, q))
+
+-- ---- who is placed: the list's own, and the one
+
+pub place-new : (W : ℕ → ℕ) (x : ℕ) (xs : List ℕ) → In x (place W x xs)
+place-new W x [] = inl refl
+place-new W x (y ∷ ys) = by (leb (W y) (W x)) (λ e. rw e (inr (place-new W x ys))) (λ e. rw e (inl refl))
+
+pub place-old : (W : ℕ → ℕ) (x a : ℕ) (xs : List ℕ) → In a xs → In a (place W x xs)
+place-old W x a [] i = absurd i
+place-old W x a (y ∷ ys) i =
+    by (leb (W y) (W x))
+    (λ e. rw e (⊎-elim (λ q. inl q) (λ j. inr (place-old W x a ys j)) i))
+    (λ e. rw e (inr i))
+
+pub place-distinct : (W : ℕ → ℕ) (x : ℕ) (xs : List ℕ) → (In x xs → ⊥) → Distinct xs → Distinct (place W x xs)
+place-distinct W x [] n d = ((λ i. i), tt)
+place-distinct W x (y ∷ ys) n d =
+    by (leb (W y) (W x))
+    (λ e. rw e (
+      (λ i. ⊎-elim (λ q. n (inl (sym q))) (λ j. d .0 j) (in-place W x y ys i)),
+      place-distinct W x ys (λ i. n (inr i)) (d .1),
+    ))
+    (λ e. rw e (n, d))
+
+pub without-sorted : (W : ℕ → ℕ) (x : ℕ) (xs : List ℕ) → Sorted W xs → Sorted W (without x xs)
+without-sorted W x [] s = tt
+without-sorted W x (y ∷ ys) s =
+    by (eqb y x)
+    (λ e. rw e (without-sorted W x ys (s .1)))
+    (λ e. rw e ((λ a i. s .0 a (in-without x a ys i .0)), without-sorted W x ys (s .1)))
