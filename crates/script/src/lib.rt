@@ -8,6 +8,7 @@ ghost use Rattle.decimal.specs.Decimal.{cap, dec};
 ghost use Rattle.script.specs.Script.{verbOf, alone, withNumber, withValue, saidOf};
 ghost use Rattle.script.specs.Output.{fieldsText};
 ghost use Rattle.script.specs.Written.{Wrote};
+ghost use Rattle.script.specs.Input.{isRun, rigEnd};
 
 // What a script line says: a call with its numbers, or nothing that a script line may say.
 pub enum Said {
@@ -153,4 +154,38 @@ pub fn put_answer(out: &mut [u8], at: usize, code: u32, count: u32, running: u32
     let b = put_field(&mut *out, at, code);
     let c = put_field(&mut *out, b, count);
     put_field(out, c, running)
+}
+
+fn is_run(line: &[u8]) -> bool
+    ensures { λ r. ⌜ r ≡ isRun (now (line .entry)) ⌝ }
+{
+    if line.len() != 3 {
+        return false;
+    }
+    if line[0] != 82 {
+        return false;
+    }
+    if line[1] != 85 {
+        return false;
+    }
+    line[2] == 78
+}
+
+// Where the rig ends: before the first line RUN, or with the input.
+pub fn rig_end(input: &[u8]) -> usize
+    ensures { λ r. ⌜ r ≡ rigEnd (now (input .entry)) ⌝ }
+{
+    let n = input.len();
+    let mut i: usize = 0;
+    while i < n {
+        let e = lines::line_of(input, i);
+        if e == n {
+            return n;
+        }
+        if is_run(&input[i..e]) {
+            return i;
+        }
+        i = e + 1;
+    }
+    n
 }
