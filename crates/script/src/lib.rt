@@ -115,7 +115,7 @@ pub fn read_line(line: &[u8]) -> Said
 }
 
 // A tab and the decimal of n are written at `at`; the place after them is answered.
-fn put_field(out: &mut [u8], at: usize, n: u32) -> usize
+pub fn put_field(out: &mut [u8], at: usize, n: u32) -> usize
     requires { ⌜ at + 11 ≤ length (now out) ⌝ }
     ensures { λ r. ⌜ Wrote (now (out .entry)) at (fieldsText (n ∷ [])) (now (out .exit)) r ⌝ }
 {
