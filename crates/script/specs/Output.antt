@@ -12,3 +12,7 @@ fieldsText numbers = led 9 (map dec numbers)
 -- the verb's letters, the numbers, and LF
 unfoldable pub lineText : List ℕ → List ℕ → List ℕ
 lineText verb numbers = verb ++ (fieldsText numbers ++ (10 ∷ []))
+
+-- "A refused rig prints START, number, line"; an accepted one START with the numbers of every answer
+abbrev pub startName : List ℕ
+startName = 83 ∷ 84 ∷ 65 ∷ 82 ∷ 84 ∷ []

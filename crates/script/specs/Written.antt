@@ -2,6 +2,7 @@
 use Prim.Native.Nat.{ℕ, zero, suc, _+_, _*_, _/_, _%_, _≤_, _<_}
 use mathlib.Core.Path.{_≡_, refl, sym, ap, _∙_, subst}
 use mathlib.Core.Bool.{Bool, true, false, cond}
+use mathlib.Core.Logic.{_⊎_, inl, inr}
 use mathlib.Core.List.{List, [], _∷_, _++_, map, append-assoc, append-nil}
 use native.Mathlib.Omega.{arith}
 use native.Mathlib.Numerals.{add-one}
@@ -13,7 +14,7 @@ use Rattle.laws.specs.Cases.{by}
 use Rattle.laws.specs.Put.{put, put-one, put-put, length-put}
 use Rattle.decimal.specs.Decimal.{decBy, dec}
 use Rattle.text.specs.Split.{led}
-use Rattle.script.specs.Output.{fieldsText}
+use Rattle.script.specs.Output.{fieldsText, lineText, startName}
 
 length-take-most : (i : ℕ) (l : List ℕ) → length (take i l) ≤ i
 length-take-most i l = rw length-take (omega arith)
@@ -173,3 +174,63 @@ module _ (l : List ℕ) (at a : ℕ) (h : at + 33 ≤ length l) (m : List ℕ) (
         let g = fields-length (c ∷ []) in
         wrote-as l o (fieldsText (a ∷ b ∷ []) ++ fieldsText (c ∷ [])) (fieldsText (a ∷ b ∷ c ∷ [])) at r (sym (fields-append (a ∷ b ∷ []) (c ∷ [])))
         (wrote-then l n o (fieldsText (a ∷ b ∷ [])) (fieldsText (c ∷ [])) at q r (omega arith) two-wrote w)
+
+-- ---- the first output line
+
+-- the line START with these numbers stands at the front, if there is room for it
+pub record Begun (out numbers after : List ℕ) (p : ℕ) : Type 0 where
+  pub is : ((64 ≤ length out) × Wrote out 0 (lineText startName numbers) after p) ⊎ ((length out < 64) × (after ≡ out) × (p ≡ 0))
+
+name-is : (l : List ℕ) → 5 ≤ length l → set (set (set (set (set l 0 83) 1 84) 2 65) 3 82) 4 84 ≡ put l 0 startName
+unfolding put
+name-is [] h = absurd (let z : ⊥ = omega arith in z)
+name-is (a ∷ []) h = absurd (let z : ⊥ = omega arith in z)
+name-is (a ∷ b ∷ []) h = absurd (let z : ⊥ = omega arith in z)
+name-is (a ∷ b ∷ c ∷ []) h = absurd (let z : ⊥ = omega arith in z)
+name-is (a ∷ b ∷ c ∷ d ∷ []) h = absurd (let z : ⊥ = omega arith in z)
+name-is (a ∷ b ∷ c ∷ d ∷ e ∷ l) h = refl
+
+pub set-lengths : (l : List ℕ)
+    → (length (set (set l 0 83) 1 84) ≡ length l) × (length (set (set (set l 0 83) 1 84) 2 65) ≡ length l) × (length (set (set (set (set l 0 83) 1 84) 2 65) 3 82) ≡ length l)
+set-lengths l = (simp length-set, simp length-set, simp length-set)
+
+pub name-wrote : (l : List ℕ) → 5 ≤ length l → Wrote l 0 startName (set (set (set (set (set l 0 83) 1 84) 2 65) 3 82) 4 84) 5
+name-wrote l h =
+    record { place = refl; text = name-is l h; size = ap length (name-is l h) ∙ length-put l 0 startName (omega arith) }
+
+module _ (out numbers m o : List ℕ) (p : ℕ) (h : 64 ≤ length out) (few : length numbers ≤ 3) (n : Wrote out 0 startName m 5) (w : Wrote m 5 (fieldsText numbers) o p) where
+  named : Wrote out 0 (startName ++ fieldsText numbers) o p
+  named =
+      let f = fields-length numbers in
+      wrote-then out m o startName (fieldsText numbers) 0 5 p (omega arith) n w
+
+  pub begun-room : p < length o
+  begun-room =
+      let f = fields-length numbers in
+      let a = w .place in
+      let b = w .size in
+      let c = n .size in
+      omega arith
+
+  pub begun-done : Begun out numbers (set o p 10) (p + 1)
+  unfolding lineText
+  begun-done =
+      let f = fields-length numbers in
+      let a = named .place in
+      let l = length-append startName (fieldsText numbers) in
+      record {
+        is = inl (
+          h,
+          wrote-as out (set o p 10) ((startName ++ fieldsText numbers) ++ (10 ∷ [])) (lineText startName numbers) 0 (p + 1)
+          (append-assoc startName (fieldsText numbers) (10 ∷ []))
+          (wrote-then out o (set o p 10) (startName ++ fieldsText numbers) (10 ∷ []) 0 p (p + 1) (omega arith) named (byte-wrote o p 10 begun-room)),
+        );
+      }
+
+pub two-fields-wrote : (l m o : List ℕ) (at a b p q : ℕ) → at + 22 ≤ length l → Wrote l at (fieldsText (a ∷ [])) m p → Wrote m p (fieldsText (b ∷ [])) o q
+    → Wrote l at (fieldsText (a ∷ b ∷ [])) o q
+two-fields-wrote l m o at a b p q h u v =
+    let f = fields-length (a ∷ []) in
+    let g = fields-length (b ∷ []) in
+    wrote-as l o (fieldsText (a ∷ []) ++ fieldsText (b ∷ [])) (fieldsText (a ∷ b ∷ [])) at q (sym (fields-append (a ∷ []) (b ∷ [])))
+    (wrote-then l m o (fieldsText (a ∷ [])) (fieldsText (b ∷ [])) at p q (omega arith) u v)

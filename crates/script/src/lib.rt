@@ -6,8 +6,8 @@ ghost use lib.ListN.{length, take};
 ghost use Rattle.laws.specs.Put.{put};
 ghost use Rattle.decimal.specs.Decimal.{cap, dec};
 ghost use Rattle.script.specs.Script.{verbOf, alone, withNumber, withValue, saidOf};
-ghost use Rattle.script.specs.Output.{fieldsText};
-ghost use Rattle.script.specs.Written.{Wrote};
+ghost use Rattle.script.specs.Output.{fieldsText, startName};
+ghost use Rattle.script.specs.Written.{Wrote, Begun};
 ghost use Rattle.script.specs.Input.{isRun, rigEnd};
 
 // What a script line says: a call with its numbers, or nothing that a script line may say.
@@ -188,4 +188,43 @@ pub fn rig_end(input: &[u8]) -> usize
         i = e + 1;
     }
     n
+}
+
+// The name of the first output line.
+fn put_name(out: &mut [u8])
+    requires { ⌜ 5 ≤ length (now out) ⌝ }
+    ensures { λ r. ⌜ Wrote (now (out .entry)) 0 startName (now (out .exit)) 5 ⌝ }
+{
+    out[0] = 83;
+    out[1] = 84;
+    out[2] = 65;
+    out[3] = 82;
+    out[4] = 84;
+}
+
+// The first output line of an accepted rig: 0, the count, the running task. It needs 64 bytes; with fewer nothing is written.
+pub fn put_started(out: &mut [u8], count: u32, running: u32) -> usize
+    ensures { λ r. ⌜ Begun (now (out .entry)) (0 ∷ count ∷ running ∷ []) (now (out .exit)) r ⌝ }
+{
+    if out.len() < 64 {
+        return 0;
+    }
+    put_name(&mut *out);
+    let p = put_answer(&mut *out, 5, 0, count, running);
+    out[p] = 10;
+    p + 1
+}
+
+// The first output line of a refused rig: the number and the line.
+pub fn put_refused(out: &mut [u8], number: u32, line: u32) -> usize
+    ensures { λ r. ⌜ Begun (now (out .entry)) (number ∷ line ∷ []) (now (out .exit)) r ⌝ }
+{
+    if out.len() < 64 {
+        return 0;
+    }
+    put_name(&mut *out);
+    let p = put_field(&mut *out, 5, number);
+    let q = put_field(&mut *out, p, line);
+    out[q] = 10;
+    q + 1
 }

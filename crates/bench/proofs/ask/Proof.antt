@@ -14,12 +14,12 @@ use Rattle.bench.proofs.tick.Reads as tick-reads
 use Rattle.bench.proofs.wrong.Reads as wrong-reads
 use Rattle.exec.proofs.Exec.cancel.Reads as cancel-reads
 use Rattle.exec.proofs.Exec.finish.Reads as finish-reads
-use Rattle.exec.proofs.Exec.latched_wait.Reads as latched-wait-reads
+use Rattle.exec.proofs.Exec.latched.Reads as latched-reads
 use Rattle.exec.proofs.Exec.read_flag.Reads as read-flag-reads
 use Rattle.exec.proofs.Exec.schedule.Reads as schedule-reads
 use Rattle.exec.proofs.Exec.signal.Reads as signal-reads
 use Rattle.exec.proofs.Exec.terminate.Reads as terminate-reads
-use Rattle.exec.proofs.Exec.unlatched_wait.Reads as unlatched-wait-reads
+use Rattle.exec.proofs.Exec.unlatched.Reads as unlatched-reads
 use Rattle.exec.proofs.Exec.wait_for.Reads as wait-for-reads
 use Rattle.exec.proofs.Exec.wait_until.Reads as wait-until-reads
 
@@ -132,10 +132,10 @@ enum-known-said-6 : tie.Need-enum-known-said-6
 enum-known-said-6 c = search needs
 
 -- src/lib.rt:110:37
-latched-wait-requires : tie.Need-latched-wait-requires
-latched-wait-requires c κs = search needs
+latched-requires : tie.Need-latched-requires
+latched-requires c κs = search needs
 
--- src/lib.rt:110:63
+-- src/lib.rt:110:58
 slice-aggregate-show-7 : tie.Need-slice-aggregate-show-7
 slice-aggregate-show-7 c = search needs
 
@@ -148,10 +148,10 @@ enum-known-said-7 : tie.Need-enum-known-said-7
 enum-known-said-7 c = search needs
 
 -- src/lib.rt:111:39
-unlatched-wait-requires : tie.Need-unlatched-wait-requires
-unlatched-wait-requires c κs = search needs
+unlatched-requires : tie.Need-unlatched-requires
+unlatched-requires c κs = search needs
 
--- src/lib.rt:111:67
+-- src/lib.rt:111:62
 slice-aggregate-show-8 : tie.Need-slice-aggregate-show-8
 slice-aggregate-show-8 c = search needs
 
@@ -300,7 +300,7 @@ returns-8 c =
     let s = c .before .before .before .before .before .before .before .before .before .before in
     let w = c .before .before .show7 in
     subst (λ (x : Said). Takes (s .args .e) (letterOf x) (askedBy x) (s .args .out .now) (s .args .at) (w .result) (w .last .1 .1 .1 .0)) (sym (c .before .before .before .before .before .before .before .said6 .given .1))
-    (answered (s .args .e) 76 _ (c .before .before .before .before .before .latched-wait .result) _ (s .args .out .now) (s .args .at) (w .result) (w .last .1 .1 .1 .0) (λ (q : _≡_ {A = ℕ} 76 75). omega arith) (c .before .before .before .before .before .latched-wait .ensures) (w .ensures))
+    (answered (s .args .e) 76 _ (c .before .before .before .before .before .latched .result) _ (s .args .out .now) (s .args .at) (w .result) (w .last .1 .1 .1 .0) (λ (q : _≡_ {A = ℕ} 76 75). omega arith) (c .before .before .before .before .before .latched .ensures) (w .ensures))
 
 -- src/lib.rt:97:1
 same-length-9 : tie.Need-same-length-9
@@ -313,7 +313,7 @@ returns-9 c =
     let s = c .before .before .before .before .before .before .before .before .before .before in
     let w = c .before .before .show8 in
     subst (λ (x : Said). Takes (s .args .e) (letterOf x) (askedBy x) (s .args .out .now) (s .args .at) (w .result) (w .last .1 .1 .1 .0)) (sym (c .before .before .before .before .before .before .before .said7 .given .1))
-    (answered (s .args .e) 78 _ (c .before .before .before .before .before .unlatched-wait .result) _ (s .args .out .now) (s .args .at) (w .result) (w .last .1 .1 .1 .0) (λ (q : _≡_ {A = ℕ} 78 75). omega arith) (c .before .before .before .before .before .unlatched-wait .ensures) (w .ensures))
+    (answered (s .args .e) 78 _ (c .before .before .before .before .before .unlatched .result) _ (s .args .out .now) (s .args .at) (w .result) (w .last .1 .1 .1 .0) (λ (q : _≡_ {A = ℕ} 78 75). omega arith) (c .before .before .before .before .before .unlatched .ensures) (w .ensures))
 
 -- src/lib.rt:97:1
 same-length-10 : tie.Need-same-length-10
@@ -384,11 +384,11 @@ ask-spec =
     slice-aggregate-show-6
     show-requires-6
     enum-known-said-6
-    latched-wait-requires
+    latched-requires
     slice-aggregate-show-7
     show-requires-7
     enum-known-said-7
-    unlatched-wait-requires
+    unlatched-requires
     slice-aggregate-show-8
     show-requires-8
     enum-known-said-8
