@@ -3,15 +3,15 @@ use Prim.Native.Nat.{ℕ, _+_, _-_, _≤_, _<_}
 use mathlib.Core.Path.{_≡_, refl, sym, ap, _∙_}
 use mathlib.Core.Bool.{Bool, true, false, cond, _&&_}
 use mathlib.Core.Logic.{_⊎_, inl, inr}
-use mathlib.Core.List.{List, [], _∷_}
+use mathlib.Core.List.{List, [], _∷_, _++_}
 use native.Mathlib.Nat.{le-antisymm}
 use native.Mathlib.Omega.{arith}
 use lib.Dec.{eqb}
-use lib.ListN.{length, getD}
+use lib.ListN.{length, getD, length-append}
 use borrow.Author.Tests.{eq-eqb, ne-eqb}
 use Rattle.laws.specs.Cases.{by, if-yes, if-no}
-use Rattle.text.specs.Split.{split, part, rest}
-use Rattle.text.specs.SplitLaws.{split-cons}
+use Rattle.text.specs.Split.{split, part, rest, join, led}
+use Rattle.text.specs.SplitLaws.{split-cons, join-split}
 use Rattle.text.specs.Parts.{Found, part-all, part-none, piece, rest-none, rest-next, length-part}
 use Rattle.script.specs.Input.{isRun, beforeRun, rigEnd}
 
@@ -89,3 +89,18 @@ not-run line b e (inr (inr q)) =
 pub last-letter : (line : List ℕ) → length line ≡ 3 → getD line 0 0 ≡ 82 → getD line 1 0 ≡ 85 → eqb (getD line 2 0) 78 ≡ isRun line
 unfolding isRun
 last-letter line a b c = rw (eq-eqb (length line) 3 a, eq-eqb (getD line 0 0) 82 b, eq-eqb (getD line 1 0) 85 c)
+
+-- ---- the rig is a part of the input
+
+before-le : (ps : List (List ℕ)) → beforeRun ps ≤ length (join 10 ps)
+unfolding beforeRun join led
+before-le [] = omega arith
+before-le (p ∷ []) = let e = length-append p [] in omega arith
+before-le (p ∷ q ∷ ps) =
+    let e = length-append p (10 ∷ (q ++ led 10 ps)) in
+    let h = before-le (q ∷ ps) in
+    by (isRun p) (λ t. rw t (omega arith)) (λ t. rw t (omega arith))
+
+pub end-le : (s : List ℕ) → rigEnd s ≤ length s
+unfolding rigEnd
+end-le s = let e : length (join 10 (split 10 s)) ≡ length s = ap length (join-split 10 s) in omega (arith, before-le (split 10 s))
