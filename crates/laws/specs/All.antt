@@ -79,3 +79,9 @@ pub all-all : (n : ℕ) (p : ℕ → Bool) → ((k : ℕ) → k < n → p k ≡ 
 unfolding all
 all-all zero p h = refl
 all-all (suc n) p h = rw (all-all n p (λ k l. h k (omega arith))) (h n (omega arith))
+
+-- tests that agree on the first n numbers
+pub all-same : (n : ℕ) (p q : ℕ → Bool) → ((k : ℕ) → k < n → p k ≡ q k) → all n p ≡ all n q
+unfolding all
+all-same zero p q h = refl
+all-same (suc n) p q h = rw (all-same n p q (λ k l. h k (omega arith)), h n (omega arith))

@@ -10,3 +10,4 @@ pub mod Members
 pub mod Order
 pub mod First
 pub mod Says
+pub mod Stores

@@ -173,3 +173,22 @@ distinct-end a (x ∷ xs) n d = (
   (λ i. ⊎-elim (λ j. d .0 j) (λ j. ⊎-elim (λ q. n (inl (sym q))) (λ z. z) j) (in-cases x xs (a ∷ []) i)),
   distinct-end a xs (λ i. n (inr i)) (d .1),
 )
+
+-- ---- tests of elements, one after the other
+
+-- tests that agree on the list's elements keep the same
+pub keep-same : (p q : ℕ → Bool) (xs : List ℕ) → ((a : ℕ) → In a xs → p a ≡ q a) → keep p xs ≡ keep q xs
+keep-same p q [] h = refl
+keep-same p q (x ∷ xs) h = rw (h x (inl refl), keep-same p q xs (λ a i. h a (inr i)))
+
+pub keep-all : (p : ℕ → Bool) (xs : List ℕ) → ((a : ℕ) → In a xs → p a ≡ true) → keep p xs ≡ xs
+keep-all p [] h = refl
+keep-all p (x ∷ xs) h = rw (h x (inl refl), keep-all p xs (λ a i. h a (inr i)))
+
+-- to be without x is to fail the test of being x
+pub without-keep : (x : ℕ) (p : ℕ → Bool) (xs : List ℕ) → without x (keep p xs) ≡ keep (λ (y : ℕ). p y && not (eqb y x)) xs
+without-keep x p [] = refl
+without-keep x p (y ∷ ys) =
+    by (p y)
+    (λ e. by (eqb y x) (λ f. rw (e, f, without-keep x p ys)) (λ f. rw (e, f, without-keep x p ys)))
+    (λ e. rw (e, without-keep x p ys))

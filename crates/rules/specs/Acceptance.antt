@@ -1,17 +1,17 @@
 -- What an accepted call tells: the tests that it passed.
-use mathlib.Core.Path.{_≡_, refl, sym, ap, _∙_, subst}
+use mathlib.Core.Path.{_≡_, refl, subst}
 use mathlib.Core.Logic.{_≢_}
-use mathlib.Core.Bool.{Bool, true, false, not, cond, _||_}
+use mathlib.Core.Bool.{Bool, true, false}
 use mathlib.Core.List.{List, [], _∷_}
-use Prim.Native.Nat.{ℕ, zero, suc, _+_, _≤_, _<_}
+use Prim.Native.Nat.{ℕ, zero, suc, _≤_}
 use native.Mathlib.Omega.{arith}
 use native.Mathlib.Numerals.{add-one}
-use borrow.Author.Tests.{eqb-true, eqb-false, ltb-false, leb-false, not-false}
-use lib.Dec.{eqb, ltb, leb}
+use borrow.Author.Tests.{eqb-true, eqb-false, ltb-false, not-false}
+use lib.Dec.{eqb, ltb}
 use Rattle.laws.specs.Cases.{or-false}
 use Rattle.laws.specs.Any.{any-not}
 use Rattle.rules.specs.Rig.{Rig}
-use Rattle.rules.specs.State.{State, stateOf}
+use Rattle.rules.specs.State.{State}
 use Rattle.rules.specs.Calls.{Refusal, row, decide, nobodyRuns, noSuch, notController, activationOne, isActivation}
 
 -- a row that is not to be given, and those behind it

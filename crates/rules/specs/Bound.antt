@@ -1,18 +1,19 @@
 -- No call, tick or start serves more than 79 flags: what is queued and what is inactive is never more.
-use mathlib.Core.Path.{_≡_, refl, sym, ap, _∙_, subst}
+use mathlib.Core.Path.{_≡_, refl, ap, _∙_}
 use mathlib.Core.Bool.{Bool, true, false, cond, _&&_}
-use mathlib.Core.List.{List, [], _∷_}
+use mathlib.Core.List.{List, []}
 use Prim.Native.Nat.{ℕ, zero, suc, _+_, _%_, _≤_, _<_, zero-le}
 use native.Mathlib.Omega.{arith}
 use native.Mathlib.Numerals.{add-one}
 use native.Mathlib.Nat.{le-refl, le-trans}
 use lib.Dec.{eqb, leb}
-use lib.ListN.{length, getD, set, length-set, replicate, length-replicate}
+use lib.ListN.{length, getD, set, length-set, replicate}
 use lib.Seq.{getD-set-other}
 use Rattle.laws.specs.Iter.{iter, iter-ind}
 use Rattle.laws.specs.Tables.{total, over, over-set, over-store, over-length, over-le, in-range}
+use Rattle.laws.specs.Members.{keep}
 use Rattle.rules.specs.Rig.{Rig}
-use Rattle.rules.specs.State.{State, Work, Done, Entry, active, stateOf, valueOf, withTables, timeChain, blank}
+use Rattle.rules.specs.State.{State, Work, Done, Entry, active, valueOf, withTables, timeChain, blank}
 use Rattle.rules.specs.Conditions.{relax, met}
 use Rattle.rules.specs.Serving.{push, isInactive, inactives, activate, serve}
 use Rattle.rules.specs.Waiting.{waitOn, waitUntilCount, wakeDue, isDue}
@@ -20,7 +21,7 @@ use Rattle.rules.specs.Family.{family, isMarked, clearOne, cleared, offO
 use Rattle.rules.specs.Calls.{Call, schedule, cancel, terminate, finish, tick, waitUntil, waitFor, latched, unlatched, signal, readFlag, readBlock, writeBlock}
 use Rattle.rules.specs.Calls.{scheduled, finished, terminated, cancelled, ticked, queueOne, cycleQueue, quiet, effect, refusal, accepted, after, step, started}
 use Rattle.rules.specs.Serve.{load, push-length, served-le, serve-nil}
-use Rattle.rules.specs.Lengths.{rouse-length, cleared-length}
+use Rattle.rules.specs.Lengths.{rouse-length}
 
 -- ---- cancel: what it queues it takes from the invoked
 
@@ -140,7 +141,7 @@ module _ (r : Rig) (s : State) (z : length (s .states) ≡ 65) where
   effect-load finish = light (finished r s) (omega (arith, push-length (r .activation (s .running)) 0 [])) (stored (s .running) 1)
   effect-load (tick buffer) =
       light (ticked r s) (cycle-length (r .minor (suc (s .count) % 64)))
-      (rouse-length (Rattle.laws.specs.Members.keep (isDue (s .wakes) (suc (s .count))) (s .chains timeChain)) (s .states) ∙ z)
+      (rouse-length (keep (isDue (s .wakes) (suc (s .count))) (s .chains timeChain)) (s .states) ∙ z)
   effect-load (waitUntil k) = quiet-load (leb k (s .count)) (waitUntilCount s k) (stored (s .running) 2)
   effect-load (waitFor n) = quiet-load (leb (s .count + n) (s .count)) (waitUntilCount s (s .count + n)) (stored (s .running) 2)
   effect-load (latched f v) = quiet-load (eqb (valueOf s f) v) (waitOn s f v) (stored (s .running) 2)

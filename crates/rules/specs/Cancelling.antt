@@ -1,76 +1,31 @@
--- Cancel: who is marked is uninvoked, in no chain, and its activation flag is queued off if it was active; nobody else
--- is touched. So it too hands the serving a state and a queue that it can start from.
+-- Cancel: the activation flag of who is marked is queued off if it was active. So it too hands the serving a state and a
+-- queue that it can start from.
 use mathlib.Core.Path.{_≡_, refl, sym, ap, _∙_, subst}
 use mathlib.Core.Logic.{_≢_}
 use mathlib.Core.Bool.{Bool, true, false, cond, _&&_, true≢false}
-use mathlib.Core.List.{List, [], _∷_}
+use mathlib.Core.List.{List, []}
 use Prim.Native.Nat.{ℕ, zero, suc, _+_, _≤_, _<_}
 use native.Mathlib.Omega.{arith}
 use native.Mathlib.Numerals.{add-one}
-use native.Mathlib.Nat.{le-refl}
 use lib.Dec.{eqb}
-use lib.ListN.{length, getD, set}
-use lib.Seq.{getD-set-other}
+use lib.ListN.{length, getD}
 use Rattle.laws.specs.Cases.{by, dec-eq}
 use Rattle.laws.specs.Iter.{iter, iter-ind}
-use Rattle.laws.specs.Tables.{keeps, set-zero, set-le}
+use Rattle.laws.specs.Tables.{has-place}
 use Rattle.rules.specs.Rig.{Rig}
 use Rattle.rules.specs.RigOk.{RigOk}
-use Rattle.rules.specs.State.{State, Work, Entry, stateOf, active}
+use Rattle.rules.specs.State.{State, Entry, active}
 use Rattle.rules.specs.Serving.{push}
-use Rattle.rules.specs.Family.{family, isMarked, clearOne, cleared, offOne, offs, deserted}
+use Rattle.rules.specs.Family.{family, isMarked, cleared, offOne, offs}
 use Rattle.rules.specs.Calls.{cancelled}
 use Rattle.rules.specs.Soundness.{Tasks}
 use Rattle.rules.specs.Queued.{Fine, fine-push, look, look-nil, look-absent, absent, Agree, Clear, rest-absent}
 use Rattle.rules.specs.Agreement.{push-absent, push-look, push-look-self}
 use Rattle.rules.specs.Lengths.{cleared-length}
+use Rattle.rules.specs.Leaving.{cleared-hit, cleared-miss, cleared-small}
 use Rattle.rules.specs.FamilyLaws.{marked-down, family-none}
 use Rattle.rules.specs.WaitingLaws.{chains-desert}
 use Rattle.rules.specs.Good.{Good, Ready}
-
--- ---- the states after it
-
-module _ (marks l : List ℕ) where
-  -- the first k
-  some-hit : (k u : ℕ) → isMarked marks u ≡ true → 1 ≤ u → u ≤ k → getD (iter k (clearOne marks) l) u 0 ≡ 0
-  unfolding iter
-  some-hit zero u h a b = absurd (omega arith)
-  some-hit (suc k) u h a b = rw add-one (go (isMarked marks (suc k)) refl (dec-eq u (suc k)) (λ c. some-hit k u h a c))
-    where
-      m : List ℕ
-      m = iter k (clearOne marks) l
-
-      go : (x : Bool) → isMarked marks (suc k) ≡ x → Dec (u ≡ suc k) → (u ≤ k → getD m u 0 ≡ 0) → getD (cond x (set m (suc k) 0) m) u 0 ≡ 0
-      go true e (yes q) f = subst (λ (n : ℕ). getD (set m (suc k) 0) n 0 ≡ 0) (sym q) (set-zero m (suc k))
-      go false e (yes q) f = absurd (true≢false (sym h ∙ ap (isMarked marks) q ∙ e))
-      go true e (no q) f = keeps m (suc k) u 0 (f (omega arith))
-      go false e (no q) f = f (omega arith)
-
-  -- who is marked becomes uninvoked
-  pub cleared-hit : (u : ℕ) → isMarked marks u ≡ true → 1 ≤ u → u ≤ 64 → getD (cleared marks l) u 0 ≡ 0
-  unfolding cleared
-  cleared-hit = some-hit 64
-
-  -- who is not stays as he is
-  pub cleared-miss : (u : ℕ) → isMarked marks u ≡ false → getD (cleared marks l) u 0 ≡ getD l u 0
-  unfolding cleared
-  cleared-miss u h =
-      iter-ind (λ i m. getD m u 0 ≡ getD l u 0) (clearOne marks) l refl
-      (λ i m e. go i m e (isMarked marks (i + 1)) refl) 64
-    where
-      go : (i : ℕ) (m : List ℕ) → getD m u 0 ≡ getD l u 0 → (x : Bool) → isMarked marks (i + 1) ≡ x → getD (cond x (set m (i + 1) 0) m) u 0 ≡ getD l u 0
-      go i m e true q = getD-set-other m (i + 1) u 0 0 (λ p. true≢false (sym q ∙ sym (ap (isMarked marks) p) ∙ h)) ∙ e
-      go i m e false q = e
-
-  pub cleared-small : ((u : ℕ) → getD l u 0 ≤ 3) → (u : ℕ) → getD (cleared marks l) u 0 ≤ 3
-  unfolding cleared
-  cleared-small h =
-      iter-ind (λ i m. (u : ℕ) → getD m u 0 ≤ 3) (clearOne marks) l h
-      (λ i m g. go (isMarked marks (i + 1)) i m g) 64
-    where
-      go : (x : Bool) (i : ℕ) (m : List ℕ) → ((u : ℕ) → getD m u 0 ≤ 3) → (u : ℕ) → getD (cond x (set m (i + 1) 0) m) u 0 ≤ 3
-      go true i m g = set-le 3 m (i + 1) 0 (omega arith) g
-      go false i m g = g
 
 -- ---- what is queued
 
@@ -155,8 +110,8 @@ module _ (r : Rig) (ok : RigOk r) (s : State) (g : Good r s []) (t : ℕ) where
       go : (u : ℕ) → isMarked marks u ≡ true → getD (cleared marks l) u 0 ≢ 0 → Dec (u ≡ 0) → ⊥
       go u e n (yes q) = true≢false (sym e ∙ ap (isMarked marks) q ∙ family-none r ok t)
       go u e n (no q) =
-          let low : u < length (cleared marks l) = Rattle.laws.specs.Tables.has-place (cleared marks l) u n in
-          n (cleared-hit marks l u e (omega arith) (omega (arith, low, cleared-length marks l, g .tasks .sized)))
+          let low : u < length l = subst (λ (m : ℕ). u < m) (cleared-length marks l) (has-place (cleared marks l) u n) in
+          n (cleared-hit marks l u e (omega arith) low (omega (arith, low, g .tasks .sized)))
 
   was-invoked : (u : ℕ) → getD (cleared marks l) u 0 ≢ 0 → getD l u 0 ≢ 0
   was-invoked u n e = n (cleared-miss marks l u (unmarked u n) ∙ e)
@@ -183,7 +138,7 @@ module _ (r : Rig) (ok : RigOk r) (s : State) (g : Good r s []) (t : ℕ) where
       let low : u ≤ 64 = omega (arith, a .1, ok .tasks-le) in
       let now : getD (s .flags) (r .activation u) 0 ≡ active (getD l u 0) = sym (look-nil (r .activation u) _) ∙ g .agree u nz in
       by (isMarked marks u)
-      (λ e. offs-off r ok marks l u _ nz e (a .0) low now ∙ sym (ap active (cleared-hit marks l u e (a .0) low)))
+      (λ e. offs-off r ok marks l u _ nz e (a .0) low now ∙ sym (ap active (cleared-hit marks l u e (a .0) (omega (arith, low, g .tasks .sized)) low)))
       (λ e. look-absent (r .activation u) _ (offs (r .activation) marks l) (offs-absent r ok marks l u nz e) ∙ now ∙ sym (ap active (cleared-miss marks l u e)))
 
   clears : Clear r (cleared marks l) (offs (r .activation) marks l)

@@ -1,25 +1,22 @@
 -- DEMAND 3, of the rules: from an accepted start, after any run, refused calls among it.
 -- "each chain lists exactly who waits there, once, in order; activation flag on iff task active; at most 79 served a call".
 -- (That waking is exact, and that the order is that of the history, are theorems of their own.)
-use mathlib.Core.Path.{_≡_, refl, sym, ap, _∙_, subst}
+use mathlib.Core.Path.{_≡_, refl, sym, _∙_}
 use mathlib.Core.Logic.{_≢_, _⊎_, inl, inr, ⊎-elim, _↔_}
-use mathlib.Core.List.{List, [], _∷_}
-use Prim.Native.Nat.{ℕ, zero, suc, _+_, _*_, _≤_, _<_}
+use mathlib.Core.List.{List}
+use Prim.Native.Nat.{ℕ, zero, suc, _*_, _≤_, _<_}
 use native.Mathlib.Omega.{arith}
 use native.Mathlib.Nat.{le-trans}
-use lib.ListN.{length, getD}
+use lib.ListN.{getD}
 use Rattle.laws.specs.Cases.{dec-eq}
 use Rattle.laws.specs.Members.{In, Distinct}
 use Rattle.laws.specs.Order.{Sorted}
 use Rattle.rules.specs.Rig.{Rig}
 use Rattle.rules.specs.RigOk.{RigOk}
-use Rattle.rules.specs.State.{State, Work, Entry, stateOf, valueOf, wakeOf, active, on, waiting, dispatchable, timeChain}
-use Rattle.rules.specs.Serving.{serveFlag}
-use Rattle.rules.specs.Calls.{Call, step, run, started, start, lastCount}
-use Rattle.rules.specs.Proper.{Proper, ProperRun}
+use Rattle.rules.specs.State.{State, stateOf, valueOf, wakeOf, active, on, waiting, dispatchable, timeChain}
+use Rattle.rules.specs.Calls.{Call, step, run, started, start}
+use Rattle.rules.specs.Proper.{ProperRun}
 use Rattle.rules.specs.Soundness.{Sound}
-use Rattle.rules.specs.Queued.{Agree}
-use Rattle.rules.specs.Good.{Good, Clean, Ready, clean-ready, serveFlag-clean}
 use Rattle.rules.specs.Steps.{always}
 use Rattle.rules.specs.Bound.{served-79, start-served}
 
@@ -78,23 +75,6 @@ module _ (r : Rig) (ok : RigOk r) (s : State) (h : Sound r s) where
   no-condition-zero i l =
       zero-else (getD (s .conds) i 0) i (λ j. (16 ≤ j) × (j < 16 * suc (r .tasks)))
       (λ n. ok .present-task i (h .conds .within i n)) (λ p. omega (arith, p .1))
-
--- ---- the law of activation flags while the queue is not empty
-
--- what a serving comes through: what is served first is taken off, again and again
-pub data Reached (r : Rig) (w : Work) : Work → Type 0 where
-  begin : Reached r w w
-  onward : (s : State) (e : Entry) (q : List Entry) → Reached r w (record { now = s; queue = e ∷ q }) → Reached r w (serveFlag r e s q)
-
-pub reached-ready : (r : Rig) → RigOk r → (w x : Work) → Ready r w → Reached r w x → Ready r x
-reached-ready r ok w _ h begin = h
-reached-ready r ok w _ h (onward s e q k) =
-    let m : Ready r (record { now = s; queue = e ∷ q }) = reached-ready r ok w (record { now = s; queue = e ∷ q }) h k in
-    clean-ready r (serveFlag r e s q) (serveFlag-clean r ok e s q (m .good) (m .clear))
-
--- all through a serving: once what is queued is served, each activation flag is on exactly when its task is active
-pub agree-while-serving : (r : Rig) → RigOk r → (w x : Work) → Ready r w → Reached r w x → Agree r (x .now .flags) (x .now .states) (x .queue)
-agree-while-serving r ok w x h k = reached-ready r ok w x h k .good .agree
 
 -- ---- all of it
 

@@ -1,24 +1,24 @@
 -- Every accepted call but cancel hands the serving a state and a queue that it can start from.
-use mathlib.Core.Path.{_≡_, refl, sym, ap, _∙_, subst}
+use mathlib.Core.Path.{_≡_, refl, sym, ap, _∙_}
 use mathlib.Core.Logic.{_≢_}
 use mathlib.Core.Bool.{Bool, true, false, cond}
-use mathlib.Core.List.{List, [], _∷_, _++_}
-use Prim.Native.Nat.{ℕ, zero, suc, _+_, _*_, _%_, _≤_, _<_}
+use mathlib.Core.List.{List, []}
+use Prim.Native.Nat.{ℕ, zero, suc, _%_, _≤_, _<_}
 use native.Mathlib.Omega.{arith}
 use native.Mathlib.Nat.{le-refl}
-use lib.ListN.{length, getD, set}
+use lib.ListN.{getD, set}
 use lib.Seq.{getD-set-same}
-use Rattle.laws.specs.Iter.{iter, iter-ind}
-use Rattle.laws.specs.Tables.{in-range, has-place}
-use Rattle.laws.specs.Members.{keep, in-keep}
+use Rattle.laws.specs.Iter.{iter-ind}
+use Rattle.laws.specs.Tables.{has-place}
+use Rattle.laws.specs.Members.{In, keep, in-keep}
 use Rattle.rules.specs.Rig.{Rig}
 use Rattle.rules.specs.RigOk.{RigOk}
 use Rattle.rules.specs.State.{State, Work, Entry, stateOf, active, withTables, timeChain, chainOf}
 use Rattle.rules.specs.Conditions.{relax, met}
-use Rattle.rules.specs.Serving.{push, activate, rouse}
-use Rattle.rules.specs.Waiting.{waitOn, waitUntilCount, leave, isDue, wakeDue}
+use Rattle.rules.specs.Serving.{push, activate}
+use Rattle.rules.specs.Waiting.{waitOn, waitUntilCount, isDue, wakeDue}
 use Rattle.rules.specs.Calls.{scheduled, finished, terminated, queueOne, cycleQueue, ticked, quiet}
-use Rattle.rules.specs.Soundness.{Tasks, Flags, Conds, Wakes, Chains}
+use Rattle.rules.specs.Soundness.{Wakes, Chains}
 use Rattle.rules.specs.Queued.{Fine, fine-push, look, look-other, look-absent, absent, Agree, rest-absent, rest-one}
 use Rattle.rules.specs.Agreement.{restate, same-active}
 use Rattle.rules.specs.Rousing.{rouse-same}
@@ -218,7 +218,7 @@ module _ (r : Rig) (ok : RigOk r) (s : State) (g : Good r s []) where
       due : List ℕ
       due = keep (isDue (s .wakes) (suc (s .count))) (s .chains timeChain)
 
-      waits : (t : ℕ) → Rattle.laws.specs.Members.In t due → stateOf s t ≡ 2
+      waits : (t : ℕ) → In t due → stateOf s t ≡ 2
       waits t i = g .chains .listed .two t (timeChain, in-keep (isDue (s .wakes) (suc (s .count))) t (s .chains timeChain) i)
 
       none : (t : ℕ) → r .activation t ≢ 0 → absent (r .activation t) q

@@ -1,18 +1,18 @@
 -- "the named task and all its descendants": the marks are theirs and nobody else's.
 use mathlib.Core.Path.{_≡_, refl, sym, ap, _∙_, subst}
 use mathlib.Core.Logic.{_≢_, _⊎_, inl, inr, ⊎-elim, _↔_}
-use mathlib.Core.Bool.{Bool, true, false, cond, _&&_, _||_, true≢false}
-use mathlib.Core.List.{List, [], _∷_}
-use Prim.Native.Nat.{ℕ, zero, suc, _+_, _≤_, _<_}
+use mathlib.Core.Bool.{Bool, true, false, cond, _||_, true≢false}
+use mathlib.Core.List.{List}
+use Prim.Native.Nat.{ℕ, zero, suc, _≤_, _<_}
 use native.Mathlib.Omega.{arith}
 use native.Mathlib.Numerals.{add-one}
 use native.Mathlib.Nat.{le-refl}
-use borrow.Author.Tests.{eqb-true, eqb-false, eq-eqb, ne-eqb}
+use borrow.Author.Tests.{eqb-true, eq-eqb}
 use lib.Dec.{eqb}
 use lib.ListN.{length, getD, set, replicate, length-replicate, length-set}
 use lib.Seq.{getD-set-same, getD-set-other}
-use Rattle.laws.specs.Cases.{by, dec-eq}
-use Rattle.laws.specs.Iter.{iter, iter-ind}
+use Rattle.laws.specs.Cases.{dec-eq}
+use Rattle.laws.specs.Iter.{iter-ind}
 use Rattle.laws.specs.Tables.{zeros}
 use Rattle.rules.specs.Rig.{Rig}
 use Rattle.rules.specs.RigOk.{RigOk}
@@ -119,3 +119,19 @@ module _ (r : Rig) (ok : RigOk r) (t : ℕ) where
   unfolding marks
   family-is a b u c d =
       ((λ e. marked-under u u (le-refl _) c d (eq-eqb _ 1 e)), (λ h. eqb-true _ 1 (under-marked a b u h d .1)))
+
+-- every task of the rig is task 1 or descends from it
+module _ (r : Rig) (ok : RigOk r) where
+  from-one : (n t : ℕ) → t ≤ n → 1 ≤ t → t ≤ r .tasks → Under (r .controller) 1 t
+  from-one zero t l a b = absurd (omega arith)
+  from-one (suc n) t l a b = go (dec-eq t 1) (λ c d. from-one n (r .controller t) c d)
+    where
+      go : Dec (t ≡ 1) → (r .controller t ≤ n → 1 ≤ r .controller t → r .controller t ≤ r .tasks → Under (r .controller) 1 (r .controller t)) → Under (r .controller) 1 t
+      go (yes e) ih = subst (λ (u : ℕ). Under (r .controller) 1 u) (sym e) itself
+      go (no e) ih =
+          let low : r .controller t < t = ok .controller-low t (λ q. omega arith) in
+          let some : r .controller t ≢ 0 = ok .controller-some t (omega arith) b in
+          below t (ih (omega arith) (omega arith) (omega arith))
+
+  pub all-from-one : (t : ℕ) → 1 ≤ t → t ≤ r .tasks → Under (r .controller) 1 t
+  all-from-one t a b = from-one t t (le-refl _) a b

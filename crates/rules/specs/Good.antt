@@ -1,22 +1,22 @@
 -- What holds of a state and its queue all through a serving, and so after it.
-use mathlib.Core.Path.{_≡_, refl, sym, ap, _∙_, subst}
+use mathlib.Core.Path.{_≡_, refl, sym, ap, _∙_}
 use mathlib.Core.Logic.{_≢_}
 use mathlib.Core.Bool.{Bool, true, false, cond, _&&_}
 use mathlib.Core.List.{List, [], _∷_}
-use Prim.Native.Nat.{ℕ, zero, suc, _+_, _≤_, _<_}
+use Prim.Native.Nat.{ℕ, zero, suc, _+_, _≤_}
 use native.Mathlib.Omega.{arith}
 use native.Mathlib.Nat.{le-refl}
 use borrow.Author.Tests.{eqb-true}
 use lib.Dec.{eqb}
-use lib.ListN.{length, getD, set}
-use Rattle.laws.specs.Iter.{iter, iter-ind}
+use lib.ListN.{length, getD}
+use Rattle.laws.specs.Iter.{iter-ind}
 use Rattle.laws.specs.Tables.{in-range}
 use Rattle.rules.specs.Rig.{Rig}
 use Rattle.rules.specs.RigOk.{RigOk}
-use Rattle.rules.specs.State.{State, Work, Done, Entry, stateOf, active, chainOf}
-use Rattle.rules.specs.Serving.{push, inactives, activate, ready, offer, offerNext, offers, rouse, wake, takes, serveFlag, another, serving, serve}
+use Rattle.rules.specs.State.{State, Work, Entry, stateOf, active, chainOf}
+use Rattle.rules.specs.Serving.{inactives, activate, ready, offer, offerNext, offers, wake, takes, serveFlag, serving, serve}
 use Rattle.rules.specs.Soundness.{Tasks, Flags, Conds, Wakes, Chains, Sound}
-use Rattle.rules.specs.Queued.{Fine, fine-push, look, look-nil, absent, Agree, Clear, rest, rest-absent}
+use Rattle.rules.specs.Queued.{Fine, fine-push, look, Agree, Clear, rest, rest-absent}
 use Rattle.rules.specs.Agreement.{restate, popped, clear-activate}
 use Rattle.rules.specs.Rousing.{rouse-one, rouse-same}
 use Rattle.rules.specs.TableLaws.{tasks-move, tasks-rouse, flags-set, conds-relax, conds-drive}

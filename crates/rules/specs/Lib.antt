@@ -22,6 +22,7 @@ pub mod Good
 pub mod Acceptance
 pub mod FamilyLaws
 pub mod Effects
+pub mod Leaving
 pub mod Cancelling
 pub mod Steps
 pub mod Bound
@@ -29,4 +30,10 @@ pub mod Reasons
 pub mod Refusals
 pub mod RefusedExactly
 pub mod RunningOn
+pub mod WhileServing
 pub mod Demand
+pub mod Lent
+pub mod ConditionLaws
+pub mod Enough
+pub mod ServingKeeps
+pub mod Offering

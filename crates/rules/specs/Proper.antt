@@ -1,6 +1,6 @@
 -- PROPER CALLS: "values are 0 or 1". A value comes from a script line or as a truth value, and is no other number.
 use mathlib.Core.List.{List, [], _∷_}
-use Prim.Native.Nat.{ℕ, _≤_}
+use Prim.Native.Nat.{_≤_}
 use Rattle.rules.specs.Calls.{Call, schedule, cancel, terminate, finish, tick, waitUntil, waitFor, latched, unlatched, signal, readFlag, readBlock, writeBlock}
 
 abbrev pub Proper : Call → Type 0

@@ -1,18 +1,20 @@
 -- Who runs: dispatchable, with none of higher rank; or none, with none dispatchable.
-use mathlib.Core.Path.{_≡_, refl, sym, ap, _∙_, subst}
+use mathlib.Core.Path.{_≡_, refl, sym, _∙_}
 use mathlib.Core.Logic.{_≢_}
 use mathlib.Core.Bool.{Bool, true, false, not, cond, _&&_, _||_}
-use mathlib.Core.List.{List, [], _∷_}
-use Prim.Native.Nat.{ℕ, zero, suc, _+_, _*_, _≤_, _<_, zero-le}
+use mathlib.Core.List.{List}
+use Prim.Native.Nat.{ℕ, zero, suc, _≤_, _<_}
 use native.Mathlib.Omega.{arith}
 use native.Mathlib.Numerals.{add-one}
 use native.Mathlib.Nat.{le-refl, le-trans}
-use borrow.Author.Tests.{eqb-true, eqb-false, eq-eqb, ne-eqb, le-leb, ltb-true, ltb-false, leb-true, leb-false, not-true}
+use borrow.Author.Tests.{eqb-true, eqb-false, eq-eqb, le-leb, ltb-true, ltb-false, leb-true, not-true}
 use lib.Dec.{eqb, ltb, leb}
 use lib.ListN.{length, getD}
 use Rattle.laws.specs.Cases.{by-eqb, and-true}
-use Rattle.laws.specs.Iter.{iter, iter-ind}
+use Rattle.laws.specs.Iter.{iter-ind}
 use Rattle.laws.specs.Tables.{in-range, below-suc}
+use Rattle.rules.specs.Rig.{Rig}
+use Rattle.rules.specs.RigOk.{RigOk}
 use Rattle.rules.specs.Running.{rank, best, bestOne, chosen}
 use Rattle.rules.specs.Soundness.{Runs}
 
@@ -135,8 +137,10 @@ module _ (pv pr : ℕ → ℕ) (l : List ℕ) where
       go false m = least t
 
 -- "Privileged tasks rank above all others, by priority among themselves."
-pub privileged-above : (pv pr : ℕ → ℕ) (t u : ℕ) → pr u ≤ 255 → pv u < pv t → rank pv pr u < rank pv pr t
-privileged-above pv pr t u h g = omega arith
+pub privileged-above : (r : Rig) → RigOk r → (t u : ℕ) → r .privileged u < r .privileged t
+    → rank (r .privileged) (r .priority) u < rank (r .privileged) (r .priority) t
+privileged-above r ok t u g = omega (arith, ok .priority-le u)
 
-pub by-priority : (pv pr : ℕ → ℕ) (t u : ℕ) → pv u ≡ pv t → pr u < pr t → rank pv pr u < rank pv pr t
-by-priority pv pr t u h g = omega arith
+pub by-priority : (r : Rig) (t u : ℕ) → r .privileged u ≡ r .privileged t → r .priority u < r .priority t
+    → rank (r .privileged) (r .priority) u < rank (r .privileged) (r .priority) t
+by-priority r t u h g = omega arith

@@ -30,3 +30,8 @@ pub record RigOk (r : Rig) : Type 0 where
   pub present-task : (i : ℕ) → r .present i ≡ 1 → (16 ≤ i) × (i < 16 * suc (r .tasks))
   -- "Each A names a condition with a C line"
   pub line-present : (k : ℕ) → k < r .lines → r .present (place (r .lineTask k) (r .linePos k)) ≡ 1
+
+-- of the rows, for what is written into lent buffers: "bus rows 0 to 64 of 1 to 32 words"
+pub record RowsOk (r : Rig) : Type 0 where
+  pub rows-le : r .rows ≤ 64
+  pub words-le : (i : ℕ) → i < r .rows → r .row i .words ≤ 32

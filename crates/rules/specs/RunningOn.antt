@@ -3,13 +3,12 @@
 use mathlib.Core.Path.{_≡_, refl, sym, ap, _∙_, subst}
 use mathlib.Core.Logic.{_≢_, _⊎_, inl, inr}
 use mathlib.Core.Bool.{Bool, true, false, cond}
-use mathlib.Core.List.{List, [], _∷_}
-use Prim.Native.Nat.{ℕ, zero, suc, _+_, _≤_, _<_}
+use Prim.Native.Nat.{ℕ, suc, _+_, _≤_, _<_}
 use native.Mathlib.Omega.{arith}
 use native.Mathlib.Nat.{le-refl}
 use borrow.Author.Tests.{eqb-true, not-false}
 use lib.Dec.{eqb, leb}
-use lib.ListN.{length, getD, set}
+use lib.ListN.{length, set}
 use lib.Seq.{getD-set-same, getD-set-other}
 use Rattle.laws.specs.Cases.{by, dec-eq}
 use Rattle.laws.specs.Tables.{keeps, in-range}
@@ -18,12 +17,12 @@ use Rattle.rules.specs.Rig.{Rig}
 use Rattle.rules.specs.RigOk.{RigOk}
 use Rattle.rules.specs.State.{State, Work, stateOf, valueOf, withTables, timeChain}
 use Rattle.rules.specs.Conditions.{relax, met}
-use Rattle.rules.specs.Serving.{activate, rouse, takes, wake, serve}
+use Rattle.rules.specs.Serving.{activate, takes, wake, serve}
 use Rattle.rules.specs.Waiting.{waitOn, waitUntilCount, wakeDue, isDue}
-use Rattle.rules.specs.Family.{family, isMarked, cleared}
+use Rattle.rules.specs.Family.{family, isMarked}
 use Rattle.rules.specs.Running.{rank, chosen, dispatch}
 use Rattle.rules.specs.Calls.{Call, schedule, cancel, terminate, finish, tick, waitUntil, waitFor, latched, unlatched, signal, readFlag, readBlock, writeBlock}
-use Rattle.rules.specs.Calls.{scheduled, finished, terminated, cancelled, ticked, quiet, effect, refusals, refusal, isInvoked, isUninvoked, notActive, accepted, step}
+use Rattle.rules.specs.Calls.{scheduled, finished, terminated, cancelled, ticked, quiet, effect, refusals, refusal, isInvoked, isUninvoked, notActive, accepted, Step, step}
 use Rattle.rules.specs.Proper.{Proper}
 use Rattle.rules.specs.Soundness.{Sound}
 use Rattle.rules.specs.Rousing.{rouse-three}
@@ -31,7 +30,7 @@ use Rattle.rules.specs.Ranks.{stays-on, lowest-first}
 use Rattle.rules.specs.Acceptance.{named-is}
 use Rattle.rules.specs.Refusals.{accepted-is}
 use Rattle.rules.specs.FamilyLaws.{Under, itself, below, family-is}
-use Rattle.rules.specs.Cancelling.{cleared-miss}
+use Rattle.rules.specs.Leaving.{cleared-miss}
 use Rattle.rules.specs.Good.{serve-keeps, serve-running, serve-good}
 use Rattle.rules.specs.Steps.{effect-ready}
 
@@ -134,7 +133,7 @@ module _ (r : Rig) (ok : RigOk r) (s : State) (h : Sound r s) (k : Call) (p : Pr
   pub stays-dispatchable : s .running ≢ 0 → effect r s k .now .running ≢ 0 → stateOf (step r s k .next) (s .running) ≡ 3
   unfolding accepted dispatch
   stays-dispatchable n m =
-      ap (λ (x : Rattle.rules.specs.Calls.Step). stateOf (x .next) (s .running)) (accepted-is r s k e)
+      ap (λ (x : Step). stateOf (x .next) (s .running)) (accepted-is r s k e)
       ∙ serve-three r (effect r s k) (s .running) (go (effect-stays r ok s h n k e))
     where
       go : Stays s (effect r s k .now) ⊎ GivesUp s k (effect r s k .now) → stateOf (effect r s k .now) (s .running) ≡ 3
@@ -145,14 +144,14 @@ module _ (r : Rig) (ok : RigOk r) (s : State) (h : Sound r s) (k : Call) (p : Pr
   next-running : step r s k .next .running ≡ chosen (r .privileged) (r .priority) (step r s k .next .states) (effect r s k .now .running)
   unfolding accepted dispatch
   next-running =
-      ap (λ (x : Rattle.rules.specs.Calls.Step). x .next .running) (accepted-is r s k e)
+      ap (λ (x : Step). x .next .running) (accepted-is r s k e)
       ∙ ap (λ (m : ℕ). chosen (r .privileged) (r .priority) (serve r (effect r s k) .now .states) m) (serve-running r (effect r s k))
-      ∙ sym (ap (λ (x : Rattle.rules.specs.Calls.Step). chosen (r .privileged) (r .priority) (x .next .states) (effect r s k .now .running)) (accepted-is r s k e))
+      ∙ sym (ap (λ (x : Step). chosen (r .privileged) (r .priority) (x .next .states) (effect r s k .now .running)) (accepted-is r s k e))
 
   next-sized : length (step r s k .next .states) ≡ 65
   unfolding accepted dispatch
   next-sized =
-      ap (λ (x : Rattle.rules.specs.Calls.Step). length (x .next .states)) (accepted-is r s k e)
+      ap (λ (x : Step). length (x .next .states)) (accepted-is r s k e)
       ∙ serve-good r ok (effect r s k) (effect-ready r ok s h k p e) .tasks .sized
 
   -- WHO STAYS RUNS ON: the call did not finish its caller or put it to wait, and nobody dispatchable has higher rank

@@ -1,18 +1,18 @@
 -- The serving loop ends with its queue empty, and serves at most what was queued and what is inactive.
-use mathlib.Core.Path.{_≡_, refl, sym, ap, _∙_}
+use mathlib.Core.Path.{_≡_, refl, ap, _∙_}
 use mathlib.Core.Bool.{Bool, true, false, cond, _&&_}
 use mathlib.Core.List.{List, [], _∷_}
-use Prim.Native.Nat.{ℕ, zero, suc, _+_, _≤_, _<_, zero-le}
+use Prim.Native.Nat.{ℕ, zero, suc, _+_, _≤_, zero-le}
 use native.Mathlib.Omega.{arith}
 use native.Mathlib.Numerals.{add-one}
 use native.Mathlib.Nat.{le-refl, le-trans, suc-add}
 use borrow.Author.Tests.{eqb-true}
 use lib.Dec.{eqb}
 use lib.ListN.{length, getD, set}
-use Rattle.laws.specs.Iter.{iter, iter-ind}
-use Rattle.laws.specs.Tables.{over, over-set, over-store, in-range}
+use Rattle.laws.specs.Iter.{iter-ind}
+use Rattle.laws.specs.Tables.{over-set, over-store, in-range}
 use Rattle.rules.specs.Rig.{Rig}
-use Rattle.rules.specs.State.{State, Work, Done, Entry, stateOf, withTables, withChains, chainOf}
+use Rattle.rules.specs.State.{State, Work, Entry, stateOf, chainOf}
 use Rattle.rules.specs.Serving.{push, isInactive, inactives, activate, offer, offerNext, offers, rouse, wake, takes, serveFlag, another, serving, serve, ready}
 
 -- what is left to do: the entries queued and the tasks that may yet be activated

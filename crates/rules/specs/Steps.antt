@@ -1,28 +1,27 @@
 -- "A fresh record is sound and every call keeps it so".
-use mathlib.Core.Path.{_≡_, refl, sym, ap, _∙_, subst}
+use mathlib.Core.Path.{_≡_, refl, sym, ap, _∙_}
 use mathlib.Core.Logic.{_≢_}
-use mathlib.Core.Bool.{Bool, true, false, not, cond, _||_, true≢false}
+use mathlib.Core.Bool.{Bool, true, false, cond, true≢false}
 use mathlib.Core.List.{List, [], _∷_}
-use Prim.Native.Nat.{ℕ, zero, suc, _+_, _≤_, _<_}
+use Prim.Native.Nat.{ℕ, zero, suc, _+_, _≤_}
 use native.Mathlib.Omega.{arith}
-use native.Mathlib.Nat.{le-refl}
-use borrow.Author.Tests.{eqb-true, eqb-false, leb-false, ltb-false, not-false}
-use lib.Dec.{eqb, leb, ltb}
-use lib.ListN.{length, getD, set, replicate, length-replicate}
-use Rattle.laws.specs.Cases.{by, or-false}
+use borrow.Author.Tests.{eqb-true, leb-false, not-false}
+use lib.Dec.{eqb, leb}
+use lib.ListN.{set, replicate, length-replicate}
+use Rattle.laws.specs.Cases.{or-false}
 use Rattle.laws.specs.Tables.{zeros}
 use Rattle.rules.specs.Rig.{Rig}
 use Rattle.rules.specs.RigOk.{RigOk}
-use Rattle.rules.specs.State.{State, Work, Done, stateOf, valueOf, active, withRunning, blank}
+use Rattle.rules.specs.State.{State, Work, stateOf, valueOf, active, withRunning, blank}
 use Rattle.rules.specs.Conditions.{met, relax}
 use Rattle.rules.specs.Serving.{activate, serve}
 use Rattle.rules.specs.Waiting.{waitOn, waitUntilCount, wakeDue}
-use Rattle.rules.specs.Running.{chosen, dispatch}
+use Rattle.rules.specs.Running.{dispatch}
 use Rattle.rules.specs.Calls.{Call, schedule, cancel, terminate, finish, tick, waitUntil, waitFor, latched, unlatched, signal, readFlag, readBlock, writeBlock}
-use Rattle.rules.specs.Calls.{scheduled, finished, terminated, cancelled, ticked, quiet, effect, refusals, refusal, decide, isInvoked, isUninvoked, notActive, isMinor, isActivation, notPlain, lastCount, accepted, after, step, run, started, start}
+use Rattle.rules.specs.Calls.{scheduled, finished, terminated, cancelled, ticked, quiet, effect, refusals, refusal, isInvoked, notActive, isMinor, isActivation, notPlain, lastCount, accepted, after, step, run, started, start}
 use Rattle.rules.specs.Proper.{Proper, ProperRun}
-use Rattle.rules.specs.Soundness.{Tasks, Flags, Conds, Wakes, Chains, Runs, Sound}
-use Rattle.rules.specs.Queued.{look, look-nil}
+use Rattle.rules.specs.Soundness.{Sound}
+use Rattle.rules.specs.Queued.{look}
 use Rattle.rules.specs.Ranks.{chosen-runs, runs-chosen}
 use Rattle.rules.specs.Acceptance.{passed, somebody-runs, named-is, flagged-is, no-activation}
 use Rattle.rules.specs.Good.{Good, Ready, sound-good, serve-good, serve-count}

@@ -1,22 +1,22 @@
 -- What is stored in the tables keeps them sound: states 0 to 3, values 0 and 1, invoked controllers, and 0 in every place
 -- beyond the rig's counts.
-use mathlib.Core.Path.{_≡_, refl, sym, ap, _∙_, subst}
-use mathlib.Core.Logic.{_≢_, _⊎_, inl, inr}
-use mathlib.Core.Bool.{Bool, true, false, cond, _&&_}
+use mathlib.Core.Path.{_≡_, refl, sym, _∙_, subst}
+use mathlib.Core.Logic.{_≢_, inl, inr}
+use mathlib.Core.Bool.{_&&_}
 use mathlib.Core.List.{List, [], _∷_}
-use Prim.Native.Nat.{ℕ, zero, suc, _+_, _-_, _≤_, _<_}
+use Prim.Native.Nat.{ℕ, _-_, _≤_}
 use native.Mathlib.Omega.{arith}
 use borrow.Author.Tests.{eqb-true}
 use lib.Dec.{eqb}
-use lib.ListN.{length, getD, set, length-set}
+use lib.ListN.{getD, set, length-set}
 use lib.Seq.{getD-set-other}
 use Rattle.laws.specs.Cases.{dec-eq, and-true}
-use Rattle.laws.specs.Iter.{iter, iter-ind}
 use Rattle.laws.specs.Tables.{set-le, set-within, keeps-some, was-some}
 use Rattle.laws.specs.Members.{In}
+use Rattle.laws.specs.Stores.{stores-keep}
 use Rattle.rules.specs.Rig.{Rig, place}
 use Rattle.rules.specs.RigOk.{RigOk}
-use Rattle.rules.specs.Conditions.{relax, relaxOne, drive, driveOne}
+use Rattle.rules.specs.Conditions.{relax, drive}
 use Rattle.rules.specs.Serving.{rouse}
 use Rattle.rules.specs.Soundness.{Tasks, Flags, Conds, Wakes}
 
@@ -85,21 +85,11 @@ module _ (r : Rig) where
   pub conds-relax : (t : ℕ) (l : List ℕ) → Conds r l → Conds r (relax (r .present) (r .latched) (r .desired) t l)
   unfolding relax
   conds-relax t l h =
-      iter-ind (λ i m. Conds r m) (relaxOne (r .present) (r .latched) (r .desired) t) l h
-      (λ p m k. go p m k (eqb (r .present (place t p)) 1) refl (eqb (r .latched (place t p)) 0)) 16
-    where
-      go : (p : ℕ) (m : List ℕ) → Conds r m → (a : Bool) → eqb (r .present (place t p)) 1 ≡ a → (b : Bool)
-          → Conds r (cond (a && b) (set m (place t p) (1 - r .desired (place t p))) m)
-      go p m k true e true = conds-set m (place t p) (1 - r .desired (place t p)) (eqb-true _ 1 e) (omega arith) k
-      go p m k true e false = k
-      go p m k false e b = k
+      stores-keep (λ p. eqb (r .present (place t p)) 1 && eqb (r .latched (place t p)) 0) (λ p. place t p) (λ p. 1 - r .desired (place t p)) (Conds r) 16
+      (λ p m a e g. conds-set m (place t p) (1 - r .desired (place t p)) (eqb-true _ 1 (and-true (eqb (r .present (place t p)) 1) _ e .0)) (omega arith) g) l h
 
   pub conds-drive : RigOk r → (f v : ℕ) → v ≤ 1 → (l : List ℕ) → Conds r l → Conds r (drive (r .lines) (r .lineTask) (r .linePos) (r .lineFlag) f v l)
   unfolding drive
   conds-drive ok f v c l h =
-      iter-ind (λ i m. i ≤ r .lines → Conds r m) (driveOne (r .lineTask) (r .linePos) (r .lineFlag) f v) l (λ q. h)
-      (λ k m g q. go k m (omega arith) (g (omega arith)) (eqb (r .lineFlag k) f)) (r .lines) (native.Mathlib.Nat.le-refl _)
-    where
-      go : (k : ℕ) (m : List ℕ) → k < r .lines → Conds r m → (b : Bool) → Conds r (cond b (set m (place (r .lineTask k) (r .linePos k)) v) m)
-      go k m a g true = conds-set m (place (r .lineTask k) (r .linePos k)) v (ok .line-present k a) c g
-      go k m a g false = g
+      stores-keep (λ k. eqb (r .lineFlag k) f) (λ k. place (r .lineTask k) (r .linePos k)) (λ k. v) (Conds r) (r .lines)
+      (λ k m a e g. conds-set m (place (r .lineTask k) (r .linePos k)) v (ok .line-present k a) c g) l h

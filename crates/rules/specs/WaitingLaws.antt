@@ -1,25 +1,24 @@
 -- Each chain lists exactly who waits there, once: kept when some are woken, when one begins to wait, when one leaves.
 use mathlib.Core.Path.{_≡_, refl, sym, ap, _∙_, subst}
 use mathlib.Core.Logic.{_≢_, _⊎_, inl, inr, ⊎-elim}
-use mathlib.Core.Bool.{Bool, true, false, not, cond}
+use mathlib.Core.Bool.{Bool, true, false, not, cond, false≢true}
 use mathlib.Core.List.{List, [], _∷_, _++_}
 use Prim.Native.Nat.{ℕ, zero, suc, _+_, _≤_, _<_}
 use native.Mathlib.Omega.{arith}
-use borrow.Author.Tests.{eqb-true, eqb-false, eq-eqb, ne-eqb}
-use lib.Dec.{eqb}
+use borrow.Author.Tests.{eqb-false}
 use lib.ListN.{length, getD, set}
 use lib.Seq.{getD-set-same, getD-set-other}
 use Rattle.laws.specs.Cases.{by, dec-eq}
 use Rattle.laws.specs.Iter.{iter}
 use Rattle.laws.specs.Tables.{in-range, was-there, keeps}
 use Rattle.laws.specs.Functions.{upd, upd-same, upd-other, on-upd}
-use Rattle.laws.specs.Members.{In, Distinct, without, keep, in-left, in-right, in-cases, dec-in, in-without, without-in, distinct-without, in-keep, keep-in, keep-test, distinct-keep, distinct-end}
+use Rattle.laws.specs.Members.{In, Distinct, keep, in-left, in-right, in-cases, dec-in, in-without, without-in, distinct-without, in-keep, keep-in, keep-test, distinct-keep, distinct-end}
 use Rattle.laws.specs.Order.{Sorted, place, in-place, place-new, place-old, place-sorted, place-distinct, sorted-same, keep-sorted, without-sorted}
 use Rattle.rules.specs.State.{timeChain}
 use Rattle.rules.specs.Serving.{rouse}
 use Rattle.rules.specs.Waiting.{leave, isDue}
 use Rattle.rules.specs.Family.{isMarked, clearOne, leaveOne, cleared, deserted}
-use Rattle.rules.specs.Soundness.{Somewhere, Listed, Apart, Once, Only, Chains}
+use Rattle.rules.specs.Soundness.{Somewhere, Listed, Apart, Only, Chains}
 use Rattle.rules.specs.Rousing.{rouse-in, rouse-out}
 
 -- a number that is no chain's has an empty list
@@ -91,7 +90,7 @@ module _ (n : ℕ) (w : List ℕ) (X : ℕ → List ℕ) (l : List ℕ) (h : Cha
       (λ t i. later t (h .ahead t (in-keep stay t (X timeChain) i)) (keep-test stay t (X timeChain) i))
     where
       no-both : (t : ℕ) → due t ≡ true → stay t ≡ true → ⊥
-      no-both t e f = mathlib.Core.Bool.false≢true (sym (ap not e) ∙ f)
+      no-both t e f = false≢true (sym (ap not e) ∙ f)
 
       later : (t : ℕ) → n < getD w t 0 → stay t ≡ true → suc n < getD w t 0
       later t a f = by (due t) (λ e. absurd (no-both t e f)) (λ e. omega (arith, eqb-false (getD w t 0) (suc n) e))
