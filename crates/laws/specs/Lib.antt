@@ -11,3 +11,4 @@ pub mod Order
 pub mod First
 pub mod Says
 pub mod Stores
+pub mod Ordered

@@ -7,6 +7,10 @@ pub mod Family
 pub mod Running
 pub mod Bus
 pub mod Calls
+pub mod Scripts
+pub mod Cases
+pub mod Morning
+pub mod Full
 pub mod RigOk
 pub mod Soundness
 pub mod Proper
@@ -25,6 +29,11 @@ pub mod Effects
 pub mod Leaving
 pub mod Cancelling
 pub mod Steps
+pub mod History
+pub mod InOrder
+pub mod Waking
+pub mod WakingLaws
+pub mod BenchRig
 pub mod Bound
 pub mod Reasons
 pub mod Refusals

@@ -1,0 +1,582 @@
+-- CASES: each rule that a wrong version could drop, as a script with what is seen after each call. One table, one statement.
+use mathlib.Core.Path.{_≡_, refl}
+use mathlib.Core.List.{List, [], _∷_, _++_}
+use Prim.Native.Nat.{ℕ}
+use lib.ListN.{replicate}
+use Rattle.laws.specs.Iter.{iter}
+use Rattle.laws.specs.All.{all}
+use Rattle.laws.specs.Any.{any}
+use Rattle.laws.specs.Tables.{total, over}
+use Rattle.laws.specs.Put.{put}
+use Rattle.words.specs.Command.{commandWord}
+use Rattle.rules.specs.Rig.{Rig}
+use Rattle.rules.specs.State.{blank}
+use Rattle.rules.specs.Conditions.{relax, met, drive, names}
+use Rattle.rules.specs.Serving.{activate, takes, rouse, wake, ready, offer, offers, serveFlag, serving, serve}
+use Rattle.rules.specs.Waiting.{waitOn, waitUntilCount, leave, wakeDue}
+use Rattle.rules.specs.Family.{family, cleared, deserted, offs}
+use Rattle.rules.specs.Running.{best, chosen, dispatch}
+use Rattle.rules.specs.Bus.{written, copied, rowWords, busWords}
+use Rattle.rules.specs.Calls.{Call, schedule, cancel, terminate, finish, tick, waitUntil, waitFor, latched, unlatched, signal, readFlag, readBlock, writeBlock}
+use Rattle.rules.specs.Calls.{scheduled, finished, terminated, cancelled, cycleQueue, ticked, effect, decide, noSuch, inCycle, isMinor, isActivation, lastCount, wrongBlock, refusals, refusal, wordsAt, lent, output, accepted, after, step, run, started, start}
+use Rattle.rules.specs.Scripts.{T, C, A, M, B, ofTask, ofCondition, numbers, ofLine, ofCycle, rig, tick₀, startAt, seen, Case, shown, case, caseAt, bench, morningCalls}
+use Rattle.rules.specs.Scripts.{runs, answers, serves, writes, reads, lends, stateIs, valueIs, waitFlag, waitTime, _and_}
+
+-- ---- rigs that several cases use
+
+-- one task, two flags, one row of 2 words
+lone : Rig
+lone = rig 1 2 1 (T 1 0 10 0 0 ∷ []) [] [] [] (B 1 5 7 2 2 1 0 ∷ [])
+
+-- two tasks with no conditions, the second of higher priority
+pair : Rig
+pair = rig 2 4 1 (T 1 0 10 0 0 ∷ T 2 1 20 0 0 ∷ []) [] [] [] []
+
+-- task 1 and three tasks of equal, higher priority
+quad : Rig
+quad = rig 4 4 1 (T 1 0 10 0 0 ∷ T 2 1 20 0 0 ∷ T 3 1 20 0 0 ∷ T 4 1 20 0 0 ∷ []) [] [] [] []
+
+-- each task controls the next
+line : Rig
+line = rig 3 4 1 (T 1 0 10 0 0 ∷ T 2 1 20 0 0 ∷ T 3 2 30 0 0 ∷ []) [] [] [] []
+
+-- task 2 has a latched condition on flag 1
+remembering : Rig
+remembering = rig 2 4 1 (T 1 0 10 0 0 ∷ T 2 1 20 0 0 ∷ []) (C 2 0 1 1 ∷ []) (A 2 0 1 ∷ []) [] []
+
+-- task 2 has an unlatched condition on flag 1
+forgetting : Rig
+forgetting = rig 2 4 1 (T 1 0 10 0 0 ∷ T 2 1 20 0 0 ∷ []) (C 2 0 0 1 ∷ []) (A 2 0 1 ∷ []) [] []
+
+-- two rows, of 2 and of 3 words
+rows : Rig
+rows = rig 1 1 1 (T 1 0 10 0 0 ∷ []) [] [] [] (B 1 5 7 2 2 1 0 ∷ B 1 5 7 2 3 1 0 ∷ [])
+
+-- ---- THE FAULT that started the project
+
+-- A task that is stopped and started again within one call. Task 2's condition asks that its own activation flag 3 be off:
+-- terminated, it is activated again by its own off. Task 3 waits for the off, task 4 for the next on. At the end flag 3 is
+-- on, and both are awake.
+stopped-and-started : Case
+stopped-and-started =
+    case (rig 4 4 1 (T 1 0 10 0 0 ∷ T 2 1 5 0 3 ∷ T 3 1 30 0 0 ∷ T 4 1 20 0 0 ∷ []) (C 2 0 1 0 ∷ []) (A 2 0 3 ∷ []) [] [])
+    (schedule 2 ∷ schedule 3 ∷ unlatched 3 0 ∷ schedule 4 ∷ unlatched 3 1 ∷ terminate 2 ∷ [])
+    (serves and valueIs 3 and stateIs 2 and stateIs 3 and stateIs 4 and runs)
+    (
+    1 ∷ 1 ∷ 3 ∷ 0 ∷ 0 ∷ 1 ∷
+    0 ∷ 1 ∷ 3 ∷ 3 ∷ 0 ∷ 3 ∷
+    0 ∷ 1 ∷ 3 ∷ 2 ∷ 0 ∷ 1 ∷
+    0 ∷ 1 ∷ 3 ∷ 2 ∷ 3 ∷ 4 ∷
+    0 ∷ 1 ∷ 3 ∷ 2 ∷ 2 ∷ 1 ∷
+    2 ∷ 1 ∷ 3 ∷ 3 ∷ 3 ∷ 3 ∷ []
+    )
+
+-- ---- "Slips seen on benches"
+
+-- "32 put unreduced into the count field spills: 14432 for 14400."; and "words past those written stay"
+thirty-two-is-written-as-zero : Case
+thirty-two-is-written-as-zero =
+    case bench
+    (tick (replicate 130 9) ∷ tick (replicate 130 9) ∷ [])
+    lends
+    (replicate 130 9 ++ 14400 ∷ replicate 129 9)
+
+-- "An equal-priority task that wakes takes the processor.": task 2 wakes, and task 3 goes on
+equal-rank-takes-nothing : Case
+equal-rank-takes-nothing =
+    case quad
+    (schedule 2 ∷ waitFor 1 ∷ schedule 3 ∷ tick₀ ∷ [])
+    runs
+    (2 ∷ 1 ∷ 3 ∷ 3 ∷ [])
+
+-- "The phase is compared with the count before the tick.": period 2, phase 0
+phase-against-the-count-after-the-tick : Case
+phase-against-the-count-after-the-tick =
+    case bench
+    (tick₀ ∷ tick₀ ∷ tick₀ ∷ tick₀ ∷ [])
+    writes
+    (0 ∷ 1 ∷ 0 ∷ 1 ∷ [])
+
+-- "Cancel clears the named task and leaves a descendant linked.": task 2 waits for a count, its task 3 on flag 1 behind task
+-- 4, who is none of theirs; seen: flag 1's chain, the time chain, states of 2 and 3, who runs
+cancel-strikes-every-descendant : Case
+cancel-strikes-every-descendant =
+    case (rig 4 4 1 (T 1 0 10 0 0 ∷ T 2 1 20 0 0 ∷ T 3 2 30 0 0 ∷ T 4 1 40 0 0 ∷ []) [] [] [] [])
+    (schedule 4 ∷ unlatched 1 1 ∷ schedule 2 ∷ schedule 3 ∷ unlatched 1 1 ∷ waitUntil 5 ∷ cancel 2 ∷ signal 1 1 ∷ [])
+    (waitFlag 1 1 and waitTime and stateIs 2 and stateIs 3 and runs)
+    (
+    0 ∷ 0 ∷ 0 ∷ 0 ∷ 4 ∷
+    4 ∷ 0 ∷ 0 ∷ 0 ∷ 0 ∷ 1 ∷
+    4 ∷ 0 ∷ 0 ∷ 3 ∷ 0 ∷ 2 ∷
+    4 ∷ 0 ∷ 0 ∷ 3 ∷ 3 ∷ 3 ∷
+    4 ∷ 3 ∷ 0 ∷ 0 ∷ 3 ∷ 2 ∷ 2 ∷
+    4 ∷ 3 ∷ 0 ∷ 2 ∷ 0 ∷ 2 ∷ 2 ∷ 1 ∷
+    4 ∷ 0 ∷ 0 ∷ 0 ∷ 0 ∷ 1 ∷
+    0 ∷ 0 ∷ 0 ∷ 0 ∷ 4 ∷ []
+    )
+
+-- "An unlatched wait is satisfied by the value already there."; and a service that changes nothing still wakes
+unlatched-waits-for-the-next-service : Case
+unlatched-waits-for-the-next-service =
+    case pair
+    (schedule 2 ∷ signal 1 1 ∷ unlatched 1 1 ∷ signal 1 1 ∷ [])
+    runs
+    (2 ∷ 2 ∷ 1 ∷ 2 ∷ [])
+
+-- ---- Tasks and flags
+
+-- "every condition with that flag takes it, whatever its task's state": here its task is uninvoked
+latched-conditions-remember : Case
+latched-conditions-remember =
+    case remembering
+    (signal 1 1 ∷ schedule 2 ∷ [])
+    runs
+    (1 ∷ 2 ∷ [])
+
+-- the same while its task is dispatchable: task 2 signals its own condition off, and is not activated when scheduled anew
+conditions-are-driven-while-the-task-runs : Case
+conditions-are-driven-while-the-task-runs =
+    case remembering
+    (signal 1 1 ∷ schedule 2 ∷ signal 1 0 ∷ finish ∷ cancel 2 ∷ schedule 2 ∷ [])
+    runs
+    (1 ∷ 2 ∷ 2 ∷ 1 ∷ 1 ∷ 1 ∷ [])
+
+-- "Schedule: unlatched conditions take the undesired value"
+schedule-relaxes : Case
+schedule-relaxes =
+    case forgetting
+    (signal 1 1 ∷ schedule 2 ∷ signal 1 1 ∷ [])
+    runs
+    (1 ∷ 1 ∷ 2 ∷ [])
+
+-- "Activate: .. unlatched conditions undesired again": the second time flag 2 alone is not enough
+activation-relaxes : Case
+activation-relaxes =
+    case (rig 2 4 1 (T 1 0 10 0 0 ∷ T 2 1 20 0 0 ∷ []) (C 2 0 0 1 ∷ C 2 1 1 1 ∷ []) (A 2 0 1 ∷ A 2 1 2 ∷ []) [] [])
+    (schedule 2 ∷ signal 2 1 ∷ signal 1 1 ∷ finish ∷ signal 2 1 ∷ signal 1 1 ∷ [])
+    runs
+    (1 ∷ 1 ∷ 2 ∷ 1 ∷ 1 ∷ 2 ∷ [])
+
+-- "A condition is tested for activation on schedule and on service of one of its flags.": not at a finish
+tested-on-schedule-and-service-only : Case
+tested-on-schedule-and-service-only =
+    case remembering
+    (signal 1 1 ∷ schedule 2 ∷ finish ∷ signal 1 1 ∷ [])
+    runs
+    (1 ∷ 2 ∷ 1 ∷ 2 ∷ [])
+
+-- "if all conditions are as desired": one of the two is not enough
+all-conditions-as-desired : Case
+all-conditions-as-desired =
+    case (rig 2 4 1 (T 1 0 10 0 0 ∷ T 2 1 20 0 0 ∷ []) (C 2 0 1 1 ∷ C 2 1 1 1 ∷ []) (A 2 0 1 ∷ A 2 1 2 ∷ []) [] [])
+    (signal 1 1 ∷ schedule 2 ∷ signal 2 1 ∷ [])
+    runs
+    (1 ∷ 1 ∷ 2 ∷ [])
+
+-- a condition has the value last served to any of its flags
+one-condition-of-two-flags : Case
+one-condition-of-two-flags =
+    case (rig 2 4 1 (T 1 0 10 0 0 ∷ T 2 1 20 0 0 ∷ []) (C 2 0 1 1 ∷ []) (A 2 0 1 ∷ A 2 0 2 ∷ []) [] [])
+    (signal 1 1 ∷ signal 2 0 ∷ schedule 2 ∷ signal 2 1 ∷ [])
+    runs
+    (1 ∷ 1 ∷ 1 ∷ 2 ∷ [])
+
+-- "Finish (the running task): inactive, activation flag queued off."
+finish-wakes-who-waits-for-the-off : Case
+finish-wakes-who-waits-for-the-off =
+    case (rig 2 4 1 (T 1 0 10 0 0 ∷ T 2 1 20 0 2 ∷ []) [] [] [] [])
+    (schedule 2 ∷ waitFor 1 ∷ unlatched 2 0 ∷ tick₀ ∷ finish ∷ [])
+    (runs and stateIs 2 and valueIs 2)
+    (
+    2 ∷ 3 ∷ 1 ∷
+    1 ∷ 2 ∷ 1 ∷
+    0 ∷ 2 ∷ 1 ∷
+    2 ∷ 3 ∷ 1 ∷
+    1 ∷ 1 ∷ 0 ∷ []
+    )
+
+-- "Terminate: the same for the named active task, taken out of any chain.": task 2; its task 3 waits on, and only it wakes
+terminate-takes-out-of-a-flag-chain : Case
+terminate-takes-out-of-a-flag-chain =
+    case line
+    (schedule 2 ∷ schedule 3 ∷ unlatched 1 1 ∷ unlatched 1 1 ∷ terminate 2 ∷ signal 1 1 ∷ [])
+    (waitFlag 1 1 and stateIs 2 and stateIs 3 and runs)
+    (
+    0 ∷ 3 ∷ 0 ∷ 2 ∷
+    0 ∷ 3 ∷ 3 ∷ 3 ∷
+    3 ∷ 0 ∷ 3 ∷ 2 ∷ 2 ∷
+    3 ∷ 2 ∷ 0 ∷ 2 ∷ 2 ∷ 1 ∷
+    3 ∷ 0 ∷ 1 ∷ 2 ∷ 1 ∷
+    0 ∷ 1 ∷ 3 ∷ 3 ∷ []
+    )
+
+-- the same of the time chain
+terminate-takes-out-of-the-time-chain : Case
+terminate-takes-out-of-the-time-chain =
+    case pair
+    (schedule 2 ∷ waitUntil 2 ∷ terminate 2 ∷ tick₀ ∷ tick₀ ∷ [])
+    (waitTime and stateIs 2 and runs)
+    (
+    0 ∷ 3 ∷ 2 ∷
+    2 ∷ 0 ∷ 2 ∷ 1 ∷
+    0 ∷ 1 ∷ 1 ∷
+    0 ∷ 1 ∷ 1 ∷
+    0 ∷ 1 ∷ 1 ∷ []
+    )
+
+-- "then activation flags of those that were active are queued off": task 3 is inactive; seen: served
+cancel-queues-off-for-the-active-only : Case
+cancel-queues-off-for-the-active-only =
+    case (rig 3 4 1 (T 1 0 10 0 0 ∷ T 2 1 20 0 2 ∷ T 3 2 5 0 3 ∷ []) (C 3 0 0 1 ∷ []) (A 3 0 1 ∷ []) [] [])
+    (schedule 2 ∷ schedule 3 ∷ waitFor 5 ∷ cancel 2 ∷ [])
+    serves
+    (1 ∷ 0 ∷ 0 ∷ 1 ∷ [])
+
+-- ".. by rising task number", so task 3's off is served before task 2's, and task 4, who asks for 2 off while 3 is on,
+-- stays inactive; seen: served, state of 4
+cancel-serves-the-highest-off-first : Case
+cancel-serves-the-highest-off-first =
+    case (rig 4 4 1 (T 1 0 10 0 0 ∷ T 2 1 20 0 2 ∷ T 3 2 5 0 3 ∷ T 4 1 1 0 0 ∷ []) (C 4 0 1 0 ∷ C 4 1 1 1 ∷ []) (A 4 0 2 ∷ A 4 1 3 ∷ []) [] [])
+    (schedule 2 ∷ schedule 3 ∷ waitFor 5 ∷ schedule 4 ∷ cancel 2 ∷ [])
+    (serves and stateIs 4)
+    (1 ∷ 0 ∷ 1 ∷ 0 ∷ 0 ∷ 0 ∷ 0 ∷ 1 ∷ 2 ∷ 1 ∷ [])
+
+-- ---- Serving
+
+-- "the last queued is taken off first": of a tick's flags 1 and 2 the second; then the activation flag 3 of task 3, whom it
+-- activates, so that task 2's condition on 3 is no longer as desired when flag 1 is served
+last-queued-first : Case
+last-queued-first =
+    case (rig 3 4 1 (T 1 0 10 0 0 ∷ T 2 1 30 0 0 ∷ T 3 1 20 0 3 ∷ []) (C 2 0 0 1 ∷ C 2 1 1 0 ∷ C 3 0 0 1 ∷ []) (A 2 0 1 ∷ A 2 1 3 ∷ A 3 0 2 ∷ []) (M 1 1 ∷ M 1 2 ∷ []) [])
+    (schedule 2 ∷ schedule 3 ∷ tick₀ ∷ [])
+    (serves and runs)
+    (0 ∷ 1 ∷ 0 ∷ 1 ∷ 3 ∷ 3 ∷ [])
+
+-- "then, by rising number, each inactive task ..": 3 after 2, so 3's activation flag is served before 2's, and task 4, who
+-- asks for 2 on while 3 is off, stays inactive; seen: served, states of 2, 3, 4
+activation-by-rising-number : Case
+activation-by-rising-number =
+    case (rig 4 4 1 (T 1 0 50 0 0 ∷ T 2 1 10 0 2 ∷ T 3 1 10 0 3 ∷ T 4 1 10 0 0 ∷ []) (C 2 0 0 1 ∷ C 3 0 0 1 ∷ C 4 0 1 1 ∷ C 4 1 1 0 ∷ []) (A 2 0 1 ∷ A 3 0 1 ∷ A 4 0 2 ∷ A 4 1 3 ∷ []) [] [])
+    (schedule 2 ∷ schedule 3 ∷ schedule 4 ∷ signal 1 1 ∷ [])
+    (serves and stateIs 2 and stateIs 3 and stateIs 4)
+    (
+    0 ∷ 1 ∷ 0 ∷ 0 ∷
+    0 ∷ 1 ∷ 1 ∷ 0 ∷
+    0 ∷ 1 ∷ 1 ∷ 1 ∷
+    3 ∷ 3 ∷ 3 ∷ 1 ∷ []
+    )
+
+-- "tasks waiting on that flag and value become dispatchable"
+only-the-value-waited-for-wakes : Case
+only-the-value-waited-for-wakes =
+    case pair
+    (schedule 2 ∷ unlatched 1 1 ∷ signal 1 0 ∷ signal 1 1 ∷ unlatched 1 0 ∷ signal 1 1 ∷ signal 1 0 ∷ [])
+    runs
+    (2 ∷ 1 ∷ 1 ∷ 2 ∷ 1 ∷ 1 ∷ 2 ∷ [])
+
+-- "Each call answers with the number of flags it served": the calls of the bench morning
+served-numbers : Case
+served-numbers =
+    case bench
+    morningCalls
+    serves
+    (0 ∷ 0 ∷ 0 ∷ 0 ∷ 0 ∷ 2 ∷ 1 ∷ 0 ∷ 0 ∷ 0 ∷ [])
+
+-- ---- waits
+
+-- "Wait until a count ..": waiting, and dispatchable after the tick that makes it
+wait-until-a-count : Case
+wait-until-a-count =
+    case pair
+    (schedule 2 ∷ waitUntil 2 ∷ tick₀ ∷ tick₀ ∷ [])
+    (runs and stateIs 2)
+    (2 ∷ 3 ∷ 1 ∷ 2 ∷ 1 ∷ 2 ∷ 2 ∷ 3 ∷ [])
+
+-- ".. or for a number of cycles": 2 from count 1 on; and it wakes again at the next wait
+wait-for-cycles : Case
+wait-for-cycles =
+    case pair
+    (tick₀ ∷ schedule 2 ∷ waitFor 2 ∷ tick₀ ∷ tick₀ ∷ waitFor 1 ∷ tick₀ ∷ [])
+    runs
+    (1 ∷ 2 ∷ 1 ∷ 1 ∷ 2 ∷ 1 ∷ 2 ∷ [])
+
+-- "if the waking count is at or below the count, no wait" (the paper's case: the present count)
+no-wait-at-or-below-the-count : Case
+no-wait-at-or-below-the-count =
+    case lone
+    (tick₀ ∷ waitUntil 1 ∷ waitUntil 0 ∷ waitFor 0 ∷ [])
+    (answers and runs)
+    (0 ∷ 1 ∷ 0 ∷ 1 ∷ 0 ∷ 1 ∷ 0 ∷ 1 ∷ [])
+
+-- "Latched wait for a flag's value: no wait if it has it."
+latched-wait-takes-the-value-there : Case
+latched-wait-takes-the-value-there =
+    case pair
+    (schedule 2 ∷ signal 1 1 ∷ latched 1 1 ∷ latched 1 0 ∷ signal 1 0 ∷ [])
+    runs
+    (2 ∷ 2 ∷ 2 ∷ 1 ∷ 2 ∷ [])
+
+-- "Time chain order: waking count, then who began to wait earlier."
+time-chain-in-order : Case
+time-chain-in-order =
+    case quad
+    (schedule 4 ∷ waitUntil 5 ∷ schedule 3 ∷ waitUntil 3 ∷ schedule 2 ∷ waitFor 5 ∷ tick₀ ∷ tick₀ ∷ tick₀ ∷ [])
+    waitTime
+    (
+    0 ∷
+    4 ∷ 0 ∷
+    4 ∷ 0 ∷
+    3 ∷ 4 ∷ 0 ∷
+    3 ∷ 4 ∷ 0 ∷
+    3 ∷ 4 ∷ 2 ∷ 0 ∷
+    3 ∷ 4 ∷ 2 ∷ 0 ∷
+    3 ∷ 4 ∷ 2 ∷ 0 ∷
+    4 ∷ 2 ∷ 0 ∷ []
+    )
+
+-- "Each flag has a chain for on and one for off, in order of beginning."
+flag-chains-in-order : Case
+flag-chains-in-order =
+    case quad
+    (schedule 4 ∷ unlatched 1 1 ∷ schedule 2 ∷ unlatched 1 1 ∷ schedule 3 ∷ latched 1 1 ∷ signal 1 1 ∷ [])
+    (waitFlag 1 1 and waitFlag 1 0)
+    (
+    0 ∷ 0 ∷
+    4 ∷ 0 ∷ 0 ∷
+    4 ∷ 0 ∷ 0 ∷
+    4 ∷ 2 ∷ 0 ∷ 0 ∷
+    4 ∷ 2 ∷ 0 ∷ 0 ∷
+    4 ∷ 2 ∷ 3 ∷ 0 ∷ 0 ∷
+    0 ∷ 0 ∷ []
+    )
+
+-- ---- Tick, and who runs
+
+-- "the M list of cycle (count modulo 64) is queued": that of cycle 0 first at count 64; seen: served
+cycle-of-the-count : Case
+cycle-of-the-count =
+    case (rig 1 2 1 (T 1 0 10 0 0 ∷ []) [] [] (M 0 2 ∷ M 1 1 ∷ M 1 2 ∷ []) [])
+    (replicate 65 tick₀)
+    serves
+    (2 ∷ replicate 62 0 ++ 1 ∷ 2 ∷ [])
+
+-- "then task 1 is scheduled": its unlatched condition waits for the flag of cycle 1, so that nobody runs till then
+start-schedules-task-1 : Case
+start-schedules-task-1 =
+    case (rig 1 2 1 (T 1 0 10 0 2 ∷ []) (C 1 0 0 1 ∷ []) (A 1 0 1 ∷ []) (M 1 1 ∷ []) [])
+    (finish ∷ tick₀ ∷ readFlag 2 ∷ [])
+    (answers and serves and reads and runs)
+    (
+    5 ∷ 0 ∷ 0 ∷ 0 ∷
+    0 ∷ 2 ∷ 0 ∷ 1 ∷
+    0 ∷ 0 ∷ 1 ∷ 1 ∷ []
+    )
+
+-- "the running task goes on if .. none has higher rank": task 2 wakes, and takes the processor from task 3
+higher-rank-takes-the-processor : Case
+higher-rank-takes-the-processor =
+    case (rig 3 4 1 (T 1 0 10 0 0 ∷ T 2 1 30 0 0 ∷ T 3 1 20 0 0 ∷ []) [] [] [] [])
+    (schedule 2 ∷ waitFor 1 ∷ schedule 3 ∷ tick₀ ∷ [])
+    runs
+    (2 ∷ 1 ∷ 3 ∷ 2 ∷ [])
+
+-- "else the highest rank, lowest number first; else none"
+lowest-number-first : Case
+lowest-number-first =
+    case (rig 3 4 1 (T 1 0 10 0 0 ∷ T 2 1 20 0 0 ∷ T 3 1 20 0 0 ∷ []) (C 2 0 0 1 ∷ C 3 0 0 1 ∷ []) (A 2 0 1 ∷ A 3 0 1 ∷ []) (M 1 1 ∷ []) [])
+    (schedule 3 ∷ schedule 2 ∷ finish ∷ tick₀ ∷ [])
+    runs
+    (1 ∷ 1 ∷ 0 ∷ 2 ∷ [])
+
+-- "if it stayed dispatchable throughout": task 3 finishes and is activated again by its own off, so task 2 of equal rank runs
+stayed-throughout : Case
+stayed-throughout =
+    case (rig 3 4 1 (T 1 0 10 0 0 ∷ T 2 1 20 0 0 ∷ T 3 1 20 0 4 ∷ []) (C 2 0 1 1 ∷ C 3 0 1 0 ∷ []) (A 2 0 1 ∷ A 3 0 4 ∷ []) [] [])
+    (schedule 2 ∷ schedule 3 ∷ signal 1 1 ∷ finish ∷ [])
+    (runs and stateIs 3)
+    (1 ∷ 0 ∷ 3 ∷ 3 ∷ 3 ∷ 3 ∷ 2 ∷ 3 ∷ [])
+
+-- "Privileged tasks rank above all others, by priority among themselves."
+privileged-above-all-others : Case
+privileged-above-all-others =
+    case (rig 3 4 1 (T 1 0 10 0 0 ∷ T 2 1 5 1 0 ∷ T 3 1 6 1 0 ∷ []) [] [] [] [])
+    (schedule 2 ∷ waitFor 1 ∷ schedule 3 ∷ tick₀ ∷ finish ∷ [])
+    runs
+    (2 ∷ 1 ∷ 3 ∷ 3 ∷ 2 ∷ [])
+
+-- ---- Compool and bus words
+
+-- "from the master, a receive command to the receiver; to the master, a transmit command to the sender; else receive, then
+-- transmit"; the last row is not due
+rows-in-order : Case
+rows-in-order =
+    case (rig 1 1 1 (T 1 0 10 0 0 ∷ []) [] [] [] (B 1 5 7 2 32 1 0 ∷ B 7 2 1 5 1 1 0 ∷ B 3 1 4 2 2 1 0 ∷ B 1 5 7 2 1 2 0 ∷ []))
+    (tick₀ ∷ [])
+    (writes and lends)
+    (4 ∷ 14400 ∷ 15425 ∷ 8258 ∷ 7202 ∷ replicate 124 0)
+
+-- "Write stores the data and the count modulo 65,536 as tag and touches no other word": row 2, at count 65,537
+write-touches-no-other-word : Case
+write-touches-no-other-word =
+    caseAt 65537 rows
+    (writeBlock 2 (replicate 66 5) (7 ∷ 8 ∷ 9 ∷ []) ∷ [])
+    (answers and lends)
+    (0 ∷ replicate 33 5 ++ 1 ∷ 7 ∷ 8 ∷ 9 ∷ replicate 29 5)
+
+-- "read copies the data out"
+read-copies-the-data : Case
+read-copies-the-data =
+    case rows
+    (readBlock 2 (replicate 33 5 ++ 1 ∷ 7 ∷ 8 ∷ 9 ∷ replicate 29 5) (0 ∷ 0 ∷ 0 ∷ []) ∷ [])
+    (answers and lends)
+    (0 ∷ 7 ∷ 8 ∷ 9 ∷ [])
+
+-- ---- refusals: the smallest number, and nothing is written
+
+-- nobody runs: every call but the tick, whatever else is wrong with it
+refused-5-first : Case
+refused-5-first =
+    case lone
+    (finish ∷ finish ∷ schedule 9 ∷ cancel 9 ∷ terminate 9 ∷ waitUntil 4294967295 ∷ waitFor 4294967295 ∷ latched 9 1 ∷ unlatched 9 1 ∷ signal 9 1 ∷ readFlag 9 ∷ readBlock 9 [] [] ∷ writeBlock 9 [] [] ∷ tick [] ∷ tick₀ ∷ [])
+    answers
+    (0 ∷ 5 ∷ 5 ∷ 5 ∷ 5 ∷ 5 ∷ 5 ∷ 5 ∷ 5 ∷ 5 ∷ 5 ∷ 5 ∷ 5 ∷ 10 ∷ 0 ∷ [])
+
+-- no such task, flag or row: 0, or one above the last
+refused-6-no-such : Case
+refused-6-no-such =
+    case lone
+    (schedule 0 ∷ schedule 2 ∷ cancel 2 ∷ terminate 0 ∷ latched 0 1 ∷ latched 3 1 ∷ unlatched 3 1 ∷ signal 0 1 ∷ signal 3 1 ∷ readFlag 3 ∷ readBlock 0 [] [] ∷ readBlock 2 [] [] ∷ writeBlock 2 [] [] ∷ [])
+    answers
+    (6 ∷ 6 ∷ 6 ∷ 6 ∷ 6 ∷ 6 ∷ 6 ∷ 6 ∷ 6 ∷ 6 ∷ 6 ∷ 6 ∷ 6 ∷ [])
+
+-- task 1 names itself (the paper's case: to cancel), and its grandchild
+refused-7-not-the-controller : Case
+refused-7-not-the-controller =
+    case line
+    (cancel 1 ∷ schedule 1 ∷ terminate 1 ∷ schedule 3 ∷ cancel 3 ∷ terminate 3 ∷ [])
+    answers
+    (7 ∷ 7 ∷ 7 ∷ 7 ∷ 7 ∷ 7 ∷ [])
+
+-- flag 1 is a minor-cycle flag, flag 3 an activation flag, flag 2 plain; seen: the answer, the value read
+refused-7-flags : Case
+refused-7-flags =
+    case bench
+    (signal 1 1 ∷ signal 3 1 ∷ signal 2 1 ∷ latched 1 1 ∷ unlatched 1 1 ∷ readFlag 1 ∷ readFlag 3 ∷ readFlag 2 ∷ latched 3 0 ∷ unlatched 3 1 ∷ [])
+    (answers and reads)
+    (
+    7 ∷ 0 ∷
+    7 ∷ 0 ∷
+    0 ∷ 0 ∷
+    7 ∷ 0 ∷
+    7 ∷ 0 ∷
+    7 ∷ 0 ∷
+    0 ∷ 0 ∷
+    0 ∷ 1 ∷
+    0 ∷ 0 ∷
+    0 ∷ 0 ∷ []
+    )
+
+-- schedule of an invoked task, terminate of one not active, cancel of an uninvoked one
+refused-8-states : Case
+refused-8-states =
+    case forgetting
+    (schedule 2 ∷ schedule 2 ∷ terminate 2 ∷ cancel 2 ∷ cancel 2 ∷ terminate 2 ∷ [])
+    answers
+    (0 ∷ 8 ∷ 8 ∷ 0 ∷ 8 ∷ 8 ∷ [])
+
+-- the paper's cases: waking count 2,147,483,647 is accepted, one more is not
+refused-9-waking-count : Case
+refused-9-waking-count =
+    case lone
+    (waitUntil 2147483648 ∷ waitUntil 2147483647 ∷ [])
+    (answers and runs)
+    (9 ∷ 1 ∷ 0 ∷ 0 ∷ [])
+
+-- the same of a number of cycles, at count 1; the sum does not wrap
+refused-9-waking-sum : Case
+refused-9-waking-sum =
+    caseAt 1 lone
+    (waitFor 4294967295 ∷ waitFor 2147483647 ∷ waitFor 2147483646 ∷ [])
+    (answers and runs)
+    (9 ∷ 1 ∷ 9 ∷ 1 ∷ 0 ∷ 0 ∷ [])
+
+-- tick at the last count, before its buffer is looked at
+refused-9-last-tick : Case
+refused-9-last-tick =
+    caseAt 2147483646 lone
+    (tick₀ ∷ tick [] ∷ tick₀ ∷ [])
+    answers
+    (0 ∷ 9 ∷ 9 ∷ [])
+
+-- a tick's buffer of 127 words, which stays as it is
+refused-10-tick : Case
+refused-10-tick =
+    case lone
+    (tick (replicate 127 9) ∷ [])
+    (answers and lends)
+    (10 ∷ replicate 127 9)
+
+-- the paper's case: an area one word short; one too long; a buffer too short, too long; what is lent stays
+refused-10-area : Case
+refused-10-area =
+    case lone
+    (writeBlock 1 (replicate 32 5) (7 ∷ 8 ∷ []) ∷ writeBlock 1 (replicate 34 5) (7 ∷ 8 ∷ []) ∷ writeBlock 1 (replicate 33 5) (7 ∷ []) ∷ readBlock 1 (replicate 33 5) (7 ∷ 8 ∷ 9 ∷ []) ∷ readBlock 1 (replicate 32 5) (7 ∷ 8 ∷ []) ∷ [])
+    (answers and lends)
+    (10 ∷ replicate 32 5 ++ 10 ∷ replicate 34 5 ++ 10 ∷ replicate 33 5 ++ 10 ∷ 7 ∷ 8 ∷ 9 ∷ 10 ∷ 7 ∷ 8 ∷ [])
+
+-- ---- the statement
+
+abbrev Holds : Case → Type 0
+Holds c = shown c ≡ c .shows
+
+-- each case shows what it is to show
+cases-hold :
+    Holds stopped-and-started
+    × Holds thirty-two-is-written-as-zero
+    × Holds equal-rank-takes-nothing
+    × Holds phase-against-the-count-after-the-tick
+    × Holds cancel-strikes-every-descendant
+    × Holds unlatched-waits-for-the-next-service
+    × Holds latched-conditions-remember
+    × Holds conditions-are-driven-while-the-task-runs
+    × Holds schedule-relaxes
+    × Holds activation-relaxes
+    × Holds tested-on-schedule-and-service-only
+    × Holds all-conditions-as-desired
+    × Holds one-condition-of-two-flags
+    × Holds finish-wakes-who-waits-for-the-off
+    × Holds terminate-takes-out-of-a-flag-chain
+    × Holds terminate-takes-out-of-the-time-chain
+    × Holds cancel-queues-off-for-the-active-only
+    × Holds cancel-serves-the-highest-off-first
+    × Holds last-queued-first
+    × Holds activation-by-rising-number
+    × Holds only-the-value-waited-for-wakes
+    × Holds served-numbers
+    × Holds wait-until-a-count
+    × Holds wait-for-cycles
+    × Holds no-wait-at-or-below-the-count
+    × Holds latched-wait-takes-the-value-there
+    × Holds time-chain-in-order
+    × Holds flag-chains-in-order
+    × Holds cycle-of-the-count
+    × Holds start-schedules-task-1
+    × Holds higher-rank-takes-the-processor
+    × Holds lowest-number-first
+    × Holds stayed-throughout
+    × Holds privileged-above-all-others
+    × Holds rows-in-order
+    × Holds write-touches-no-other-word
+    × Holds read-copies-the-data
+    × Holds refused-5-first
+    × Holds refused-6-no-such
+    × Holds refused-7-not-the-controller
+    × Holds refused-7-flags
+    × Holds refused-8-states
+    × Holds refused-9-waking-count
+    × Holds refused-9-waking-sum
+    × Holds refused-9-last-tick
+    × Holds refused-10-tick
+    × Holds refused-10-area
+unfolding lone pair quad line remembering forgetting bench morningCalls rows stopped-and-started thirty-two-is-written-as-zero equal-rank-takes-nothing phase-against-the-count-after-the-tick cancel-strikes-every-descendant unlatched-waits-for-the-next-service latched-conditions-remember conditions-are-driven-while-the-task-runs schedule-relaxes activation-relaxes tested-on-schedule-and-service-only all-conditions-as-desired one-condition-of-two-flags finish-wakes-who-waits-for-the-off terminate-takes-out-of-a-flag-chain terminate-takes-out-of-the-time-chain cancel-queues-off-for-the-active-only cancel-serves-the-highest-off-first last-queued-first activation-by-rising-number only-the-value-waited-for-wakes served-numbers wait-until-a-count wait-for-cycles no-wait-at-or-below-the-count latched-wait-takes-the-value-there time-chain-in-order flag-chains-in-order cycle-of-the-count start-schedules-task-1 higher-rank-takes-the-processor lowest-number-first stayed-throughout privileged-above-all-others rows-in-order write-touches-no-other-word read-copies-the-data refused-5-first refused-6-no-such refused-7-not-the-controller refused-7-flags refused-8-states refused-9-waking-count refused-9-waking-sum refused-9-last-tick refused-10-tick refused-10-area ofTask ofCondition numbers ofLine ofCycle rig tick₀ startAt seen shown runs answers serves writes reads lends stateIs valueIs waitFlag waitTime _and_ iter all any total over put commandWord blank relax met drive names activate takes rouse wake ready offer offers serveFlag serving serve waitOn waitUntilCount leave wakeDue family cleared deserted offs best chosen dispatch written copied rowWords busWords scheduled finished terminated cancelled cycleQueue ticked effect decide noSuch inCycle isMinor isActivation lastCount wrongBlock refusals refusal wordsAt lent output accepted after step run started start
+cases-hold = (refl, refl, refl, refl, refl, refl, refl, refl, refl, refl, refl, refl, refl, refl, refl, refl, refl, refl, refl, refl, refl, refl, refl, refl, refl, refl, refl, refl, refl, refl, refl, refl, refl, refl, refl, refl, refl, refl, refl, refl, refl, refl, refl, refl, refl, refl, refl)
