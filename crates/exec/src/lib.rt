@@ -1,4 +1,6 @@
 // The executive: the record, and every call on it by value.
+mod refusals;
+
 use rig::Rig;
 use state::State;
 ghost use mathlib.Core.Path.{_≡_};

@@ -1,0 +1,24 @@
+use mathlib.Core.Path.{_≡_, refl, sym, _∙_, ap}
+use native.Mathlib.Omega.{arith}
+use Rattle.laws.specs.Tables.{beyond}
+use lib.ListN.{length}
+use borrow.Author.Needs.{needs}
+use Rattle.exec.proofs.refusals.look.Statement.{statement}
+use Rattle.exec.proofs.refusals.look.Tie as tie
+use Rattle.exec.proofs.refusals.look.Reads as reads
+use Rattle.exec.proofs.refusals.look.Lts as lts
+
+-- src/refusals.rt:14:26
+shared-slice-read-result : tie.Need-shared-slice-read-result
+shared-slice-read-result c = search needs
+
+-- src/refusals.rt:10:1
+returns : tie.Need-returns
+returns c = search needs
+
+-- src/refusals.rt:10:1
+returns-2 : tie.Need-returns-2
+returns-2 c = sym (beyond (c .before .args .table .now) (c .before .args .i) (omega (arith, c .if1 .left)))
+
+pub look-spec : {M : Type 1} → statement M
+look-spec = tie.close (tie.spec shared-slice-read-result returns returns-2)

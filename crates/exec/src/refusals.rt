@@ -1,0 +1,69 @@
+// The refusals of the table, row by row: the smallest number that is to be given, 0 for none.
+use crate::Exec;
+ghost use mathlib.Core.Path.{_≡_};
+ghost use lib.ListN.{getD};
+ghost use Rattle.rules.specs.Calls.{decide, isMinor, notPlain};
+ghost use Rattle.exec.specs.Sound.{rigIn, view};
+ghost use Rattle.exec.specs.Refusing.{flagRows, taskRows};
+
+// What the table holds at any number: 0 past its end.
+pub fn look(table: &[u8], i: u32) -> u8
+    ensures { λ r. ⌜ r ≡ getD (now (table .entry)) i 0 ⌝ }
+{
+    let k = i as usize;
+    if k < table.len() { table[k] } else { 0 }
+}
+
+impl Exec {
+    // Of a wait on a flag, and of reading it.
+    pub fn flag_refusal(self, flag: u32) -> u8
+        ensures { λ r. ⌜ r ≡ decide (flagRows (rigIn self) (view self) flag (isMinor (rigIn self .minor) flag)) ⌝ }
+    {
+        if self.st.running == 0 {
+            return 5;
+        }
+        if tests::no_such(self.rig.flags as usize, flag as usize) {
+            return 6;
+        }
+        let cycles = self.cycles;
+        if steps::is_minor(cycles, flag as u8) {
+            return 7;
+        }
+        0
+    }
+
+    // Of a signal.
+    pub fn signal_refusal(self, flag: u32) -> u8
+        ensures { λ r. ⌜ r ≡ decide (flagRows (rigIn self) (view self) flag (notPlain (rigIn self) flag)) ⌝ }
+    {
+        let n = self.flag_refusal(flag);
+        if n != 0 {
+            return n;
+        }
+        let rig = self.rig;
+        if steps::is_activation(&rig.activation, flag as u8) {
+            return 7;
+        }
+        0
+    }
+
+    // Of a call that names a task, in a state that is wrong for the call or not.
+    pub fn task_refusal(self, task: u32, wrong: bool) -> u8
+        ensures { λ r. ⌜ r ≡ decide (taskRows (rigIn self) (view self) task wrong) ⌝ }
+    {
+        if self.st.running == 0 {
+            return 5;
+        }
+        if tests::no_such(self.rig.tasks as usize, task as usize) {
+            return 6;
+        }
+        let rig = self.rig;
+        if look(&rig.controller, task) != self.st.running {
+            return 7;
+        }
+        if wrong {
+            return 8;
+        }
+        0
+    }
+}
