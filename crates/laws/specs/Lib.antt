@@ -12,3 +12,4 @@ pub mod First
 pub mod Says
 pub mod Stores
 pub mod Ordered
+pub mod Bits

@@ -1,1 +1,9 @@
+pub mod Answers
+pub mod AnswersLaws
 pub mod Command
+pub mod CommandLaws
+pub mod Parity
+pub mod ParityLaws
+pub mod Status
+pub mod StatusLaws
+pub mod Cases

@@ -1,0 +1,44 @@
+-- `packed` is the sum of the definition.
+use mathlib.Core.Path.{refl}
+use Rattle.words.specs.Status.{statusWord}
+use borrow.Author.Needs.{needs}
+use Rattle.words.proofs.status.packed.Statement.{statement}
+use Rattle.words.proofs.status.packed.Tie as tie
+
+mul-result : tie.Need-mul-result
+mul-result c = search needs
+
+mul-result-2 : tie.Need-mul-result-2
+mul-result-2 c = search needs
+
+add-result : tie.Need-add-result
+add-result c = search needs
+
+mul-result-3 : tie.Need-mul-result-3
+mul-result-3 c = search needs
+
+add-result-2 : tie.Need-add-result-2
+add-result-2 c = search needs
+
+add-result-3 : tie.Need-add-result-3
+add-result-3 c = search needs
+
+cast-result : tie.Need-cast-result
+cast-result c = search needs
+
+returns : tie.Need-returns
+unfolding statusWord
+returns c = refl
+
+pub packed-spec : {M : Type 1} → statement M
+packed-spec =
+    tie.close
+    (tie.spec
+    mul-result
+    mul-result-2
+    add-result
+    mul-result-3
+    add-result-2
+    add-result-3
+    cast-result
+    returns)

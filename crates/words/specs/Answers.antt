@@ -1,0 +1,33 @@
+-- ANSWERS: the paper's number and values for each case of what the entries of this crate answer.
+use mathlib.Core.Bool.{Bool, cond}
+use mathlib.Core.List.{List, [], _∷_}
+use Prim.Native.Nat.{ℕ}
+use Rattle.words.specs.declared.Encoded.{Encoded}
+use Rattle.words.specs.declared.Encoded.the-variants as encoded
+use Rattle.words.specs.declared.status.Verdict.{Verdict}
+use Rattle.words.specs.declared.status.Judged.{Judged}
+use Rattle.words.specs.declared.status.Judged.the-variants as judged
+
+-- number: 0 accepted, else the refusal's number; values: what is answered with it
+pub record Report (A : Type 0) : Type 0 where
+  pub number : ℕ
+  pub values : List A
+
+abbrev pub accepted : {A : Type 0} → A → Report A
+accepted value = record { number = 0; values = value ∷ [] }
+
+-- "a refused word entry answers the number alone"
+abbrev pub refused : {A : Type 0} → ℕ → Report A
+refused number = record { number = number; values = [] }
+
+-- 11, "Given exactly when": "a word's field, an expected address or a status image is outside its size"
+unfoldable pub sized : {A : Type 0} → Bool → A → Report A
+sized inSize value = cond inSize (accepted value) (refused 11)
+
+abbrev pub encodedReport : Encoded → Report ℕ
+encodedReport (encoded.Word w) = accepted w
+encodedReport encoded.OutsideSize = refused 11
+
+abbrev pub judgedReport : Judged → Report Verdict
+judgedReport (judged.As v) = accepted v
+judgedReport judged.OutsideSize = refused 11

@@ -1,0 +1,47 @@
+-- An answer is fixed by its number and values, and 11 is given exactly when something is outside its size.
+use mathlib.Core.Path.{_≡_, refl, sym, ap}
+use mathlib.Core.Logic.{_↔_}
+use mathlib.Core.Bool.{Bool, true, false}
+use mathlib.Core.List.{[], _∷_}
+use Prim.Native.Nat.{ℕ}
+use native.Mathlib.Omega.{arith}
+use Rattle.words.specs.declared.Encoded.{Encoded}
+use Rattle.words.specs.declared.Encoded.the-variants as encoded
+use Rattle.words.specs.declared.status.Verdict.{Verdict}
+use Rattle.words.specs.declared.status.Judged.{Judged}
+use Rattle.words.specs.declared.status.Judged.the-variants as judged
+use Rattle.words.specs.Answers.{Report, accepted, refused, sized, encodedReport, judgedReport}
+
+pub refused-exactly : {A : Type 0} (inSize : Bool) (value : A) → (sized inSize value .number ≡ 11) ↔ (inSize ≡ false)
+unfolding sized
+refused-exactly true value = ((λ e. let z : ⊥ = omega arith in absurd z), (λ e. ap (λ b. sized b value .number) e))
+refused-exactly false value = ((λ e. refl), (λ e. refl))
+
+-- what an entry's two answers report
+pub sized-yes : {A : Type 0} {inSize : Bool} {x y : A} → inSize ≡ true → x ≡ y → accepted x ≡ sized inSize y
+unfolding sized
+sized-yes e f = rw (e, f)
+
+pub sized-no : {A : Type 0} {inSize : Bool} (y : A) → inSize ≡ false → refused 11 ≡ sized inSize y
+unfolding sized
+sized-no y e = rw e
+
+-- an accepted report is no refusal, and says its one value
+accepted-same : {A : Type 0} (x y : A) → accepted x ≡ accepted y → x ≡ y
+accepted-same {A} x y e = let l : x ∷ [] ≡ y ∷ [] = ap (λ (r : Report A). r .values) e in cc
+
+accepted-never : {A : Type 0} (x : A) → accepted x ≡ refused 11 → ⊥
+accepted-never {A} x e = let z : _≡_ {A = ℕ} 0 11 = ap (λ (r : Report A). r .number) e in omega arith
+
+-- two answers with one report are one answer
+pub encoded-same : (a b : Encoded) → encodedReport a ≡ encodedReport b → a ≡ b
+encoded-same (encoded.Word v) (encoded.Word w) e = ap (λ (x : ℕ). encoded.Word x) (accepted-same v w e)
+encoded-same (encoded.Word v) encoded.OutsideSize e = absurd (accepted-never v e)
+encoded-same encoded.OutsideSize (encoded.Word w) e = absurd (accepted-never w (sym e))
+encoded-same encoded.OutsideSize encoded.OutsideSize e = refl
+
+pub judged-same : (a b : Judged) → judgedReport a ≡ judgedReport b → a ≡ b
+judged-same (judged.As v) (judged.As w) e = ap (λ (x : Verdict). judged.As x) (accepted-same v w e)
+judged-same (judged.As v) judged.OutsideSize e = absurd (accepted-never v e)
+judged-same judged.OutsideSize (judged.As w) e = absurd (accepted-never w (sym e))
+judged-same judged.OutsideSize judged.OutsideSize e = refl

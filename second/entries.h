@@ -1,0 +1,58 @@
+/*
+ * The entries that no line of the bench runner's script reaches: block write
+ * and block read of the compool area, and a tick with a buffer of any length.
+ *
+ * Input is as the runner's: a rig, the line RUN, script lines.  All lines of
+ * the runner mean the same here and print the same.  There are also
+ *
+ *   W row area words first   block write.  The area lent is the first `area`
+ *                            words of the program's own; the data lent is
+ *                            `words` words: first, first + 1, ... modulo 65,536
+ *   D row area words         block read into a buffer of `words` words
+ *   J room                   a tick lent a buffer of `room` words
+ *
+ * with tabs between the fields, `area` up to 4,096, `words` up to 64, `room`
+ * up to 256; larger numbers are of wrong shape (? alone).  The program's area
+ * has 4,096 words, at the start word i (from 0) is (7 i + 1) modulo 65,536;
+ * a buffer lent to D or J holds before the call, at word i, 9 i + 2.
+ *
+ * Each prints verb, answer, count, running task and then, also if refused,
+ * one check number: of the whole area for W, of the whole lent buffer (all
+ * `words` or `room` of it) for D and J.  So what a refused call writes, and
+ * what an accepted one writes past its own words, is seen.  The check number
+ * of words w0, w1, ... starts as 0 and with each becomes
+ * (31 check + word) modulo 65,521.
+ */
+#ifndef SECOND_ENTRIES_H
+#define SECOND_ENTRIES_H
+
+#include <stdbool.h>
+#include <stddef.h>
+#include <stdint.h>
+
+#include "exec.h"
+
+enum { ENTRIES_AREA_WORDS = 4096, ENTRIES_DATA_MAX = 64, ENTRIES_ROOM_MAX = 256 };
+
+/* The program's own compool area. */
+typedef struct {
+    uint16_t word[ENTRIES_AREA_WORDS];
+} entries_area;
+
+void entries_fill_area(entries_area *area);
+
+typedef struct {
+    char verb;      /* W, D or J */
+    uint32_t row;   /* W, D */
+    uint32_t area;  /* W, D */
+    uint32_t words; /* W, D: data words; J: room */
+    uint32_t first; /* W */
+} entries_call;
+
+/* Whether a line without its LF is one of the three. */
+bool entries_judge(const uint8_t *line, size_t length, entries_call *out);
+
+/* Makes the call and prints its line; answers the line's length. */
+size_t entries_run(exec *e, entries_area *area, const entries_call *call, answer *a, char *out);
+
+#endif

@@ -1,0 +1,100 @@
+/*
+ * The executive of one processor: tasks, flags, waits, minor cycles and
+ * dispatch ("Tasks and flags", "Tick").
+ *
+ * The record is plain data.  Waiting tasks stand in two arrays in the order
+ * the paper gives its chains; there are no links.  A call judges first and
+ * then changes the record, so a refused call leaves it unchanged.
+ */
+#ifndef SECOND_EXEC_H
+#define SECOND_EXEC_H
+
+#include <stdbool.h>
+#include <stddef.h>
+#include <stdint.h>
+
+#include "paper.h"
+#include "rig.h"
+
+enum flag_kind { FLAG_PLAIN = 0, FLAG_ACTIVATION = 1, FLAG_MINOR = 2 };
+
+/* What follows from the rig alone, set up once at the start. */
+typedef struct {
+    uint8_t kind[FLAGS_MAX + 1];
+    /* The A lines of flag f are by_flag[first[f]] up to by_flag[first[f + 1]], in file order. */
+    uint16_t first[FLAGS_MAX + 2];
+    uint16_t by_flag[A_LINES_MAX];
+} exec_plan;
+
+enum wait_kind { WAIT_NONE = 0, WAIT_TIME = 1, WAIT_FLAG = 2 };
+
+/* Unused members are 0; a task that does not wait has all 0. */
+typedef struct {
+    uint8_t kind;
+    uint8_t flag;
+    uint8_t value;
+    uint32_t wake;
+} exec_wait;
+
+typedef struct {
+    uint8_t tasks;
+    uint8_t task[TASKS_MAX];
+} exec_line;
+
+typedef struct {
+    rig rig;
+    exec_plan plan;
+    uint32_t count;
+    uint8_t running;                        /* 0 for none */
+    uint8_t state[TASKS_MAX + 1];           /* enum task_state */
+    uint8_t value[FLAGS_MAX + 1];           /* of each flag */
+    uint16_t condition[TASKS_MAX + 1];      /* values of a task's conditions by position */
+    exec_wait wait[TASKS_MAX + 1];
+    exec_line timed;   /* waiting on time: by waking count, then who began earlier */
+    exec_line flagged; /* waiting on a flag, in order of beginning */
+} exec;
+
+/* A refused call answers the refusal alone; all else is then 0. */
+typedef struct {
+    enum refusal refusal;
+    uint8_t served;  /* flags served by this call */
+    uint8_t value;   /* exec_read_flag */
+    uint16_t words;  /* exec_tick: bus words written */
+} answer;
+
+/* A refused start (4) leaves a record of all zeros. */
+answer exec_start(exec *e, const rig *r);
+
+answer exec_schedule(exec *e, uint32_t task);
+answer exec_cancel(exec *e, uint32_t task);
+answer exec_terminate(exec *e, uint32_t task);
+answer exec_finish(exec *e);
+answer exec_wait_until(exec *e, uint32_t count);
+answer exec_wait_cycles(exec *e, uint32_t cycles);
+answer exec_wait_latched(exec *e, uint32_t flag, bool value);
+answer exec_wait_unlatched(exec *e, uint32_t flag, bool value);
+answer exec_signal(exec *e, uint32_t flag, bool value);
+answer exec_read_flag(exec *e, uint32_t flag);
+
+/* `words` has room for `room` words, at least 128; words past those written stay. */
+answer exec_tick(exec *e, uint16_t *words, size_t room);
+
+/* The area has exactly 33 words a row, `data` exactly the row's words. */
+answer exec_write_block(exec *e, uint32_t row, uint16_t *area, size_t area_words,
+                        const uint16_t *data, size_t data_words);
+answer exec_read_block(exec *e, uint32_t row, const uint16_t *area, size_t area_words,
+                       uint16_t *data, size_t data_words);
+
+/* Whether the record is sound, as the paper's list says (sound.c). */
+bool exec_sound(const exec *e);
+
+/* The plan that belongs to a rig that keeps the rules. */
+void exec_make_plan(const rig *r, exec_plan *plan);
+
+/* Rank for dispatch: privileged tasks above all others, then by priority. */
+unsigned exec_rank(const exec *e, unsigned task);
+
+/* Whether each condition of the task has the desired value. */
+bool exec_as_desired(const exec *e, unsigned task);
+
+#endif

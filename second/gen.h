@@ -1,0 +1,83 @@
+/*
+ * Random inputs for the bench runner: a rig, RUN and a script, the same for
+ * the same seed and index.  The kind of an input follows from its index, so
+ * that a run of some length has each kind often enough.
+ */
+#ifndef SECOND_GEN_H
+#define SECOND_GEN_H
+
+#include "chance.h"
+#include "exec.h"
+#include "rig.h"
+
+/* Appends input `index` of `seed`. */
+void gen_input(uint64_t seed, uint64_t index, text *out);
+
+/* What kind of input it is. */
+const char *gen_kind_name(uint64_t index);
+
+/* Inputs of one round, after which the kinds come again. */
+unsigned gen_round(void);
+
+/* The same for the lines of entries.h. */
+void gen_entries_input(uint64_t seed, uint64_t index, text *out);
+
+/* Loads for measuring: a full-size rig with so many ticks; a small rig with about so many mixed lines. */
+void gen_ticks_load(uint64_t seed, unsigned ticks, text *out);
+void gen_mixed_load(uint64_t seed, unsigned lines, text *out);
+
+/* ---- Right rigs (gen_rig.c) ---- */
+
+typedef enum { SIZE_SMALL, SIZE_MEDIUM, SIZE_FULL } rig_size;
+
+void gen_rig(chance *c, rig_size size, rig *out);
+
+/* Tasks that are activated again by their own finish. */
+void gen_restarting_rig(chance *c, rig *out);
+
+/* Families whose cancelled flags start watchers outside, in an order that shows. */
+void gen_family_rig(chance *c, rig *out);
+
+/* Watchers that start or not by which of two flags is served first. */
+void gen_race_rig(chance *c, rig *out);
+
+/* 64 tasks and a cycle of 15 flags, whose tick can serve 79. */
+void gen_full_serving_rig(chance *c, rig *out);
+
+void gen_print_rig(const rig *r, text *out);
+
+/* ---- Scripts (gen_script.c) ---- */
+
+typedef struct {
+    unsigned lines;   /* at most */
+    unsigned wild;    /* percent of calls with any numbers */
+    unsigned damaged; /* percent of lines of wrong shape */
+} script_form;
+
+/* Plays a script on a right rig, choosing by who runs and who waits. */
+void gen_script(chance *c, const rig *r, const script_form *form, text *out);
+
+/* Plays the script that makes a full serving rig serve 79, more than once. */
+void gen_full_serving_script(chance *c, const rig *r, text *out);
+
+/* Plays a race rig: keeps its tasks ready, starts runners together, cancels them together. */
+void gen_race_script(chance *c, const rig *r, unsigned lines, text *out);
+
+/* The lines of entries.h among the runner's. */
+void gen_entries_script(chance *c, const rig *r, unsigned lines, text *out);
+
+/* ---- Damaged rigs (gen_damage.c) ---- */
+
+/* A rig file with a line that is refused by 1, 2 or 3. */
+void gen_bad_line_rig(chance *c, enum refusal refusal, text *out);
+
+/* A rig file that breaks the named rule. */
+void gen_bad_rule_rig(chance *c, rig_rule rule, text *out);
+
+/* A rig file with several damages, of lines and of bytes. */
+void gen_fuzzed_rig(chance *c, text *out);
+
+/* A file at the edge of 40,960 bytes or past it. */
+void gen_long_rig(chance *c, text *out);
+
+#endif

@@ -1,0 +1,497 @@
+#include <string.h>
+
+#include "entries.h"
+#include "gen.h"
+#include "script.h"
+
+/* What a script tries, with weights of its own for each script. */
+enum action {
+    DO_TICK,
+    DO_SCHEDULE,
+    DO_FINISH,
+    DO_WAIT_TIME,
+    DO_WAIT_FLAG,
+    DO_SIGNAL,
+    DO_READ,
+    DO_CANCEL,
+    DO_TERMINATE,
+    DO_WRONG_STATE,
+    DO_BARRED,
+    ACTIONS
+};
+
+/* The executive is played along with the script, to know who runs and who waits. */
+typedef struct {
+    chance *c;
+    text *out;
+    exec e;
+    unsigned weight[ACTIONS];
+    unsigned idle; /* ticks in a row with no running task */
+} player;
+
+/* Idle ticks after which a script ends: a frame and some more. */
+enum { IDLE_MAX = CYCLES + 6 };
+
+static void call(player *p, char verb, uint32_t number, unsigned value)
+{
+    uint16_t words[TICK_WORDS];
+    script_call line = {.verb = verb, .number = number, .value = value != 0};
+    if (strchr("FK", verb) != NULL)
+        text_print(p->out, "%c\n", verb);
+    else if (strchr("LNG", verb) != NULL)
+        text_print(p->out, "%c\t%u\t%u\n", verb, (unsigned)number, value);
+    else
+        text_print(p->out, "%c\t%u\n", verb, (unsigned)number);
+    (void)script_apply(&p->e, &line, words);
+}
+
+/* ---- Choosing tasks and flags ---- */
+
+/* A task of the running one's own whose state is among those of the mask, or 0. */
+static unsigned child_in(player *p, unsigned states)
+{
+    unsigned found = 0, seen = 0;
+    for (unsigned t = 2; t <= p->e.rig.tasks; t++) {
+        if (p->e.rig.task[t].controller != p->e.running || !(states >> p->e.state[t] & 1))
+            continue;
+        if (pick(p->c, 0, seen++) == 0)
+            found = t;
+    }
+    return found;
+}
+
+/* A flag of a kind up to `most`, or 0 if it was not met in some tries. */
+static unsigned flag_up_to(player *p, enum flag_kind most)
+{
+    for (unsigned tries = 0; tries < 20; tries++) {
+        unsigned flag = pick(p->c, 1, p->e.rig.flags);
+        if (p->e.plan.kind[flag] <= most)
+            return flag;
+    }
+    return 0;
+}
+
+static unsigned awaited_task(player *p)
+{
+    const exec_line *line = &p->e.flagged;
+    return line->tasks == 0 ? 0 : line->task[pick(p->c, 0, line->tasks - 1u)];
+}
+
+/* ---- Actions: each answers whether it could be done ---- */
+
+static bool do_schedule(player *p)
+{
+    unsigned task = child_in(p, 1u << UNINVOKED);
+    if (task != 0)
+        call(p, 'S', task, 0);
+    return task != 0;
+}
+
+static bool do_cancel(player *p)
+{
+    unsigned waiting = child_in(p, 1u << WAITING);
+    unsigned task = waiting != 0 && likely(p->c, 60)
+                        ? waiting
+                        : child_in(p, 1u << INACTIVE | 1u << WAITING | 1u << DISPATCHABLE);
+    if (task != 0)
+        call(p, 'X', task, 0);
+    return task != 0;
+}
+
+static bool do_terminate(player *p)
+{
+    unsigned waiting = child_in(p, 1u << WAITING);
+    unsigned task = waiting != 0 && likely(p->c, 60) ? waiting
+                                                     : child_in(p, 1u << WAITING | 1u << DISPATCHABLE);
+    if (task != 0)
+        call(p, 'Z', task, 0);
+    return task != 0;
+}
+
+/* Calls that are refused by 8. */
+static bool do_wrong_state(player *p)
+{
+    static const struct {
+        char verb;
+        unsigned states;
+    } wrong[] = {{'S', 1u << INACTIVE | 1u << WAITING | 1u << DISPATCHABLE},
+                 {'X', 1u << UNINVOKED},
+                 {'Z', 1u << UNINVOKED | 1u << INACTIVE}};
+    unsigned i = pick(p->c, 0, 2);
+    unsigned task = child_in(p, wrong[i].states);
+    if (task != 0)
+        call(p, wrong[i].verb, task, 0);
+    return task != 0;
+}
+
+/* Calls that are refused by 7. */
+static bool do_barred(player *p)
+{
+    char verb = "SXZLNQG"[pick(p->c, 0, 6)];
+    unsigned value = pick(p->c, 0, 1);
+    if (strchr("SXZ", verb) != NULL) {
+        call(p, verb, pick(p->c, 1, p->e.rig.tasks), 0);
+        return true;
+    }
+    for (unsigned tries = 0; tries < 20; tries++) {
+        unsigned flag = pick(p->c, 1, p->e.rig.flags);
+        if (p->e.plan.kind[flag] >= (verb == 'G' ? FLAG_ACTIVATION : FLAG_MINOR)) {
+            call(p, verb, flag, value);
+            return true;
+        }
+    }
+    return false;
+}
+
+/* Task 1 controls the most, so it seldom ends or sleeps where nothing may start it again. */
+static bool spared(player *p)
+{
+    bool comes_again = p->e.rig.conditions[1].present != 0;
+    return p->e.running == 1 && likely(p->c, comes_again ? 60 : 97);
+}
+
+static bool do_finish(player *p)
+{
+    if (spared(p))
+        return false;
+    call(p, 'F', 0, 0);
+    return true;
+}
+
+static bool do_wait_time(player *p)
+{
+    unsigned cycles = likely(p->c, 20) ? 0 : pick(p->c, 1, likely(p->c, 90) ? 4 : 70);
+    uint32_t count = p->e.count;
+    if (p->e.running != 1 && likely(p->c, 2))
+        cycles = COUNT_MAX - count; /* the last count there is */
+    if (likely(p->c, 50))
+        call(p, 'R', cycles, 0);
+    else if (cycles == 0 && count > 0)
+        call(p, 'U', count - pick(p->c, 0, count < 3 ? count : 3), 0);
+    else
+        call(p, 'U', count + cycles, 0);
+    return true;
+}
+
+static bool do_wait_flag(player *p)
+{
+    unsigned flag = flag_up_to(p, FLAG_ACTIVATION), value = pick(p->c, 0, 1);
+    unsigned other = awaited_task(p);
+    if (other != 0 && likely(p->c, 40)) { /* several tasks wait for the same */
+        flag = p->e.wait[other].flag;
+        value = p->e.wait[other].value;
+    }
+    if (flag == 0 || spared(p))
+        return false;
+    call(p, likely(p->c, 50) ? 'L' : 'N', flag, value);
+    return true;
+}
+
+static bool do_signal(player *p)
+{
+    unsigned task = awaited_task(p);
+    unsigned flag = flag_up_to(p, FLAG_PLAIN);
+    unsigned value = pick(p->c, 0, 1);
+    if (task != 0 && p->e.plan.kind[p->e.wait[task].flag] == FLAG_PLAIN && likely(p->c, 60)) {
+        flag = p->e.wait[task].flag;
+        value = likely(p->c, 80) ? p->e.wait[task].value : 1u - p->e.wait[task].value;
+    }
+    if (flag != 0)
+        call(p, 'G', flag, value);
+    return flag != 0;
+}
+
+static bool do_read(player *p)
+{
+    unsigned flag = flag_up_to(p, FLAG_ACTIVATION);
+    if (flag != 0)
+        call(p, 'Q', flag, 0);
+    return flag != 0;
+}
+
+static bool act(player *p, enum action action)
+{
+    switch (action) {
+    case DO_SCHEDULE:
+        return do_schedule(p);
+    case DO_FINISH:
+        return do_finish(p);
+    case DO_WAIT_TIME:
+        return do_wait_time(p);
+    case DO_WAIT_FLAG:
+        return do_wait_flag(p);
+    case DO_SIGNAL:
+        return do_signal(p);
+    case DO_READ:
+        return do_read(p);
+    case DO_CANCEL:
+        return do_cancel(p);
+    case DO_TERMINATE:
+        return do_terminate(p);
+    case DO_WRONG_STATE:
+        return do_wrong_state(p);
+    case DO_BARRED:
+        return do_barred(p);
+    default:
+        call(p, 'K', 0, 0);
+        return true;
+    }
+}
+
+/* ---- Calls with any numbers ---- */
+
+static uint32_t wild_number(player *p, unsigned near)
+{
+    static const uint32_t far[] = {0, 65, 129, 255, 256, COUNT_MAX, COUNT_MAX + 1, UINT32_MAX};
+    if (likely(p->c, 75))
+        return pick(p->c, 0, near + 2);
+    return far[pick(p->c, 0, sizeof far / sizeof far[0] - 1)];
+}
+
+static uint32_t wild_count(player *p)
+{
+    static const uint32_t above[] = {COUNT_MAX + 1, COUNT_MAX + 2, UINT32_MAX, UINT32_MAX - 1};
+    return above[pick(p->c, 0, 3)];
+}
+
+static void wild_call(player *p)
+{
+    static const char verbs[] = "SXZFURLNGQ";
+    char verb = verbs[pick(p->c, 0, sizeof verbs - 2)];
+    uint32_t number;
+    if (strchr("SXZ", verb) != NULL)
+        number = wild_number(p, p->e.rig.tasks);
+    else if (strchr("UR", verb) != NULL)
+        number = wild_count(p) - (verb == 'R' && likely(p->c, 30) ? p->e.count : 0);
+    else
+        number = wild_number(p, p->e.rig.flags);
+    if (verb == 'F' && p->e.running == 1)
+        verb = 'Q';
+    call(p, verb, number, pick(p->c, 0, 1));
+}
+
+/* ---- Lines of wrong shape ---- */
+
+static void add_long_line(player *p)
+{
+    size_t length = likely(p->c, 20) ? pick(p->c, 60000, 140000) : pick(p->c, 15, 400);
+    char digit = likely(p->c, 50) ? '0' : '7';
+    text_print(p->out, "S\t");
+    for (size_t i = 0; i < length; i++)
+        text_add(p->out, &digit, 1);
+    text_print(p->out, "\n");
+}
+
+static void add_any_bytes(player *p)
+{
+    unsigned length = pick(p->c, 0, 20);
+    for (unsigned i = 0; i < length; i++) {
+        uint8_t byte = (uint8_t)pick(p->c, 0, 255);
+        if (byte != '\n')
+            text_add(p->out, &byte, 1);
+    }
+    text_print(p->out, "\n");
+}
+
+static void wrong_line(player *p)
+{
+    static const char *const wrong[] = {
+        "", "?", "RUN", "S", "S\t", "S 2", "S\t2 ", " S\t2", "S\t2\t", "S\t\t2", "S\t2\t3", "S\t02", "S\t00",
+        "S\t-1", "S\t+1", "S\t2\r", "s\t2", "SS\t2", "F\t", "F\t1", "F ", "K\t0", "KK", "K\r", "k", "U", "U\tx",
+        "U\t4294967296", "U\t42949672960", "U\t99999999999999999999", "R\t18446744073709551617", "R\t1.5",
+        "L\t1", "L\t1\t2", "L\t1\t01", "L\t1\t1\t1", "N\t1\t", "N\t1\t10", "N\t4294967296\t1", "G\t1",
+        "G\t1\t-1", "G\t1 1", "G\t\t1", "Q", "Q\t1\t1", "Q\t0x1", "q\t1", "START\t0", "B\t1", "T\t1", "\t", " ",
+        "S\t18446744073709551618", "Z\t1e0", "X\t\xef\xbc\x91", "W\t1\t33\t1\t0x", "J", "D\t1"};
+    switch (pick(p->c, 0, 9)) {
+    case 0:
+        add_long_line(p);
+        break;
+    case 1:
+        add_any_bytes(p);
+        break;
+    case 2:
+        text_add(p->out, "K\0\n", 3);
+        break;
+    default:
+        text_print(p->out, "%s\n", wrong[pick(p->c, 0, sizeof wrong / sizeof wrong[0] - 1)]);
+        break;
+    }
+}
+
+/* ---- Scripts ---- */
+
+static void choose_weights(player *p)
+{
+    static const unsigned usual[ACTIONS] = {
+        [DO_TICK] = 20, [DO_SCHEDULE] = 30, [DO_FINISH] = 14, [DO_WAIT_TIME] = 10, [DO_WAIT_FLAG] = 8,
+        [DO_SIGNAL] = 14, [DO_READ] = 4, [DO_CANCEL] = 5, [DO_TERMINATE] = 5, [DO_WRONG_STATE] = 3, [DO_BARRED] = 3};
+    for (unsigned i = 0; i < ACTIONS; i++)
+        p->weight[i] = usual[i] * pick(p->c, 1, 8);
+}
+
+static enum action choose_action(player *p)
+{
+    unsigned sum = 0;
+    for (unsigned i = 0; i < ACTIONS; i++)
+        sum += p->weight[i];
+    unsigned at = pick(p->c, 0, sum - 1);
+    unsigned i = 0;
+    while (at >= p->weight[i])
+        at -= p->weight[i++];
+    return i;
+}
+
+static void step(player *p, const script_form *form)
+{
+    if (likely(p->c, form->damaged)) {
+        wrong_line(p);
+    } else if (likely(p->c, form->wild)) {
+        wild_call(p);
+    } else if (p->e.running == 0) {
+        p->idle++;
+        call(p, 'K', 0, 0);
+    } else {
+        p->idle = 0;
+        for (unsigned tries = 0; tries < 8; tries++)
+            if (act(p, choose_action(p)))
+                return;
+        call(p, 'K', 0, 0);
+    }
+}
+
+static void play(player *p, chance *c, const rig *r, text *out)
+{
+    p->c = c;
+    p->out = out;
+    p->idle = 0;
+    (void)exec_start(&p->e, r);
+    choose_weights(p);
+}
+
+void gen_script(chance *c, const rig *r, const script_form *form, text *out)
+{
+    static player p;
+    play(&p, c, r, out);
+    for (unsigned i = 0; i < form->lines && p.idle < IDLE_MAX; i++)
+        step(&p, form);
+    if (form->damaged > 0 && likely(c, 30))
+        text_print(out, "K"); /* no LF */
+}
+
+/* Finishes all that run, so that every task is inactive again. */
+static void finish_all(player *p)
+{
+    for (unsigned i = 0; i < 3 * TASKS_MAX && p->e.running != 0; i++)
+        call(p, 'F', 0, 0);
+}
+
+void gen_full_serving_script(chance *c, const rig *r, text *out)
+{
+    static player p;
+    const script_form form = {.lines = 0, .wild = 5, .damaged = 0};
+    play(&p, c, r, out);
+    call(&p, 'K', 0, 0);
+    for (unsigned t = 2; t <= r->tasks; t++) {
+        while (p.e.running != 1 && p.e.running != 0)
+            call(&p, 'F', 0, 0);
+        call(&p, 'S', t, 0);
+    }
+    for (unsigned frame = pick(c, 1, 3); frame > 0; frame--) {
+        finish_all(&p);
+        while (p.e.count % CYCLES != 2) {
+            call(&p, 'K', 0, 0);
+            finish_all(&p);
+        }
+        call(&p, 'K', 0, 0);
+        for (unsigned i = pick(c, 0, 120); i > 0; i--)
+            step(&p, &form);
+    }
+}
+
+/* Task 1 of a race rig: all watchers and the family ready, then a sleep, a cancel or a signal. */
+static void race_first(player *p)
+{
+    unsigned task = child_in(p, 1u << UNINVOKED);
+    unsigned way = pick(p->c, 0, 99);
+    if (task != 0 && way < 90)
+        call(p, 'S', task, 0);
+    else if (way < 25 && p->e.state[2] != UNINVOKED)
+        call(p, 'X', 2, 0);
+    else if (way < 45)
+        (void)do_signal(p);
+    else if (way < 55)
+        (void)do_terminate(p);
+    else
+        call(p, 'R', pick(p->c, 1, 3), 0);
+}
+
+/* Task 2: all its runners ready, then a sleep. */
+static void race_second(player *p)
+{
+    if (!do_schedule(p))
+        call(p, 'R', pick(p->c, 1, 9), 0);
+}
+
+void gen_race_script(chance *c, const rig *r, unsigned lines, text *out)
+{
+    static player p;
+    const script_form form = {.lines = lines, .wild = 0, .damaged = 0};
+    play(&p, c, r, out);
+    for (unsigned i = 0; i < lines; i++) {
+        if (p.e.running != 0 && likely(c, 15))
+            (void)do_read(&p);
+        else if (p.e.running == 1)
+            race_first(&p);
+        else if (p.e.running == 2)
+            race_second(&p);
+        else if (p.e.running != 0 && likely(c, 40))
+            call(&p, 'F', 0, 0);
+        else if (p.e.running != 0 && likely(c, 30))
+            step(&p, &form);
+        else
+            call(&p, 'K', 0, 0);
+    }
+}
+
+/* ---- Entries ---- */
+
+static void entries_line(player *p)
+{
+    static entries_area area;
+    const rig *r = &p->e.rig;
+    chance *c = p->c;
+    char ignored[OUTPUT_LINE_MAX];
+    answer a;
+    entries_call line = {.verb = "WDJ"[pick(c, 0, 2)]};
+    line.row = likely(c, 85) && r->rows > 0 ? pick(c, 1, r->rows) : pick(c, 0, r->rows + 2u);
+    line.area = BLOCK_WORDS * r->rows;
+    line.words = line.row >= 1 && line.row <= r->rows ? r->row[line.row - 1].words : 1;
+    if (likely(c, 12))
+        line.area += likely(c, 50) ? 1u : line.area > 0 ? -1u : 33u;
+    if (likely(c, 12))
+        line.words += likely(c, 50) ? 1u : -1u;
+    if (line.verb == 'J') {
+        line.words = likely(c, 70) ? pick(c, TICK_WORDS, TICK_WORDS + 20) : pick(c, 0, TICK_WORDS - 1);
+        text_print(p->out, "J\t%u\n", (unsigned)line.words);
+    } else if (line.verb == 'D') {
+        text_print(p->out, "D\t%u\t%u\t%u\n", (unsigned)line.row, (unsigned)line.area, (unsigned)line.words);
+    } else {
+        line.first = pick(c, 0, 70000);
+        text_print(p->out, "W\t%u\t%u\t%u\t%u\n", (unsigned)line.row, (unsigned)line.area, (unsigned)line.words,
+                   (unsigned)line.first);
+    }
+    (void)entries_run(&p->e, &area, &line, &a, ignored);
+}
+
+void gen_entries_script(chance *c, const rig *r, unsigned lines, text *out)
+{
+    static player p;
+    const script_form form = {.lines = lines, .wild = 3, .damaged = 2};
+    play(&p, c, r, out);
+    for (unsigned i = 0; i < lines && p.idle < IDLE_MAX; i++) {
+        if (likely(c, 50))
+            entries_line(&p);
+        else
+            step(&p, &form);
+    }
+}

@@ -1,0 +1,62 @@
+/*
+ * Deliberate faults, for `make mutants`: each build with -DMUTANT=n carries
+ * one, and the comparison must tell it from the right program.  A right build
+ * has none: MUTATED(...) is then a constant 0 and the branch is gone.
+ */
+#ifndef SECOND_MUTANT_H
+#define SECOND_MUTANT_H
+
+#ifndef MUTANT
+#define MUTANT 0
+#endif
+
+/* Number, name and what is wrong.  1 to 5 are the paper's "Slips seen on benches". */
+#define MUTANT_LIST(M) \
+    M(1, WORDS_UNREDUCED, "32 words put unreduced into the count field") \
+    M(2, EQUAL_RANK_TAKES, "an equal-priority task that wakes takes the processor") \
+    M(3, PHASE_BEFORE_TICK, "the phase is compared with the count before the tick") \
+    M(4, CANCEL_LEAVES_LINKED, "cancel leaves a descendant linked") \
+    M(5, UNLATCHED_SATISFIED, "an unlatched wait is satisfied by the value already there") \
+    M(6, FIRST_IN_FIRST_OUT, "flags are served first in, first out") \
+    M(7, CANCEL_FALLING, "cancel queues the offs by falling task number") \
+    M(8, ACTIVATION_FALLING, "tasks are activated by falling number") \
+    M(9, LATCHES_SWAPPED, "latched and unlatched conditions are mixed up") \
+    M(10, LATCHED_WAITS_ALWAYS, "a latched wait ignores the value already there") \
+    M(11, RESTART_STAYED, "a task that finished and was activated again goes on running") \
+    M(12, HIGHEST_NUMBER_FIRST, "among equals the highest number runs") \
+    M(13, PRIVILEGE_IGNORED, "privileged tasks do not rank above the others") \
+    M(14, ACTIVATION_KEEPS, "activation leaves the unlatched conditions as they are") \
+    M(15, SERVES_CHANGES_ONLY, "a service that changes nothing is dropped") \
+    M(16, CYCLE_LIST_REVERSED, "the minor-cycle list is queued last flag first") \
+    M(17, WAITS_AT_PRESENT, "a wait until the present count waits") \
+    M(18, CANCEL_RESETS, "cancel puts conditions off") \
+    M(19, CYCLES_WRAP, "the waking count of R wraps at 32 bits") \
+    M(20, UNINVOKED_DEAF, "conditions of uninvoked tasks miss services") \
+    M(21, TERMINATE_FAMILY, "terminate takes the descendants along") \
+    M(22, WAKES_ON_EITHER, "a waiting task wakes on either value") \
+    M(23, CYCLE_BEFORE_TICK, "the minor cycle is that of the count before the tick") \
+    M(24, SCHEDULE_KEEPS, "schedule leaves the unlatched conditions as they are") \
+    M(25, ONE_FLAG_ENOUGH, "a task is activated with any condition as desired") \
+    M(26, CANCEL_SERVES_EARLY, "cancel serves each off before the next task is uninvoked") \
+    M(27, RECEIVE_AFTER_TRANSMIT, "transmit, then receive, between two terminals") \
+    M(28, NUMBERS_WRAP, "rig numbers wrap at 32 bits") \
+    M(29, CROWDED_CYCLE_AT_ONCE, "the 16th flag of a cycle is refused at its line") \
+    M(30, SIZES_BEFORE_SHAPE, "a field's size is judged before the next field's shape") \
+    M(31, LENGTH_OF_INPUT, "the whole input counts toward the file's length") \
+    M(32, AREA_AT_LEAST, "a compool area longer than 33 words a row is taken") \
+    M(33, TAG_NOT_WRITTEN, "a block is written without its tag") \
+    M(34, SERVES_INSIDE, "an activation's flag is served before the next task is tested") \
+    M(35, TERMINATE_LEAVES_LINKED, "terminate leaves the task in its line") \
+    M(36, STATE_BEFORE_CONTROLLER, "a task's state is judged before its controller") \
+    M(37, WAKES_FIRST_ONLY, "a service wakes only the first task that waits for it") \
+    M(38, LAST_LINE_RUNS, "a last script line without LF is run") \
+    M(39, SPARE_ZEROS, "script numbers may have spare zeros") \
+    M(40, ACTIVATION_SIGNALLED, "activation flags may be signalled")
+
+#define MUTANT_NAME(number, name, text) MUTANT_##name = number,
+enum { MUTANT_LIST(MUTANT_NAME) MUTANT_END };
+#undef MUTANT_NAME
+
+#define MUTATED(name) (MUTANT == MUTANT_##name)
+
+#endif

@@ -1,0 +1,36 @@
+/* The bench runner as a program.  Exit status 0 unless it could not run. */
+#include <stdio.h>
+#include <string.h>
+
+#include "runner.h"
+#include "wordlist.h"
+
+static int usage(FILE *to, int status)
+{
+    fputs("usage: runner            rig, RUN and script on standard input; answers on standard output\n"
+          "       runner --echo-rig read a rig and write it back\n"
+          "       runner --entries  as the first, with the lines of entries.h besides\n"
+          "       runner --words    print all bus words and verdicts, as wordlist.h says\n",
+          to);
+    return status;
+}
+
+int main(int argc, char **argv)
+{
+    int done;
+    if (argc == 1)
+        done = runner_run(0, 1);
+    else if (argc == 2 && strcmp(argv[1], "--echo-rig") == 0)
+        done = runner_echo_rig(0, 1);
+    else if (argc == 2 && strcmp(argv[1], "--entries") == 0)
+        done = runner_run_entries(0, 1);
+    else if (argc == 2 && strcmp(argv[1], "--words") == 0)
+        done = wordlist_print(1);
+    else if (argc == 2 && strcmp(argv[1], "--help") == 0)
+        return usage(stdout, 0);
+    else
+        return usage(stderr, 2);
+    if (done != 0)
+        perror("runner");
+    return done == 0 ? 0 : 1;
+}

@@ -1,0 +1,48 @@
+/*
+ * Inside the executive: waiting tasks, the queue of flags and its serving,
+ * activation and dispatch.  The calls of exec.h are made of these.
+ */
+#ifndef SECOND_SERVE_H
+#define SECOND_SERVE_H
+
+#include "exec.h"
+#include "mutant.h"
+
+/* A call serves at most 79 flags, so never queues more; a mutant may. */
+enum { QUEUE_ROOM = SERVED_MAX + (MUTANT ? TASKS_MAX : 0) };
+
+typedef struct {
+    unsigned served;
+    unsigned waiting;
+    struct {
+        uint8_t flag, value;
+    } entry[QUEUE_ROOM];
+} serving;
+
+/* The running task begins to wait. */
+void wait_on_time(exec *e, uint32_t waking);
+void wait_on_flag(exec *e, uint32_t flag, bool value);
+
+/* Takes a task out of whatever line it waits in. */
+void leave_line(exec *e, unsigned task);
+
+/* Tasks whose waking count is the count become dispatchable. */
+void wake_due(exec *e);
+
+/* Flag 0, of a task without activation flag, queues nothing. */
+void queue_flag(serving *s, unsigned flag, unsigned value);
+void queue_activation(serving *s, const exec *e, unsigned task, unsigned value);
+
+/* Serves until the queue is empty. */
+void serve_all(exec *e, serving *s);
+
+/* Unlatched conditions take the undesired value. */
+void reset_unlatched(exec *e, unsigned task);
+
+/* Dispatchable, unlatched conditions undesired again, activation flag queued on. */
+void activate(exec *e, serving *s, unsigned task);
+
+/* Who runs after an accepted call; `stayed` tells of the running task. */
+void dispatch(exec *e, bool stayed);
+
+#endif

@@ -1,0 +1,279 @@
+#include "tally.h"
+
+#include <string.h>
+
+#include "entries.h"
+#include "exec.h"
+#include "runner.h"
+#include "script.h"
+
+/* A run of one input: the record before the call at hand and after it. */
+typedef struct {
+    tally *t;
+    exec e, before;
+    char wait_verb[TASKS_MAX + 1]; /* that began the task's wait; 0 if it does not wait */
+    entries_area area;
+    text *output;
+} run;
+
+/* ---- Counting ---- */
+
+static bool is_active(const exec *e, unsigned task)
+{
+    return e->state[task] >= WAITING;
+}
+
+/* Flags that the call itself queued. */
+static unsigned queued_by(const run *r, const script_call *call)
+{
+    const exec *before = &r->before;
+    unsigned n = 0;
+    switch (call->verb) {
+    case 'K':
+        return before->rig.cycle[(before->count + 1) % CYCLES].flags;
+    case 'X':
+        for (unsigned t = 1; t <= before->rig.tasks; t++)
+            n += is_active(before, t) && r->e.state[t] == UNINVOKED && before->rig.task[t].activation != 0;
+        return n;
+    case 'F':
+        return before->rig.task[before->running].activation != 0;
+    case 'Z':
+        return before->rig.task[call->number].activation != 0;
+    default:
+        return 1;
+    }
+}
+
+static void count_serving(run *r, const script_call *call, const answer *a)
+{
+    tally *t = r->t;
+    unsigned queued = queued_by(r, call);
+    if (a->served > queued) {
+        t->cascades++;
+        if (a->served - queued > t->deepest)
+            t->deepest = a->served - queued;
+    }
+    if (a->served > t->most_served)
+        t->most_served = a->served;
+    t->served_most += a->served == SERVED_MAX;
+    if (call->verb == 'F' && is_active(&r->e, r->before.running))
+        t->restarts++;
+    if (call->verb == 'Z' && is_active(&r->e, call->number))
+        t->terminated_restarts++;
+}
+
+/* Which waits began and how others ended. */
+static void count_waits(run *r, const script_call *call)
+{
+    tally *t = r->t;
+    if (strchr("URLN", call->verb) != NULL) {
+        if (r->e.state[r->before.running] == WAITING)
+            r->wait_verb[r->before.running] = call->verb;
+        else
+            t->no_waits++;
+    }
+    for (unsigned task = 1; task <= r->e.rig.tasks; task++) {
+        unsigned verb = (unsigned char)r->wait_verb[task];
+        if (verb == 0 || r->e.state[task] == WAITING)
+            continue;
+        if (call->verb == 'X' && r->e.state[task] == UNINVOKED)
+            t->cancelled[verb]++;
+        else if (call->verb == 'Z' && task == call->number)
+            t->terminated[verb]++;
+        else
+            t->woken[verb]++;
+        r->wait_verb[task] = 0;
+    }
+}
+
+static void count_call(run *r, const script_call *call, const answer *a)
+{
+    r->t->call[(unsigned char)call->verb][a->refusal]++;
+    if (a->refusal != ACCEPTED)
+        return;
+    count_serving(r, call, a);
+    count_waits(r, call);
+}
+
+/* ---- Running ---- */
+
+static size_t run_entries_call(run *r, const entries_call *call, char *out)
+{
+    answer a;
+    r->before = r->e;
+    size_t n = entries_run(&r->e, &r->area, call, &a, out);
+    script_call tick = {.verb = 'K'};
+    r->t->call[(unsigned char)call->verb][a.refusal]++;
+    if (call->verb == 'J' && a.refusal == ACCEPTED) {
+        count_serving(r, &tick, &a);
+        count_waits(r, &tick);
+    }
+    return n;
+}
+
+static size_t run_line(run *r, const uint8_t *line, size_t length, bool whole, bool entries, char *out)
+{
+    script_call call;
+    entries_call entry;
+    uint16_t words[TICK_WORDS];
+    r->t->lines++;
+    if (whole && entries && entries_judge(line, length, &entry))
+        return run_entries_call(r, &entry, out);
+    if (!whole || !script_judge(line, length, &call)) {
+        r->t->call['?'][BAD_SHAPE]++;
+        return print_wrong_line(out);
+    }
+    r->before = r->e;
+    answer a = script_apply(&r->e, &call, words);
+    count_call(r, &call, &a);
+    return print_call(out, &call, &a, &r->e, words);
+}
+
+static void run_script(run *r, const uint8_t *at, const uint8_t *end, bool entries)
+{
+    char out[OUTPUT_LINE_MAX];
+    while (at < end) {
+        const uint8_t *lf = memchr(at, '\n', (size_t)(end - at));
+        const uint8_t *stop = lf != NULL ? lf : end;
+        text_add(r->output, out, run_line(r, at, (size_t)(stop - at), lf != NULL, entries, out));
+        at = lf != NULL ? lf + 1 : end;
+    }
+}
+
+void tally_run(tally *t, const text *input, bool entries, text *output)
+{
+    static run r;
+    static rig made;
+    static const uint8_t nothing[1];
+    char out[OUTPUT_LINE_MAX];
+    const uint8_t *bytes = input->length > 0 ? input->bytes : nothing;
+    memset(&r, 0, sizeof r);
+    r.t = t;
+    r.output = output;
+    entries_fill_area(&r.area);
+    input_parts parts = find_parts(bytes, input->length);
+    rig_verdict v = rig_read(bytes, parts.rig_length, &made);
+    t->inputs++;
+    t->start[v.refusal]++;
+    t->rule[v.rule]++;
+    if (v.refusal != ACCEPTED) {
+        text_add(output, out, print_refused_rig(out, &v));
+        return;
+    }
+    (void)exec_start(&r.e, &made);
+    text_add(output, out, print_started(out, &r.e));
+    if (parts.has_script)
+        run_script(&r, bytes + parts.rig_length + RUN_LINE_LENGTH, bytes + input->length, entries);
+}
+
+/* ---- Printing ---- */
+
+/* Every verb with the refusals that a run can give it. */
+static const struct {
+    char verb;
+    const char *name;
+    const char *refusals; /* as letters, a for 1 */
+} verbs[] = {
+    {'S', "schedule", "efgh"},     {'X', "cancel", "efgh"},          {'Z', "terminate", "efgh"},
+    {'F', "finish", "e"},          {'K', "tick", ""},                {'U', "wait until", "ei"},
+    {'R', "wait cycles", "ei"},    {'L', "wait latched", "efg"},     {'N', "wait unlatched", "efg"},
+    {'G', "signal", "efg"},        {'Q', "read flag", "efg"},        {'W', "block write", "efj"},
+    {'D', "block read", "efj"},    {'J', "tick, any room", "j"}};
+
+enum { VERBS = sizeof verbs / sizeof verbs[0] };
+
+static unsigned refusal_of(char letter)
+{
+    return (unsigned)(letter - 'a') + 1;
+}
+
+static void print_verbs(const tally *t, FILE *to)
+{
+    fprintf(to, "calls                 accepted");
+    for (unsigned n = NONE_RUNNING; n <= BAD_LENGTH; n++)
+        fprintf(to, "  refused %-2u", n);
+    fprintf(to, "\n");
+    for (unsigned i = 0; i < VERBS; i++) {
+        const uint64_t *by = t->call[(unsigned char)verbs[i].verb];
+        fprintf(to, "  %c %-16s %10llu", verbs[i].verb, verbs[i].name, (unsigned long long)by[ACCEPTED]);
+        for (unsigned n = NONE_RUNNING; n <= BAD_LENGTH; n++)
+            fprintf(to, "  %10llu", (unsigned long long)by[n]);
+        fprintf(to, "\n");
+    }
+    fprintf(to, "  ? wrong line       refused by 1: %llu\n", (unsigned long long)t->call['?'][BAD_SHAPE]);
+}
+
+static void print_waits(const tally *t, FILE *to)
+{
+    fprintf(to, "waits                    woken   cancelled  terminated\n");
+    for (const char *v = "URLN"; *v != 0; v++) {
+        unsigned char verb = (unsigned char)*v;
+        fprintf(to, "  %c                 %10llu  %10llu  %10llu\n", *v, (unsigned long long)t->woken[verb],
+                (unsigned long long)t->cancelled[verb], (unsigned long long)t->terminated[verb]);
+    }
+    fprintf(to, "  satisfied at once  %10llu\n", (unsigned long long)t->no_waits);
+}
+
+void tally_print(const tally *t, FILE *to)
+{
+    fprintf(to, "inputs %llu, script lines %llu\n", (unsigned long long)t->inputs, (unsigned long long)t->lines);
+    fprintf(to, "rigs accepted %llu; refused by", (unsigned long long)t->start[ACCEPTED]);
+    for (unsigned n = BAD_SHAPE; n <= BAD_RIG; n++)
+        fprintf(to, "%s %u: %llu", n > BAD_SHAPE ? "," : "", n, (unsigned long long)t->start[n]);
+    fprintf(to, "\nwhole-file rules broken\n");
+    for (unsigned i = RULE_TASK_ABOVE; i < RIG_RULE_COUNT; i++)
+        fprintf(to, "  %-52s %6llu\n", rig_rule_text[i], (unsigned long long)t->rule[i]);
+    print_verbs(t, to);
+    print_waits(t, to);
+    fprintf(to,
+            "restarts within one call: by finish %llu, by terminate %llu\n"
+            "cascades %llu, most activations in one call %llu, most served %llu, calls that served 79: %llu\n",
+            (unsigned long long)t->restarts, (unsigned long long)t->terminated_restarts,
+            (unsigned long long)t->cascades, (unsigned long long)t->deepest,
+            (unsigned long long)t->most_served, (unsigned long long)t->served_most);
+}
+
+/* ---- What was hit too seldom ---- */
+
+static unsigned missing(uint64_t hit, uint64_t least, FILE *to, const char *what, const char *which)
+{
+    if (hit >= least)
+        return 0;
+    fprintf(to, "hit only %llu times: %s %s\n", (unsigned long long)hit, what, which);
+    return 1;
+}
+
+static unsigned missing_calls(const tally *t, uint64_t least, FILE *to)
+{
+    unsigned n = 0;
+    for (unsigned i = 0; i < VERBS; i++) {
+        const uint64_t *by = t->call[(unsigned char)verbs[i].verb];
+        n += missing(by[ACCEPTED], least, to, verbs[i].name, "accepted");
+        for (const char *l = verbs[i].refusals; *l != 0; l++) {
+            char which[16];
+            snprintf(which, sizeof which, "refused by %u", refusal_of(*l));
+            n += missing(by[refusal_of(*l)], least, to, verbs[i].name, which);
+        }
+    }
+    return n + missing(t->call['?'][BAD_SHAPE], least, to, "script line", "refused by 1");
+}
+
+unsigned tally_missing(const tally *t, uint64_t least, FILE *to)
+{
+    unsigned n = missing_calls(t, least, to);
+    for (unsigned r = BAD_SHAPE; r <= BAD_RIG; r++)
+        n += missing(t->start[r], least, to, "rig refused by", (const char *[]){"1", "2", "3", "4"}[r - 1]);
+    for (unsigned i = RULE_TASK_ABOVE; i < RIG_RULE_COUNT; i++)
+        n += missing(t->rule[i], least / 2, to, "rule:", rig_rule_text[i]);
+    for (const char *v = "URLN"; *v != 0; v++) {
+        char verb[2] = {*v, 0};
+        n += missing(t->woken[(unsigned char)*v], least, to, "woken wait", verb);
+        n += missing(t->cancelled[(unsigned char)*v], least, to, "cancelled wait", verb);
+        n += missing(t->terminated[(unsigned char)*v], least, to, "terminated wait", verb);
+    }
+    n += missing(t->restarts, least, to, "restart within one call", "by finish");
+    n += missing(t->terminated_restarts, least, to, "restart within one call", "by terminate");
+    n += missing(t->cascades, least, to, "cascade", "");
+    n += missing(t->served_most, least, to, "call", "that served 79");
+    return n;
+}

@@ -1,0 +1,44 @@
+/*
+ * Runs an input in memory, gives the output it must have, and counts what it
+ * hit: the reference side of the comparison.
+ */
+#ifndef SECOND_TALLY_H
+#define SECOND_TALLY_H
+
+#include <stdbool.h>
+#include <stdint.h>
+#include <stdio.h>
+
+#include "chance.h"
+#include "paper.h"
+#include "rig.h"
+
+enum { REFUSALS = NOT_SOUND + 1 };
+
+typedef struct {
+    uint64_t inputs;
+    uint64_t lines;
+    uint64_t call[128][REFUSALS];  /* by verb and answer; ? is refused by 1 */
+    uint64_t start[REFUSALS];
+    uint64_t rule[RIG_RULE_COUNT];
+    uint64_t restarts;             /* a task that finished and is active again in one call */
+    uint64_t terminated_restarts;  /* the same after terminate */
+    uint64_t cascades;             /* calls that served more than they queued themselves */
+    uint64_t deepest;              /* most activations in one call */
+    uint64_t most_served;
+    uint64_t served_most;          /* calls that served 79 */
+    uint64_t no_waits;             /* waits satisfied at once */
+    uint64_t woken[128];           /* waits by verb that ended by waking */
+    uint64_t cancelled[128];       /* by X, by the verb that began the wait */
+    uint64_t terminated[128];      /* by Z */
+} tally;
+
+/* Appends the right output of a runner's input; with `entries`, of an input of entries.h. */
+void tally_run(tally *t, const text *input, bool entries, text *output);
+
+void tally_print(const tally *t, FILE *to);
+
+/* Prints what was hit fewer than `least` times; answers how many such there are. */
+unsigned tally_missing(const tally *t, uint64_t least, FILE *to);
+
+#endif

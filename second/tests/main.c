@@ -1,0 +1,126 @@
+#define _POSIX_C_SOURCE 200809L
+#include <stdio.h>
+#include <stdlib.h>
+#include <string.h>
+#include <unistd.h>
+
+#include "check.h"
+#include "runner.h"
+
+const char *rigs_folder = "../rigs";
+
+static unsigned passed, failed;
+static bool holds_so_far;
+
+void check_that(bool holds, const char *what, const char *file, int line)
+{
+    if (holds)
+        return;
+    holds_so_far = false;
+    printf("%s:%d: not so: %s\n", file, line, what);
+}
+
+void check_number(long long got, long long want, const char *what, const char *file, int line)
+{
+    if (got == want)
+        return;
+    holds_so_far = false;
+    printf("%s:%d: %s is %lld, not %lld\n", file, line, what, got, want);
+}
+
+void check_text(const text *got, const char *want, const char *what, const char *file, int line)
+{
+    if (got->length == strlen(want) && (got->length == 0 || memcmp(got->bytes, want, got->length) == 0))
+        return;
+    holds_so_far = false;
+    printf("%s:%d: %s: got\n%.*sand not\n%s", file, line, what, (int)got->length, (const char *)got->bytes, want);
+}
+
+void run_test(const char *name, void (*test)(void))
+{
+    holds_so_far = true;
+    test();
+    if (holds_so_far)
+        passed++;
+    else
+        failed++;
+    printf("%s %s\n", holds_so_far ? "ok  " : "FAIL", name);
+}
+
+void tabbed(const char *spaced, text *out)
+{
+    for (; *spaced != 0; spaced++)
+        text_add(out, *spaced == ' ' ? "\t" : spaced, 1);
+}
+
+void read_right_rig(const char *spaced, rig *out)
+{
+    text file = {NULL, 0, 0};
+    tabbed(spaced, &file);
+    CHECK_IS(rig_read(file.bytes, file.length, out).refusal, ACCEPTED);
+    text_free(&file);
+}
+
+void start_with(const char *spaced, exec *out)
+{
+    static rig r;
+    read_right_rig(spaced, &r);
+    CHECK_IS(exec_start(out, &r).refusal, ACCEPTED);
+}
+
+static void take_all(FILE *from, text *out)
+{
+    char part[65536];
+    ssize_t n;
+    lseek(fileno(from), 0, SEEK_SET);
+    while ((n = read(fileno(from), part, sizeof part)) > 0)
+        text_add(out, part, (size_t)n);
+}
+
+void run_bytes(enum run_mode mode, const void *bytes, size_t length, text *output)
+{
+    FILE *in = tmpfile(), *out = tmpfile();
+    if (in == NULL || out == NULL) {
+        perror("tmpfile");
+        exit(2);
+    }
+    if (length > 0)
+        fwrite(bytes, 1, length, in);
+    fflush(in);
+    lseek(fileno(in), 0, SEEK_SET);
+    int done = mode == MODE_RUN       ? runner_run(fileno(in), fileno(out))
+               : mode == MODE_ENTRIES ? runner_run_entries(fileno(in), fileno(out))
+                                      : runner_echo_rig(fileno(in), fileno(out));
+    CHECK_IS(done, 0);
+    take_all(out, output);
+    fclose(in);
+    fclose(out);
+}
+
+void check_run(const char *input, const char *output, const char *file, int line)
+{
+    text in = {NULL, 0, 0}, want = {NULL, 0, 0}, got = {NULL, 0, 0};
+    tabbed(input, &in);
+    tabbed(output, &want);
+    text_add(&want, "", 1);
+    run_bytes(MODE_RUN, in.bytes, in.length, &got);
+    check_text(&got, (const char *)want.bytes, "output", file, line);
+    text_free(&in);
+    text_free(&want);
+    text_free(&got);
+}
+
+int main(int argc, char **argv)
+{
+    if (argc > 1)
+        rigs_folder = argv[1];
+    words_tests();
+    rig_tests();
+    exec_tests();
+    serving_tests();
+    sound_tests();
+    runner_tests();
+    gen_tests();
+    printf("%u passed, %u failed\n", passed, failed);
+    return failed == 0 ? 0 : 1;
+}

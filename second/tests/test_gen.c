@@ -1,0 +1,80 @@
+/* The generator and the comparison's own counting. */
+#include <stdio.h>
+#include <string.h>
+
+#include "check.h"
+#include "gen.h"
+#include "tally.h"
+
+static void same_seed_same_input(void)
+{
+    text a = {NULL, 0, 0}, b = {NULL, 0, 0};
+    for (uint64_t i = 0; i < 2 * gen_round(); i++) {
+        text_clear(&a);
+        text_clear(&b);
+        gen_input(5, i, &a);
+        gen_input(5, i, &b);
+        CHECK(a.length == b.length && (a.length == 0 || memcmp(a.bytes, b.bytes, a.length) == 0));
+    }
+    text_free(&a);
+    text_free(&b);
+}
+
+static void right_rigs_are_right(void)
+{
+    static rig r;
+    for (unsigned i = 0; i < 600; i++) {
+        chance c = chance_of(6, i);
+        switch (i % 7) {
+        case 3:
+            gen_restarting_rig(&c, &r);
+            break;
+        case 4:
+            gen_family_rig(&c, &r);
+            break;
+        case 5:
+            gen_race_rig(&c, &r);
+            break;
+        case 6:
+            gen_full_serving_rig(&c, &r);
+            break;
+        default:
+            gen_rig(&c, (rig_size)(i % 7), &r);
+            break;
+        }
+        CHECK_IS(rig_broken_rule(&r), RULE_KEPT);
+    }
+}
+
+/* Each rule is met by the input made for it, and the runner prints what the comparison expects. */
+static void rounds_of_inputs(void)
+{
+    static tally t;
+    text in = {NULL, 0, 0}, want = {NULL, 0, 0}, got = {NULL, 0, 0};
+    unsigned different = 0;
+    for (uint64_t i = 0; i < 6 * gen_round(); i++) {
+        text_clear(&in);
+        text_clear(&want);
+        text_clear(&got);
+        gen_input(7, i, &in);
+        tally_run(&t, &in, false, &want);
+        run_bytes(MODE_RUN, in.bytes, in.length, &got);
+        different += got.length != want.length || memcmp(got.bytes, want.bytes, got.length) != 0;
+    }
+    CHECK_IS(different, 0);
+    for (unsigned rule = RULE_TASK_ABOVE; rule < RIG_RULE_COUNT; rule++)
+        CHECK(t.rule[rule] > 0);
+    for (unsigned verb = 0; verb < 128; verb++)
+        CHECK_IS(t.call[verb][NOT_SOUND], 0); /* 12 never follows from an accepted start */
+    CHECK_IS(t.most_served, SERVED_MAX);
+    text_free(&in);
+    text_free(&want);
+    text_free(&got);
+}
+
+void gen_tests(void)
+{
+    RUN(same_seed_same_input);
+    RUN(right_rigs_are_right);
+    RUN(rounds_of_inputs);
+}

@@ -1,0 +1,123 @@
+#include "check.h"
+#include "words.h"
+
+/* A command put together, or minus its refusal. */
+static long command(uint32_t address, uint32_t transmit, uint32_t subaddress, uint32_t last)
+{
+    uint16_t word = 4711;
+    enum refusal refusal = command_word(&(command_fields){address, transmit, subaddress, last}, &word);
+    if (refusal != ACCEPTED) {
+        CHECK_IS(word, 4711); /* a refused entry answers the number alone */
+        return -(long)refusal;
+    }
+    return word;
+}
+
+static long status(uint32_t address, uint32_t error, uint32_t bits, uint32_t failure)
+{
+    uint16_t word = 4711;
+    enum refusal refusal = status_word(&(status_fields){address, error, bits, failure}, &word);
+    return refusal != ACCEPTED ? -(long)refusal : word;
+}
+
+static long judged(uint32_t image, uint32_t expected)
+{
+    verdict v = VERDICT_ERROR;
+    enum refusal refusal = status_judge(image, expected, &v);
+    return refusal != ACCEPTED ? -(long)refusal : (long)v;
+}
+
+static void starred_words(void)
+{
+    CHECK_IS(command(7, 0, 2, 32), 14400);
+    CHECK_IS(command(5, 0, 1, 1), 10273);
+    CHECK_IS(command(31, 1, 30, 32), 65472);
+    CHECK_IS(status(7, 1, 0, 0), 15360);
+    CHECK_IS(parity(14400), 1);
+    CHECK_IS(parity(1), 0);
+    CHECK_IS(command(7, 0, 2, 33), -11);
+}
+
+static void slip_32_is_reduced(void)
+{
+    CHECK(command(7, 0, 2, 32) != 14432);
+    CHECK_IS(command(7, 0, 2, 32), command(7, 0, 2, 1) - 1);
+}
+
+static void fields_outside_sizes(void)
+{
+    CHECK_IS(command(32, 0, 1, 1), -11);
+    CHECK_IS(command(0, 2, 1, 1), -11);
+    CHECK_IS(command(0, 0, 32, 1), -11);
+    CHECK_IS(command(0, 0, 1, 0), -11);
+    CHECK_IS(command(0, 0, 0, 0), 0); /* mode number 0 */
+    CHECK_IS(command(0, 0, 0, 31), 31);
+    CHECK_IS(command(0, 0, 0, 32), -11);
+    CHECK_IS(command(31, 1, 31, 32), 65504);
+    CHECK_IS(command(4294967295u, 0, 1, 1), -11);
+    CHECK_IS(status(32, 0, 0, 0), -11);
+    CHECK_IS(status(0, 2, 0, 0), -11);
+    CHECK_IS(status(0, 0, 512, 0), -11);
+    CHECK_IS(status(0, 0, 0, 2), -11);
+    CHECK_IS(status(31, 1, 511, 1), 65535);
+    CHECK_IS(judged(131072, 0), -11);
+    CHECK_IS(judged(0, 32), -11);
+}
+
+static void every_command_round_trips(void)
+{
+    unsigned wrong = 0;
+    for (uint32_t w = 0; w <= UINT16_MAX; w++) {
+        command_fields f = command_apart((uint16_t)w);
+        bool mode = f.subaddress == 0;
+        wrong += f.last > (mode ? 31u : 32u) || (!mode && f.last == 0);
+        wrong += command(f.address, f.transmit, f.subaddress, f.last) != (long)w;
+    }
+    CHECK_IS(wrong, 0);
+}
+
+static unsigned ones(uint32_t n)
+{
+    unsigned count = 0;
+    for (; n != 0; n >>= 1)
+        count += n & 1;
+    return count;
+}
+
+static void every_status_round_trips(void)
+{
+    unsigned wrong = 0;
+    for (uint32_t w = 0; w <= UINT16_MAX; w++) {
+        status_fields f = status_apart((uint16_t)w);
+        wrong += status(f.address, f.error, f.status, f.failure) != (long)w;
+        wrong += status_image((uint16_t)w) >> 1 != w;
+        wrong += ones(status_image((uint16_t)w)) % 2 != 1;
+    }
+    CHECK_IS(wrong, 0);
+}
+
+static void every_image_at_every_address(void)
+{
+    unsigned wrong = 0, clean = 0;
+    for (uint32_t image = 0; image < 131072; image++) {
+        for (uint32_t a = 0; a <= 31; a++) {
+            long want = ones(image) % 2 == 0 || image >> 12 != a ? VERDICT_ERROR
+                        : (image >> 1) % 2048 != 0              ? VERDICT_EXCEPTION
+                                                                : VERDICT_CLEAN;
+            wrong += judged(image, a) != want;
+            clean += want == VERDICT_CLEAN;
+        }
+    }
+    CHECK_IS(wrong, 0);
+    CHECK_IS(clean, 32);
+}
+
+void words_tests(void)
+{
+    RUN(starred_words);
+    RUN(slip_32_is_reduced);
+    RUN(fields_outside_sizes);
+    RUN(every_command_round_trips);
+    RUN(every_status_round_trips);
+    RUN(every_image_at_every_address);
+}

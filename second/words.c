@@ -1,0 +1,94 @@
+#include "words.h"
+
+#include <stdbool.h>
+
+#include "mutant.h"
+
+/* 1 where the byte has an odd number of ones. */
+#define ODD2(n) n, n ^ 1, n ^ 1, n
+#define ODD4(n) ODD2(n), ODD2(n ^ 1), ODD2(n ^ 1), ODD2(n)
+#define ODD6(n) ODD4(n), ODD4(n ^ 1), ODD4(n ^ 1), ODD4(n)
+static const uint8_t odd_ones[256] = {ODD6(0), ODD6(1), ODD6(1), ODD6(0)};
+
+enum {
+    IMAGE_MAX = 131071,
+    STATUS_MAX = 511,
+    MODE_SUBADDRESS = 0,
+    COMMAND_SUBADDRESS_MAX = 31,
+    MODE_NUMBER_MAX = 31
+};
+
+static bool last_field_fits(const command_fields *f)
+{
+    if (f->subaddress == MODE_SUBADDRESS)
+        return f->last <= MODE_NUMBER_MAX;
+    return f->last >= 1 && f->last <= ROW_WORDS_MAX;
+}
+
+enum refusal command_word(const command_fields *f, uint16_t *out)
+{
+    if (f->address > ADDRESS_MAX || f->transmit > 1 || f->subaddress > COMMAND_SUBADDRESS_MAX ||
+        !last_field_fits(f))
+        return BAD_FIELD;
+    uint32_t low = f->last % 32; /* 32 words are written as 0 */
+    if (MUTATED(WORDS_UNREDUCED))
+        low = f->last;
+    *out = (uint16_t)((f->address << 11 | f->transmit << 10 | f->subaddress << 5) + low);
+    return ACCEPTED;
+}
+
+command_fields command_apart(uint16_t word)
+{
+    command_fields f = {
+        .address = word >> 11,
+        .transmit = word >> 10 & 1,
+        .subaddress = word >> 5 & 31,
+        .last = word & 31,
+    };
+    if (f.subaddress != MODE_SUBADDRESS && f.last == 0)
+        f.last = ROW_WORDS_MAX;
+    return f;
+}
+
+enum refusal status_word(const status_fields *f, uint16_t *out)
+{
+    if (f->address > ADDRESS_MAX || f->error > 1 || f->status > STATUS_MAX || f->failure > 1)
+        return BAD_FIELD;
+    *out = (uint16_t)(f->address << 11 | f->error << 10 | f->status << 1 | f->failure);
+    return ACCEPTED;
+}
+
+status_fields status_apart(uint16_t word)
+{
+    return (status_fields){
+        .address = word >> 11,
+        .error = word >> 10 & 1,
+        .status = word >> 1 & STATUS_MAX,
+        .failure = word & 1,
+    };
+}
+
+unsigned parity(uint16_t word)
+{
+    return odd_ones[word >> 8] ^ odd_ones[word & 255] ^ 1u;
+}
+
+uint32_t status_image(uint16_t word)
+{
+    return (uint32_t)word * 2 + parity(word);
+}
+
+enum refusal status_judge(uint32_t image, uint32_t expected, verdict *out)
+{
+    if (image > IMAGE_MAX || expected > ADDRESS_MAX)
+        return BAD_FIELD;
+    uint16_t word = (uint16_t)(image >> 1);
+    status_fields f = status_apart(word);
+    if (parity(word) != (image & 1) || f.address != expected)
+        *out = VERDICT_ERROR;
+    else if (f.error != 0 || f.status != 0 || f.failure != 0)
+        *out = VERDICT_EXCEPTION;
+    else
+        *out = VERDICT_CLEAN;
+    return ACCEPTED;
+}
