@@ -1,7 +1,7 @@
 -- CASES: each rule that a wrong version could drop, as a script with what is seen after each call. One table, one statement.
 use mathlib.Core.Path.{_≡_, refl}
 use mathlib.Core.List.{List, [], _∷_, _++_}
-use Prim.Native.Nat.{ℕ}
+use Prim.Native.Nat.{ℕ, zero, suc}
 use lib.ListN.{replicate}
 use Rattle.laws.specs.Iter.{iter}
 use Rattle.laws.specs.All.{all}
@@ -19,7 +19,7 @@ use Rattle.rules.specs.Running.{best, chosen, dispatch}
 use Rattle.rules.specs.Bus.{written, copied, rowWords, busWords}
 use Rattle.rules.specs.Calls.{Call, schedule, cancel, terminate, finish, tick, waitUntil, waitFor, latched, unlatched, signal, readFlag, readBlock, writeBlock}
 use Rattle.rules.specs.Calls.{scheduled, finished, terminated, cancelled, cycleQueue, ticked, effect, decide, noSuch, inCycle, isMinor, isActivation, lastCount, wrongBlock, refusals, refusal, wordsAt, lent, output, accepted, after, step, run, started, start}
-use Rattle.rules.specs.Scripts.{T, C, A, M, B, ofTask, ofCondition, numbers, ofLine, ofCycle, rig, tick₀, startAt, seen, Case, shown, case, caseAt, bench, morningCalls}
+use Rattle.rules.specs.Scripts.{TaskLine, MinorLine, T, C, A, M, B, ofTask, ofCondition, numbers, ofLine, ofCycle, rig, tick₀, startAt, seen, Case, shown, case, caseAt, bench, morningCalls}
 use Rattle.rules.specs.Scripts.{runs, answers, serves, writes, reads, lends, stateIs, valueIs, waitFlag, waitTime, _and_}
 
 -- ---- rigs that several cases use
@@ -115,6 +115,22 @@ cancel-strikes-every-descendant =
     0 ∷ 0 ∷ 0 ∷ 0 ∷ 4 ∷ []
     )
 
+-- all of them, not the children alone: each controls the next
+cancel-strikes-grandchildren : Case
+cancel-strikes-grandchildren =
+    case (rig 4 4 1 (T 1 0 10 0 0 ∷ T 2 1 20 0 0 ∷ T 3 2 30 0 0 ∷ T 4 3 40 0 0 ∷ []) [] [] [] [])
+    (schedule 2 ∷ schedule 3 ∷ schedule 4 ∷ unlatched 1 1 ∷ unlatched 1 1 ∷ unlatched 1 1 ∷ cancel 2 ∷ [])
+    (waitFlag 1 1 and stateIs 2 and stateIs 3 and stateIs 4)
+    (
+    0 ∷ 3 ∷ 0 ∷ 0 ∷
+    0 ∷ 3 ∷ 3 ∷ 0 ∷
+    0 ∷ 3 ∷ 3 ∷ 3 ∷
+    4 ∷ 0 ∷ 3 ∷ 3 ∷ 2 ∷
+    4 ∷ 3 ∷ 0 ∷ 3 ∷ 2 ∷ 2 ∷
+    4 ∷ 3 ∷ 2 ∷ 0 ∷ 2 ∷ 2 ∷ 2 ∷
+    0 ∷ 0 ∷ 0 ∷ 0 ∷ []
+    )
+
 -- "An unlatched wait is satisfied by the value already there."; and a service that changes nothing still wakes
 unlatched-waits-for-the-next-service : Case
 unlatched-waits-for-the-next-service =
@@ -149,6 +165,22 @@ schedule-relaxes =
     runs
     (1 ∷ 1 ∷ 2 ∷ [])
 
+-- undesired is 1 minus desired: a condition that desires off takes on
+undesired-of-off-is-on : Case
+undesired-of-off-is-on =
+    case (rig 2 4 1 (T 1 0 10 0 0 ∷ T 2 1 20 0 0 ∷ []) (C 2 0 0 0 ∷ []) (A 2 0 1 ∷ []) [] [])
+    (schedule 2 ∷ signal 1 0 ∷ [])
+    runs
+    (1 ∷ 2 ∷ [])
+
+-- "at positions 0 to 15": the last position is relaxed and tested like the others
+position-fifteen-counts : Case
+position-fifteen-counts =
+    case (rig 2 4 1 (T 1 0 10 0 0 ∷ T 2 1 20 0 0 ∷ []) (C 2 15 0 1 ∷ []) (A 2 15 1 ∷ []) [] [])
+    (signal 1 1 ∷ schedule 2 ∷ signal 1 1 ∷ [])
+    runs
+    (1 ∷ 1 ∷ 2 ∷ [])
+
 -- "Activate: .. unlatched conditions undesired again": the second time flag 2 alone is not enough
 activation-relaxes : Case
 activation-relaxes =
@@ -157,13 +189,14 @@ activation-relaxes =
     runs
     (1 ∷ 1 ∷ 2 ∷ 1 ∷ 1 ∷ 2 ∷ [])
 
--- "A condition is tested for activation on schedule and on service of one of its flags.": not at a finish
+-- "A condition is tested for activation on schedule and on service of one of its flags.": not at a finish, nor on service of
+-- another flag
 tested-on-schedule-and-service-only : Case
 tested-on-schedule-and-service-only =
     case remembering
-    (signal 1 1 ∷ schedule 2 ∷ finish ∷ signal 1 1 ∷ [])
+    (signal 1 1 ∷ schedule 2 ∷ finish ∷ signal 2 1 ∷ signal 1 1 ∷ [])
     runs
-    (1 ∷ 2 ∷ 1 ∷ 2 ∷ [])
+    (1 ∷ 2 ∷ 1 ∷ 1 ∷ 2 ∷ [])
 
 -- "if all conditions are as desired": one of the two is not enough
 all-conditions-as-desired : Case
@@ -224,13 +257,21 @@ terminate-takes-out-of-the-time-chain =
     0 ∷ 1 ∷ 1 ∷ []
     )
 
--- "then activation flags of those that were active are queued off": task 3 is inactive; seen: served
+-- cancel touches no condition: scheduled anew, task 2 is activated by what was served before
+cancel-touches-no-condition : Case
+cancel-touches-no-condition =
+    case remembering
+    (signal 1 1 ∷ schedule 2 ∷ finish ∷ cancel 2 ∷ schedule 2 ∷ [])
+    runs
+    (1 ∷ 2 ∷ 1 ∷ 1 ∷ 2 ∷ [])
+
+-- "then activation flags of those that were active are queued off": task 3 is inactive; seen: served, flag 2
 cancel-queues-off-for-the-active-only : Case
 cancel-queues-off-for-the-active-only =
     case (rig 3 4 1 (T 1 0 10 0 0 ∷ T 2 1 20 0 2 ∷ T 3 2 5 0 3 ∷ []) (C 3 0 0 1 ∷ []) (A 3 0 1 ∷ []) [] [])
     (schedule 2 ∷ schedule 3 ∷ waitFor 5 ∷ cancel 2 ∷ [])
-    serves
-    (1 ∷ 0 ∷ 0 ∷ 1 ∷ [])
+    (serves and valueIs 2)
+    (1 ∷ 1 ∷ 0 ∷ 1 ∷ 0 ∷ 1 ∷ 1 ∷ 0 ∷ [])
 
 -- ".. by rising task number", so task 3's off is served before task 2's, and task 4, who asks for 2 off while 3 is on,
 -- stays inactive; seen: served, state of 4
@@ -431,6 +472,59 @@ read-copies-the-data =
     (answers and lends)
     (0 ∷ 7 ∷ 8 ∷ 9 ∷ [])
 
+-- ---- the last of each kind
+
+-- T lines of n tasks from k on, that task 1 controls; M lines of cycle 63 with n flags from k on
+tasksFrom : ℕ → ℕ → List TaskLine
+tasksFrom k zero = []
+tasksFrom k (suc n) = T k 1 5 0 0 ∷ tasksFrom (suc k) n
+
+flagsFrom : ℕ → ℕ → List MinorLine
+flagsFrom k zero = []
+flagsFrom k (suc n) = M 63 k ∷ flagsFrom (suc k) n
+
+-- 64 tasks, 128 flags, fifteen flags in the last cycle, 64 rows of two words each
+largest : Rig
+largest =
+    rig 64 128 1 (T 1 0 10 0 0 ∷ tasksFrom 2 62 ++ T 64 1 20 0 128 ∷ []) [] [] (flagsFrom 1 15) (replicate 64 (B 3 1 4 2 2 1 0))
+
+-- task 64 runs, has flag 128, waits and is cancelled; seen: the answer, served, flag 128, state of 64, who waits, who runs
+the-last-task : Case
+the-last-task =
+    case largest
+    (schedule 64 ∷ signal 128 0 ∷ unlatched 127 1 ∷ cancel 64 ∷ schedule 65 ∷ [])
+    (answers and serves and valueIs 128 and stateIs 64 and waitFlag 127 1 and runs)
+    (
+    0 ∷ 1 ∷ 1 ∷ 3 ∷ 0 ∷ 64 ∷
+    7 ∷ 0 ∷ 1 ∷ 3 ∷ 0 ∷ 64 ∷
+    0 ∷ 0 ∷ 1 ∷ 2 ∷ 64 ∷ 0 ∷ 1 ∷
+    0 ∷ 1 ∷ 0 ∷ 0 ∷ 0 ∷ 1 ∷
+    6 ∷ 0 ∷ 0 ∷ 0 ∷ 0 ∷ 1 ∷ []
+    )
+
+-- the fifteenth flag of cycle 63 is a minor-cycle flag, the flag behind it is not; flag 128 is there, 129 is not
+the-last-flag : Case
+the-last-flag =
+    case largest
+    (readFlag 15 ∷ readFlag 16 ∷ readFlag 128 ∷ readFlag 129 ∷ [])
+    answers
+    (7 ∷ 0 ∷ 0 ∷ 6 ∷ [])
+
+-- 64 rows write 128 words; row 64's block ends the area
+the-last-row : Case
+the-last-row =
+    case largest
+    (tick₀ ∷ [])
+    writes
+    (128 ∷ [])
+
+the-last-block : Case
+the-last-block =
+    case largest
+    (writeBlock 64 (replicate 2112 5) (7 ∷ 8 ∷ []) ∷ [])
+    lends
+    (replicate 2079 5 ++ 0 ∷ 7 ∷ 8 ∷ replicate 30 5)
+
 -- ---- refusals: the smallest number, and nothing is written
 
 -- nobody runs: every call but the tick, whatever else is wrong with it
@@ -536,10 +630,13 @@ cases-hold :
     × Holds equal-rank-takes-nothing
     × Holds phase-against-the-count-after-the-tick
     × Holds cancel-strikes-every-descendant
+    × Holds cancel-strikes-grandchildren
     × Holds unlatched-waits-for-the-next-service
     × Holds latched-conditions-remember
     × Holds conditions-are-driven-while-the-task-runs
     × Holds schedule-relaxes
+    × Holds undesired-of-off-is-on
+    × Holds position-fifteen-counts
     × Holds activation-relaxes
     × Holds tested-on-schedule-and-service-only
     × Holds all-conditions-as-desired
@@ -547,6 +644,7 @@ cases-hold :
     × Holds finish-wakes-who-waits-for-the-off
     × Holds terminate-takes-out-of-a-flag-chain
     × Holds terminate-takes-out-of-the-time-chain
+    × Holds cancel-touches-no-condition
     × Holds cancel-queues-off-for-the-active-only
     × Holds cancel-serves-the-highest-off-first
     × Holds last-queued-first
@@ -568,6 +666,10 @@ cases-hold :
     × Holds rows-in-order
     × Holds write-touches-no-other-word
     × Holds read-copies-the-data
+    × Holds the-last-task
+    × Holds the-last-flag
+    × Holds the-last-row
+    × Holds the-last-block
     × Holds refused-5-first
     × Holds refused-6-no-such
     × Holds refused-7-not-the-controller
@@ -578,5 +680,5 @@ cases-hold :
     × Holds refused-9-last-tick
     × Holds refused-10-tick
     × Holds refused-10-area
-unfolding lone pair quad line remembering forgetting bench morningCalls rows stopped-and-started thirty-two-is-written-as-zero equal-rank-takes-nothing phase-against-the-count-after-the-tick cancel-strikes-every-descendant unlatched-waits-for-the-next-service latched-conditions-remember conditions-are-driven-while-the-task-runs schedule-relaxes activation-relaxes tested-on-schedule-and-service-only all-conditions-as-desired one-condition-of-two-flags finish-wakes-who-waits-for-the-off terminate-takes-out-of-a-flag-chain terminate-takes-out-of-the-time-chain cancel-queues-off-for-the-active-only cancel-serves-the-highest-off-first last-queued-first activation-by-rising-number only-the-value-waited-for-wakes served-numbers wait-until-a-count wait-for-cycles no-wait-at-or-below-the-count latched-wait-takes-the-value-there time-chain-in-order flag-chains-in-order cycle-of-the-count start-schedules-task-1 higher-rank-takes-the-processor lowest-number-first stayed-throughout privileged-above-all-others rows-in-order write-touches-no-other-word read-copies-the-data refused-5-first refused-6-no-such refused-7-not-the-controller refused-7-flags refused-8-states refused-9-waking-count refused-9-waking-sum refused-9-last-tick refused-10-tick refused-10-area ofTask ofCondition numbers ofLine ofCycle rig tick₀ startAt seen shown runs answers serves writes reads lends stateIs valueIs waitFlag waitTime _and_ iter all any total over put commandWord blank relax met drive names activate takes rouse wake ready offer offers serveFlag serving serve waitOn waitUntilCount leave wakeDue family cleared deserted offs best chosen dispatch written copied rowWords busWords scheduled finished terminated cancelled cycleQueue ticked effect decide noSuch inCycle isMinor isActivation lastCount wrongBlock refusals refusal wordsAt lent output accepted after step run started start
-cases-hold = (refl, refl, refl, refl, refl, refl, refl, refl, refl, refl, refl, refl, refl, refl, refl, refl, refl, refl, refl, refl, refl, refl, refl, refl, refl, refl, refl, refl, refl, refl, refl, refl, refl, refl, refl, refl, refl, refl, refl, refl, refl, refl, refl, refl, refl, refl, refl)
+unfolding tasksFrom flagsFrom largest lone pair quad line remembering forgetting bench morningCalls rows stopped-and-started thirty-two-is-written-as-zero equal-rank-takes-nothing phase-against-the-count-after-the-tick cancel-strikes-every-descendant cancel-strikes-grandchildren unlatched-waits-for-the-next-service latched-conditions-remember conditions-are-driven-while-the-task-runs schedule-relaxes undesired-of-off-is-on position-fifteen-counts activation-relaxes tested-on-schedule-and-service-only all-conditions-as-desired one-condition-of-two-flags finish-wakes-who-waits-for-the-off terminate-takes-out-of-a-flag-chain terminate-takes-out-of-the-time-chain cancel-touches-no-condition cancel-queues-off-for-the-active-only cancel-serves-the-highest-off-first last-queued-first activation-by-rising-number only-the-value-waited-for-wakes served-numbers wait-until-a-count wait-for-cycles no-wait-at-or-below-the-count latched-wait-takes-the-value-there time-chain-in-order flag-chains-in-order cycle-of-the-count start-schedules-task-1 higher-rank-takes-the-processor lowest-number-first stayed-throughout privileged-above-all-others rows-in-order write-touches-no-other-word read-copies-the-data the-last-task the-last-flag the-last-row the-last-block refused-5-first refused-6-no-such refused-7-not-the-controller refused-7-flags refused-8-states refused-9-waking-count refused-9-waking-sum refused-9-last-tick refused-10-tick refused-10-area ofTask ofCondition numbers ofLine ofCycle rig tick₀ startAt seen shown runs answers serves writes reads lends stateIs valueIs waitFlag waitTime _and_ iter all any total over put commandWord blank relax met drive names activate takes rouse wake ready offer offers serveFlag serving serve waitOn waitUntilCount leave wakeDue family cleared deserted offs best chosen dispatch written copied rowWords busWords scheduled finished terminated cancelled cycleQueue ticked effect decide noSuch inCycle isMinor isActivation lastCount wrongBlock refusals refusal wordsAt lent output accepted after step run started start
+cases-hold = (refl, refl, refl, refl, refl, refl, refl, refl, refl, refl, refl, refl, refl, refl, refl, refl, refl, refl, refl, refl, refl, refl, refl, refl, refl, refl, refl, refl, refl, refl, refl, refl, refl, refl, refl, refl, refl, refl, refl, refl, refl, refl, refl, refl, refl, refl, refl, refl, refl, refl, refl, refl, refl, refl, refl)

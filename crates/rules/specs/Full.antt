@@ -25,7 +25,7 @@ use Rattle.rules.specs.Scripts.{B, tick₀}
 
 -- Task t has priority 10, activation flag t, controller 1 and one unlatched condition, at position 0, which desires on: for
 -- task 1 its flag is 65, else the activation flag of the task before it. M lines: flags 65 to 79 in cycles 1 and 2.
-full : Rig
+unfoldable pub full : Rig
 full =
     record {
       tasks = 64;
@@ -35,9 +35,9 @@ full =
       priority = λ t. cond (ltb 0 t && leb t 64) 10 0;
       privileged = λ t. 0;
       activation = λ t. cond (leb t 64) t 0;
-      present = λ at. cond (eqb (at % 16) 0 && (ltb 0 at && ltb at 1040)) 1 0;
+      present = λ at. cond (eqb (at % 16) 0 && (ltb 15 at && ltb at 1040)) 1 0;
       latched = λ at. 0;
-      desired = λ at. cond (eqb (at % 16) 0 && (ltb 0 at && ltb at 1040)) 1 0;
+      desired = λ at. cond (eqb (at % 16) 0 && (ltb 15 at && ltb at 1040)) 1 0;
       lines = 64;
       lineTask = λ k. cond (ltb k 64) (k + 1) 0;
       linePos = λ k. 0;

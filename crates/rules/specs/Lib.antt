@@ -34,6 +34,7 @@ pub mod InOrder
 pub mod Waking
 pub mod WakingLaws
 pub mod BenchRig
+pub mod FullRig
 pub mod Bound
 pub mod Reasons
 pub mod Refusals
