@@ -6,3 +6,7 @@ pub mod Check
 pub mod Refusing
 pub mod Meeting
 pub mod Settling
+pub mod Start
+pub mod Runs
+pub mod Demands
+pub mod RunLaws
