@@ -3,12 +3,9 @@
 -- O of a task is the anchor of the chain that it is in, or 0. X s is the chain of anchor s, as a list.
 use mathlib.Core.Path.{_≡_, refl, sym, _∙_, ap, subst}
 use mathlib.Core.Logic.{_⊎_, inl, inr, ⊎-elim, _≢_}
-use mathlib.Core.Bool.{Bool, true, false, cond}
 use mathlib.Core.List.{List, [], _∷_, _++_, append-assoc, append-nil}
-use Prim.Native.Nat.{ℕ, zero, suc, _+_, _≤_, _<_}
+use Prim.Native.Nat.{ℕ, _+_, _≤_, _<_}
 use native.Mathlib.Omega.{arith}
-use lib.Dec.{eqb}
-use borrow.Author.Tests.{eq-eqb, ne-eqb, eqb-true, eqb-false}
 use Rattle.laws.specs.Functions.{upd, upd-same, upd-other, on-upd, upd2}
 use Rattle.laws.specs.Members.{In, Distinct, in-left, in-right, in-cases, in-split, without, without-mid, in-mid, out-mid, apart-left, distinct-right, distinct-left, distinct-mid, distinct-apart}
 use Rattle.chains.specs.Link.{Linked, Chain, last, first, rest, in-last, linked-split, linked-join, seam-out, seam-in, distinct}

@@ -1,28 +1,17 @@
--- Tasks taken off the front of a chain, one after the other: all of them, or those that are due.
+-- Tasks taken off the front of a chain, one after the other.
 use mathlib.Core.Path.{_≡_, refl, sym, _∙_, ap, subst}
-use mathlib.Core.Logic.{_⊎_, inl, inr, ⊎-elim, _≢_}
-use mathlib.Core.Bool.{Bool, true, false, cond}
-use mathlib.Core.List.{List, [], _∷_, _++_}
-use Prim.Native.Nat.{ℕ, zero, suc, _+_, _≤_, _<_}
+use mathlib.Core.Logic.{inl, _≢_}
+use mathlib.Core.List.{List, [], _∷_}
+use Prim.Native.Nat.{ℕ, _≤_, _<_}
 use native.Mathlib.Omega.{arith}
-use lib.Dec.{leb, eqb}
 use lib.ListN.{length}
-use borrow.Author.Tests.{le-leb, lt-leb}
 use Rattle.laws.specs.Functions.{upd, upd-same, upd-upd, upd-self}
 use Rattle.laws.specs.Members.{In, Distinct, without, without-mid}
-use Rattle.laws.specs.Order.{later}
 use Rattle.chains.specs.Link.{first}
 use Rattle.chains.specs.Chains.{nodes-distinct, at-place}
 use Rattle.chains.specs.Ops.{walk, forward}
 use Rattle.chains.specs.Held.{at, Held, Leaves}
 use Rattle.chains.specs.declared.Links.{Links}
-
--- the chain of s is emptied; the tasks due by count c leave it
-abbrev pub Clears : Links → ℕ → Links → Type 0
-Clears l s r = (X : ℕ → List ℕ) → Held l X → Held r (upd X s [])
-
-abbrev pub Drops : Links → List ℕ → ℕ → ℕ → Links → Type 0
-Drops l wake s c r = (X : ℕ → List ℕ) → Held l X → Held r (upd X s (later (at wake) c (X s)))
 
 -- while tasks leave the chain of s: what is left of it, with v in front
 pub record Leaving (s : ℕ) (r : Links) (v : ℕ) (X : ℕ → List ℕ) : Type 0 where
@@ -105,20 +94,3 @@ module _ (s : ℕ) (ls : 64 < s) (hs : s < 322) (X : ℕ → List ℕ) where
         let a = leaving-walk r v k in
         let b : walk (at (q .next)) 64 64 s ≡ leaving-task .0 = leaving-walk q (at (q .next) s) (leaving-step q f) in
         omega (arith, ap length a, ap length b, ap length (leaving-task .1))
-
-    -- a due task that leaves was due
-    pub due-step : (W : ℕ → ℕ) (c : ℕ) → W v ≤ c → (q : Links) (f : Leaves r v q) → later W c (k .left) ≡ later W c (leaving-step q f .left)
-    unfolding leaving-step
-    due-step W c w q f = ap (later W c) (leaving-task .1) ∙ rw (le-leb (W v) c w)
-
-  -- where the search stops, nothing that is left is due in front
-  pub due-done : (r : Links) (v : ℕ) (k : Leaving s r v X) (W : ℕ → ℕ) (c : ℕ) → (v ≢ s → c < W v) → later W c (k .left) ≡ k .left
-  due-done r v k W c w = go (k .left) (k .front) (λ a i. k .held .own s ls hs a (rw (upd-same X s (k .left)) i) .1)
-    where
-      go : (ys : List ℕ) → first ys s ≡ v → ((a : ℕ) → In a ys → a ≤ 64) → later W c ys ≡ ys
-      go [] e f = refl
-      go (y ∷ ys) e f = rw (lt-leb (W y) c (rw e (w (λ q. omega (arith, f y (inl refl))))))
-
-  pub due-held : (r : Links) (v : ℕ) (k : Leaving s r v X) (W : ℕ → ℕ) (c : ℕ) → (v ≢ s → c < W v) → later W c (X s) ≡ later W c (k .left)
-      → Held r (upd X s (later W c (X s)))
-  due-held r v k W c w e = subst (λ (ys : List ℕ). Held r (upd X s ys)) (sym (e ∙ due-done r v k W c w)) (k .held)

@@ -1,26 +1,16 @@
--- What the operations do to the lists, and how a chain is read.
-use mathlib.Core.Path.{_≡_, refl, sym, _∙_, ap, subst, fun-ext}
-use mathlib.Core.Logic.{_⊎_, inl, inr, ⊎-elim, _≢_}
-use mathlib.Core.Bool.{Bool, true, false, cond, _&&_}
-use mathlib.Core.List.{List, [], _∷_, _++_, append-assoc, append-nil, reverse, reverse-cons}
+-- How a chain is read.
+use mathlib.Core.Path.{_≡_, refl, ap}
+use mathlib.Core.Logic.{inl, inr}
+use mathlib.Core.Bool.{cond, _&&_}
+use mathlib.Core.List.{List, [], _∷_, _++_, reverse}
 use Prim.Native.Nat.{ℕ, zero, suc, _+_, _≤_, _<_}
 use native.Mathlib.Omega.{arith}
-use lib.Dec.{eqb, leb, ltb}
+use lib.Dec.{leb, ltb}
 use lib.ListN.{length, length-reverse}
-use borrow.Author.Tests.{eq-eqb, ne-eqb, eqb-true, eqb-false, le-leb, lt-leb, lt-ltb, le-ltb, leb-true, leb-false}
-use Rattle.laws.specs.Functions.{upd}
+use borrow.Author.Tests.{le-leb, lt-leb, lt-ltb}
 use Rattle.laws.specs.Members.{In, bound, in-reverse}
-use Rattle.chains.specs.Link.{Linked, Chain, last, backward}
-use Rattle.chains.specs.Chains.{Chains, at-place, insert, nodes-distinct}
-
--- APPEND: x goes behind all of the chain of s
-module _ (T M : ℕ) (N P O : ℕ → ℕ) (X : ℕ → List ℕ) (ch : Chains T M N P O X) where
-  pub append : (s : ℕ) → T < s → s < M → (x : ℕ) → 0 < x → x ≤ T → O x ≡ 0
-      → Chains T M (upd (upd N (P s) x) x s) (upd (upd P s x) x (P s)) (upd O x s) (upd X s (X s ++ x ∷ []))
-  append s ls hs x x0 xT o =
-      let l : Chain N P s (X s ++ []) = rw append-nil (ch .link s ls hs) in
-      let e : P s ≡ last s (X s) = at-place N P s (X s) [] l .1 in
-      rw e (insert T M N P O X ch s ls hs x x0 xT (X s) [] o (sym (append-nil (X s))))
+use Rattle.chains.specs.Link.{Linked, backward}
+use Rattle.chains.specs.Chains.{Chains, nodes-distinct}
 
 -- READ: what a reader sees who follows f from node u for at most n steps, as long as there are tasks
 unfoldable pub walk : (ℕ → ℕ) → ℕ → ℕ → ℕ → List ℕ

@@ -1,9 +1,9 @@
 -- FOR THE READER: the chain of an anchor as one reads it in the arrays, forward and backward, and what an operation's
 -- contract says of it. The chains X of a contract are no hidden value: where the links are sound they are what is read.
-use mathlib.Core.Path.{_≡_, refl, sym, _∙_, ap, subst, fun-ext}
+use mathlib.Core.Path.{_≡_, sym, _∙_, ap, subst, fun-ext}
 use mathlib.Core.Logic.{_⊎_, inl, inr, ⊎-elim, _≢_}
 use mathlib.Core.Bool.{Bool, true, false, cond, _&&_, true≢false}
-use mathlib.Core.List.{List, [], _∷_, _++_, reverse}
+use mathlib.Core.List.{List, [], reverse}
 use Prim.Native.Nat.{ℕ, _≤_, _<_}
 use lib.Dec.{ltb}
 use borrow.Author.Tests.{ltb-true, lt-ltb}
@@ -11,12 +11,11 @@ use Rattle.laws.specs.Cases.{by}
 use Rattle.laws.specs.All.{and-left, and-right}
 use Rattle.laws.specs.Functions.{upd, upd-other}
 use Rattle.laws.specs.Members.{In, Distinct}
-use Rattle.laws.specs.Order.{place}
 use Rattle.chains.specs.Link.{Chain}
 use Rattle.chains.specs.Chains.{Chains, nodes-distinct}
 use Rattle.chains.specs.Ops.{walk, forward, reversed}
 use Rattle.chains.specs.Check.{accepted-sound, sound-accepted}
-use Rattle.chains.specs.Held.{at, Held, Sound, Joins, Places}
+use Rattle.chains.specs.Held.{at, Held, Sound}
 use Rattle.chains.specs.declared.Links.{Links}
 
 -- from the anchor s, by next and by prev, as long as there are tasks, at most 64
@@ -41,14 +40,6 @@ pub sound-held : (l : Links) → Sound l → Held l (chainAt l)
 sound-held l h =
     accepted-sound 64 322 (at (l .next)) (at (l .prev)) (at (l .on))
     (sound-accepted 64 322 (at (l .next)) (at (l .prev)) (at (l .on)) (h .0) (h .1))
-
--- so a contract over all X says what is read afterwards, of what was read before
-module _ (l r : Links) (h : Sound l) (d : ℕ) (ld : 64 < d) (hd : d < 322) where
-  pub read-joins : (s t : ℕ) → Joins l s t r → chainAt r d ≡ upd (chainAt l) s (chainAt l s ++ t ∷ []) d
-  read-joins s t f = read-forward r (upd (chainAt l) s (chainAt l s ++ t ∷ [])) (f (chainAt l) (sound-held l h)) d ld hd
-
-  pub read-places : (wake : List ℕ) (s t : ℕ) → Places l wake s t r → chainAt r d ≡ upd (chainAt l) s (place (at wake) t (chainAt l s)) d
-  read-places wake s t f = read-forward r (upd (chainAt l) s (place (at wake) t (chainAt l s))) (f (chainAt l) (sound-held l h)) d ld hd
 
 -- ---- all chains at once, as one function of the links: what is no anchor has no chain
 
@@ -105,3 +96,7 @@ chains-at l s a b = rw (inside-is s a b)
 pub sound-chains : (l : Links) → Sound l → Held l (chainsOf l)
 sound-chains l h =
     chains-ext 64 322 (at (l .next)) (at (l .prev)) (at (l .on)) (chainAt l) (chainsOf l) (sound-held l h) (λ s a b. sym (chains-at l s a b))
+
+-- a task that is in no chain names none
+pub idle-out : (l : Links) → Sound l → (t : ℕ) → t ≤ 64 → ((s : ℕ) → In t (chainsOf l s) → ⊥) → at (l .on) t ≡ 0
+idle-out l h t b n = ⊎-elim (λ k. k .0) (λ k. absurd (n (at (l .on) t) (k .2))) (sound-chains l h .task t b)

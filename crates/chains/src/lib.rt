@@ -1,7 +1,6 @@
 // Wait chains: doubly linked rings over 64 tasks, each round an anchor. Node numbers: tasks 1 to 64, anchors 65 to 321.
 ghost use mathlib.Core.Path.{_≡_};
-ghost use Prim.Native.Nat.{ℕ, _≤_, _<_};
-ghost use Rattle.chains.specs.Front.{Clears, Drops};
+ghost use Prim.Native.Nat.{_≤_, _<_};
 ghost use Rattle.chains.specs.Held.{at, Sound, Leaves, Joins, Inserts, Places, Puts, Empty};
 
 pub struct Links {
@@ -74,39 +73,6 @@ pub fn place(l: Links, wake: [u32; 65], s: usize, t: usize) -> Links
         v = l.next[v] as usize;
     }
     link_after(l, s, u, t)
-}
-
-// Every task leaves the chain of anchor s, from the front.
-pub fn clear(l: Links, s: usize) -> Links
-    requires { ⌜ Sound l ⌝ }
-    requires { ⌜ (64 < s) × (s < 322) ⌝ }
-    ensures { λ r. ⌜ Clears l s r ⌝ }
-{
-    let mut r = l;
-    let mut v = r.next[s] as usize;
-    while v != s {
-        r = unlink(r, v);
-        v = r.next[s] as usize;
-    }
-    r
-}
-
-// The tasks of the chain of anchor s with waking counts up to c leave it, from the front.
-pub fn drop_due(l: Links, wake: [u32; 65], s: usize, c: u32) -> Links
-    requires { ⌜ Sound l ⌝ }
-    requires { ⌜ (64 < s) × (s < 322) ⌝ }
-    ensures { λ r. ⌜ Drops l wake s c r ⌝ }
-{
-    let mut r = l;
-    let mut v = r.next[s] as usize;
-    while v != s {
-        if c < wake[v] {
-            break;
-        }
-        r = unlink(r, v);
-        v = r.next[s] as usize;
-    }
-    r
 }
 
 // No task is in a chain: each anchor is linked to itself.

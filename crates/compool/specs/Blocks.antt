@@ -1,17 +1,16 @@
 -- Copies, word by word.
 use mathlib.Core.Path.{_≡_, refl, sym, _∙_, ap}
 use mathlib.Core.Logic.{_≢_}
-use mathlib.Core.List.{List, [], _∷_, _++_, append-nil, append-assoc}
-use Prim.Native.Nat.{ℕ, suc, _+_, _*_, _-_, _<_, _≤_, _%_}
+use mathlib.Core.List.{List, [], _∷_, _++_, append-assoc}
+use Prim.Native.Nat.{ℕ, _+_, _-_, _<_, _≤_}
 use native.Mathlib.Omega.{arith}
 use native.Mathlib.Numerals.{add-one}
 use lib.Dec.{eqb}
-use lib.ListN.{length, getD, take, drop, set, length-set, length-take, length-drop, length-append}
-use lib.Seq.{getD-set-same, getD-set-other, ext-getD, getD-take, getD-drop, paste, paste-zero, paste-suc, length-paste, take-length}
+use lib.ListN.{length, getD, take, drop, set, length-set, length-take, length-drop}
+use lib.Seq.{getD-set-same, getD-set-other, ext-getD, getD-take, getD-drop, paste, paste-suc, take-length}
 use borrow.Author.Tests.{eqb-true, eqb-false}
 use Rattle.laws.specs.Cases.{by}
 use Rattle.laws.specs.Put.{put, put-one, put-put, length-put}
-use Rattle.rules.specs.Bus.{blockAt, copied, written}
 
 pub record Copied (area : List ℕ) (start : ℕ) (out₀ out : List ℕ) (i : ℕ) : Type 0 where
   pub long : length out ≡ length out₀

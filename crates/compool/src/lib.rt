@@ -1,9 +1,8 @@
 // Compool blocks in the lent area, and the bus words of a count in the lent buffer.
 use rig::Row;
 ghost use mathlib.Core.Path.{_≡_};
-ghost use Prim.Native.Nat.{ℕ, _+_, _-_, _*_, _<_, _≤_};
+ghost use Prim.Native.Nat.{_+_, _-_, _*_, _<_, _≤_};
 ghost use lib.ListN.{length, take, drop};
-ghost use lib.Seq.{paste};
 ghost use Rattle.laws.specs.Put.{put};
 ghost use Rattle.words.specs.Command.{commandWord};
 ghost use Rattle.rules.specs.Bus.{blockAt, copied, written, rowDue, rowWords, busWords};

@@ -7,7 +7,7 @@ use Prim.Native.Nat.{ℕ, zero, suc, _+_, _<_, _≤_}
 use native.Mathlib.Omega.{arith}
 use lib.Dec.{eqb, leb}
 use lib.ListN.{length, getD}
-use borrow.Author.Tests.{leb-true, le-leb, eqb-true, eq-eqb}
+use borrow.Author.Tests.{leb-true, le-leb, eqb-true, eqb-false, eq-eqb}
 use Rattle.laws.specs.Cases.{by}
 use Rattle.laws.specs.All.{allOf, allOf-at, allOf-cons, allOf-nil, allOf-skip, allOf-last}
 use Rattle.laws.specs.Members.{In, Distinct}
@@ -18,6 +18,7 @@ use Rattle.chains.specs.Read.{chainsOf, sound-chains, read-once, inside, inside
 use Rattle.chains.specs.declared.Links.{Links}
 use Rattle.rings.specs.Order.{risingb, rising-sorted, sorted-rising}
 use Rattle.rig.specs.Rules.{Right}
+use Rattle.rig.specs.declared.Cycle.{Cycle}
 use Rattle.rig.specs.declared.Rig.{Rig}
 use Rattle.rules.specs.State.{timeChain}
 use Rattle.rules.specs.Running.{chosen}
@@ -29,6 +30,7 @@ use Rattle.tests.specs.Exact.{within-facts, within-back, empty-facts, empty-bac
 use Rattle.state.specs.View.{rigOf, viewOf}
 use Rattle.state.specs.declared.State.{State}
 use Rattle.exec.specs.Sound.{rigIn, view, Sound}
+use Rattle.exec.specs.RightRig.{rig-ok}
 use Rattle.exec.specs.declared.Exec.{Exec}
 
 -- the tables have these lengths in every record that a program holds
@@ -45,6 +47,7 @@ pub record Placed (g : Rig) : Type 0 where
 
 -- the links hold chains, the time chain in order, all of it above the count
 pub record ChainsSound (s : State) : Type 0 where
+  pub sized : Sized (s .links)
   pub links : L.Sound (s .links)
   pub order : risingb (at (s .wake)) (s .count + 1) (chainsOf (s .links) 65) ≡ true
 
@@ -138,8 +141,8 @@ module _ (s : State) (h : L.Sound (s .links)) (b : Bool) (e : (X : ℕ → List 
   is : b ≡ risingb (at (s .wake)) (s .count + 1) (chainsOf (s .links) 65)
   is = e (chainsOf (s .links)) (sound-chains (s .links) h)
 
-  pub order-facts : b ≡ true → ChainsSound s
-  order-facts q = record { links = h; order = sym is ∙ q }
+  pub order-facts : Sized (s .links) → b ≡ true → ChainsSound s
+  order-facts z q = record { sized = z; links = h; order = sym is ∙ q }
 
   pub order-back : ChainsSound s → b ≡ true
   order-back c = is ∙ c .order
@@ -147,10 +150,9 @@ module _ (s : State) (h : L.Sound (s .links)) (b : Bool) (e : (X : ℕ → List 
 -- ---- the tests and what they say
 
 module _ (x : Exec) (z : Sizes (x .st)) (g : Right (x .rig) (x .cycles)) where
-  pub tests-sound : allOf (tableTests (x .rig) (x .st)) ≡ true → L.Sound (x .st .links) → Sized (x .st .links)
-      → risingb (at (x .st .wake)) (x .st .count + 1) (chainsOf (x .st .links) 65) ≡ true → Sound x
+  pub tests-sound : allOf (tableTests (x .rig) (x .st)) ≡ true → ChainsSound (x .st) → Sound x
   unfolding tableTests lastCount
-  tests-sound e l y o =
+  tests-sound e c =
       let s = x .st in
       let k = allOf-at (tableTests (x .rig) s) e in
       let small = within-facts (s .state) (x .rig .tasks) 3 (k 1) in
@@ -158,8 +160,8 @@ module _ (x : Exec) (z : Sizes (x .st)) (g : Right (x .rig) (x .cycles)) where
       let conds = conds-facts (x .rig .present) (s .cond) (z .cond) (k 4) in
       record {
         rig = g;
-        links = l;
-        sized = y;
+        links = c .links;
+        sized = c .sized;
         state =
             record {
               range = leb-true (s .count) 2147483647 (k 0);
@@ -169,8 +171,8 @@ module _ (x : Exec) (z : Sizes (x .st)) (g : Right (x .rig) (x .cycles)) where
               conds = record { sized = z .cond; small = conds .0; within = conds .1 };
               wakes = record { sized = z .wake; within = empty-facts (s .wake) (x .rig .tasks) (z .wake) (k 5) };
               chains =
-                  chains-sound (s .links) (sound-chains (s .links) l) (s .count) (s .wake) (s .state) (z .state)
-                  (waits-facts (s .state) (s .links .on) (k 7)) o;
+                  chains-sound (s .links) (sound-chains (s .links) (c .links)) (s .count) (s .wake) (s .state) (z .state)
+                  (waits-facts (s .state) (s .links .on) (k 7)) (c .order);
               agree = flags-facts (x .rig .activation) (s .state) (s .value) (g .shaped .activation) (k 6);
               runs =
                   subst (λ (n : ℕ). R.Runs (at (x .rig .privileged)) (at (x .rig .priority)) (s .state) n)
@@ -208,7 +210,28 @@ sound-tests x h =
     (sym (runs-chosen (at (x .rig .privileged)) (at (x .rig .priority)) (s .state) (p .tasks .sized) (s .running) (p .runs))))
     allOf-nil)))))))))
 
-pub sound-order : (x : Exec) → Sound x → risingb (at (x .st .wake)) (x .st .count + 1) (chainsOf (x .st .links) 65) ≡ true
+pub sound-order : (x : Exec) → Sound x → ChainsSound (x .st)
 sound-order x h =
-    sorted-rising (at (x .st .wake)) (x .st .count + 1) (chainsOf (x .st .links) 65) (h .state .chains .ordered)
-    (λ a i. omega (arith, h .state .chains .ahead a i))
+    record {
+      sized = h .sized;
+      links = h .links;
+      order =
+          sorted-rising (at (x .st .wake)) (x .st .count + 1) (chainsOf (x .st .links) 65) (h .state .chains .ordered)
+          (λ a i. omega (arith, h .state .chains .ahead a i));
+    }
+
+-- what the tests ask of the rig and of the count
+pub placed : (g : Rig) (cycles : List Cycle) → Right g cycles → Placed g
+placed g cycles h =
+    let ok = rig-ok g cycles h in
+    record {
+      controller = λ t b.
+          by (eqb t 0)
+          (λ e. let z : t ≡ 0 = eqb-true t 0 e in omega (arith, ap (at (g .controller)) z, ok .controller-none))
+          (λ e. omega (arith, ok .controller-low t (eqb-false t 0 e)));
+      activation = λ t b. omega (arith, ok .activation-le t, h .flag-count .1);
+    }
+
+pub count-low : (g : Rig) (s : State) → allOf (tableTests g s) ≡ true → s .count ≤ 2147483647
+unfolding tableTests
+count-low g s e = leb-true (s .count) 2147483647 (allOf-at (tableTests g s) e 0)

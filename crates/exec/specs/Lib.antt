@@ -3,10 +3,12 @@ pub mod Call
 pub mod Unique
 pub mod RightRig
 pub mod Check
-pub mod Refusing
 pub mod Meeting
+pub mod Refusing
 pub mod Settling
 pub mod Start
 pub mod Runs
 pub mod Demands
 pub mod RunLaws
+pub mod Signal
+pub mod Reading

@@ -10,7 +10,10 @@ use Rattle.rules.specs.State as S
 use Rattle.rules.specs.Calls as R
 use Rattle.rules.specs.Proper as P
 use Rattle.rules.specs.Soundness as Rules
-use Rattle.rules.specs.Steps.{accepted-sound}
+use Rattle.rules.specs.Serving.{serve}
+use Rattle.rules.specs.Serve.{serve-nil}
+use Rattle.rules.specs.Running.{dispatch}
+use Rattle.rules.specs.Steps.{accepted-sound, dispatch-same}
 use Rattle.state.specs.View.{viewOf}
 use Rattle.state.specs.declared.State.{State}
 use Rattle.exec.specs.Sound.{rigIn, view, Sound}
@@ -25,9 +28,17 @@ use Rattle.exec.specs.declared.Answer.the-variants.{Accepted, Refused}
 abbrev pub withState : Exec → State → Exec
 withState x s = record { rig = x .rig; cycles = x .cycles; st = s }
 
+-- a new state, and what is reported of it
+abbrev pub accept : Exec → State → Report → Step
+accept x s p = record { exec = withState x s; answer = Accepted p }
+
+-- only flags were served
+abbrev pub servedOnly : ℕ → Report
+servedOnly n = record { served = n; words = 0; value = 0 }
+
 module _ (x : Exec) (k : R.Call) where
-  pub unsound : (Sound x → ⊥) → Meets x k (refuse x 12) (R.lent k)
-  unsound n = record { is = inr (n, refl, refl) }
+  pub unsound : (Sound x → ⊥) → (r : Step) → r ≡ refuse x 12 → (after : List ℕ) → after ≡ R.lent k → Meets x k r after
+  unsound n r e after f = record { is = inr (n, e, f) }
 
   follows-refused : (n : ℕ) → Sound x → R.refusal (rigIn x) (view x) k ≡ suc n → Follows x k (refuse x (suc n)) (R.lent k)
   unfolding R.step R.after
@@ -42,9 +53,10 @@ module _ (x : Exec) (k : R.Call) where
         sound = h;
       }
 
-  pub refused : Sound x → (n : ℕ) → n ≡ R.refusal (rigIn x) (view x) k → n ≢ 0 → Meets x k (refuse x n) (R.lent k)
-  refused h zero e z = absurd (z refl)
-  refused h (suc n) e z = record { is = inl (h, follows-refused n h (sym e)) }
+  pub refused : Sound x → (n : ℕ) → n ≡ R.refusal (rigIn x) (view x) k → n ≢ 0 → (r : Step) → r ≡ refuse x n
+      → (after : List ℕ) → after ≡ R.lent k → Meets x k r after
+  refused h zero e z r q after f = absurd (z refl)
+  refused h (suc n) e z r q after f = rw (q, f) (record { is = inl (h, follows-refused n h (sym e)) })
 
   -- an accepted call: the state that it leaves shows what the rules give, its links are sound
   pub accepted : Sound x → P.Proper k → 0 ≡ R.refusal (rigIn x) (view x) k → (s : State) (p : Report) (after : List ℕ)
@@ -52,7 +64,7 @@ module _ (x : Exec) (k : R.Call) where
       → reportOf p ≡ R.accepted (rigIn x) (view x) k .answer .report
       → after ≡ R.accepted (rigIn x) (view x) k .lent
       → L.Sound (s .links) → Sized (s .links)
-      → Meets x k (record { exec = withState x s; answer = Accepted p }) after
+      → Meets x k (accept x s p) after
   unfolding R.step R.after R.accepted
   accepted h q z s p after e f g l y =
       let a : R.step (rigIn x) (view x) k ≡ R.accepted (rigIn x) (view x) k = ap (λ (n : ℕ). R.after n (rigIn x) (view x) k) (sym z) in
@@ -78,3 +90,29 @@ module _ (x : Exec) (k : R.Call) where
           },
         );
       }
+
+-- ---- calls that leave the state as it is
+
+module _ (x : Exec) (k : R.Call) (h : Sound x) (q : R.effect (rigIn x) (view x) k ≡ R.quiet (view x)) where
+  quiet-served : serve (rigIn x) (R.effect (rigIn x) (view x) k) ≡ record { now = view x; served = 0 }
+  quiet-served = ap (serve (rigIn x)) q ∙ serve-nil (rigIn x) (view x)
+
+  stays : view x ≡ R.accepted (rigIn x) (view x) k .next
+  unfolding R.accepted
+  stays = sym (ap (λ (d : S.Done). dispatch (rigIn x) (d .now)) quiet-served ∙ dispatch-same (rigIn x) (view x) (h .state))
+
+  none-served : 0 ≡ R.accepted (rigIn x) (view x) k .answer .report .served
+  unfolding R.accepted
+  none-served = sym (ap (λ (d : S.Done). d .served) quiet-served)
+
+  -- the record as it was, and what the call puts out
+  pub untouched : P.Proper k → 0 ≡ R.refusal (rigIn x) (view x) k → (v : ℕ) (after : List ℕ)
+      → R.output (rigIn x) (view x) k ≡ record { words = 0; value = v; lent = after }
+      → Meets x k (accept x (x .st) (record { served = 0; words = 0; value = v })) after
+  unfolding R.accepted
+  untouched p z v after o =
+      let u : R.output (rigIn x) (R.accepted (rigIn x) (view x) k .next) k ≡ record { words = 0; value = v; lent = after } =
+      ap (λ (s : S.State). R.output (rigIn x) s k) (sym stays) ∙ o in
+      accepted x k h p z (x .st) (record { served = 0; words = 0; value = v }) after stays
+      (λ i. record { served = none-served i; words = sym u i .words; value = sym u i .value })
+      (λ i. sym u i .lent) (h .links) (h .sized)

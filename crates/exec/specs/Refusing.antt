@@ -1,14 +1,27 @@
 -- The tables of refusals that several calls share, and how code goes through one, row by row.
 use mathlib.Core.Path.{_≡_, refl, sym, _∙_, ap}
-use mathlib.Core.Logic.{_≢_}
+use mathlib.Core.Logic.{_≢_, _⊎_, inl, inr, ⊎-elim}
 use mathlib.Core.Bool.{Bool, true, false, cond, _||_}
 use mathlib.Core.List.{List, [], _∷_}
 use Prim.Native.Nat.{ℕ, zero, suc, _≤_}
 use native.Mathlib.Omega.{arith}
 use Rattle.rules.specs.Rig.{Rig}
 use Rattle.rules.specs.State.{State}
-use Rattle.rules.specs.Calls.{Refusal, row, decide, nobodyRuns, noSuch, notController}
+use Rattle.rules.specs.Calls.{Call, Refusal, row, decide, nobodyRuns, noSuch, notController, refusal, lent}
 use Rattle.rules.specs.Acceptance.{flagged-is}
+use Rattle.exec.specs.Sound.{rigIn, view, Sound}
+use Rattle.exec.specs.Call.{Meets, refuse}
+use Rattle.exec.specs.Meeting.{unsound, refused}
+use Rattle.exec.specs.declared.Exec.{Exec}
+use Rattle.exec.specs.declared.Step.{Step}
+
+-- a call that names nothing
+abbrev pub runRows : State → List Refusal
+runRows s = row 5 (nobodyRuns s) ∷ []
+
+-- a wait for a count; 9 where it is above the last
+abbrev pub countRows : State → Bool → List Refusal
+countRows s wrong = row 5 (nobodyRuns s) ∷ row 9 wrong ∷ []
 
 -- a call that names a flag; 7 where it is a wrong one
 abbrev pub flagRows : Rig → State → ℕ → Bool → List Refusal
@@ -55,6 +68,37 @@ module _ (r : Rig) (s : State) (f : ℕ) (a b : Bool) where
       go false true z e q = absurd (omega arith)
       go false false true e q = absurd (omega arith)
       go false false false e q = q
+
+-- ---- "For a call, 12 comes first, then the smallest number."
+
+pub record Judged (x : Exec) (rows : List Refusal) (n : ℕ) : Type 0 where
+  pub is : (Sound x × (n ≡ decide rows)) ⊎ ((Sound x → ⊥) × (n ≡ 12))
+
+module _ (x : Exec) (rows : List Refusal) where
+  pub twelve : (Sound x → ⊥) → Judged x rows 12
+  twelve h = record { is = inr (h, refl) }
+
+  pub by-table : Sound x → (n : ℕ) → n ≡ decide rows → Judged x rows n
+  by-table h n e = record { is = inl (h, e) }
+
+  module _ (n : ℕ) (j : Judged x rows n) where
+    -- no number: the record is sound, and the table gives none
+    pub judged-sound : n ≡ 0 → Sound x
+    judged-sound e = ⊎-elim (λ p. p .0) (λ p. absurd (omega (arith, e, p .1))) (j .is)
+
+    pub judged-none : n ≡ 0 → 0 ≡ decide rows
+    judged-none e = ⊎-elim (λ p. sym e ∙ p .1) (λ p. absurd (omega (arith, e, p .1))) (j .is)
+
+    -- a number of one table stands in another that gives it too
+    pub judged-so : (more : List Refusal) → (n ≡ decide rows → n ≡ decide more) → Judged x more n
+    judged-so more f = record { is = ⊎-elim (λ p. inl (p .0, f (p .1))) (λ p. inr p) (j .is) }
+
+    -- a call with this table is refused by the number
+    pub judged-meets : (k : Call) → decide rows ≡ refusal (rigIn x) (view x) k → n ≢ 0 → (r : Step) → r ≡ refuse x n
+        → (after : List ℕ) → after ≡ lent k → Meets x k r after
+    judged-meets k e z r q after f =
+        ⊎-elim (λ p. refused x k (p .0) n (p .1 ∙ e) z r q after f)
+        (λ p. unsound x k (p .0) r (q ∙ ap (refuse x) (p .1)) after f) (j .is)
 
 -- a flag that is there has a number of eight bits, where the rig's number of flags has
 pub there-low : (r : Rig) (s : State) (f : ℕ) (wrong : Bool) → 0 ≡ decide (flagRows r s f wrong) → f ≤ r .flags

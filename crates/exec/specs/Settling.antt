@@ -24,6 +24,7 @@ use Rattle.rules.specs.Calls as R
 use Rattle.rules.specs.Proper as P
 use Rattle.rules.specs.Queued.{Fine}
 use Rattle.rules.specs.Serve.{load}
+use Rattle.rules.specs.Good.{serve-running}
 use Rattle.rules.specs.Bound.{effect-load}
 use Rattle.rules.specs.Steps.{effect-ready}
 use Rattle.steps.specs.Post.{Lines}
@@ -36,10 +37,8 @@ use Rattle.exec.specs.Sound.{rigIn, view, Sound}
 use Rattle.exec.specs.Call.{Meets}
 use Rattle.exec.specs.RightRig.{rig-ok}
 use Rattle.exec.specs.Check.{running-low}
-use Rattle.exec.specs.Meeting.{withState, accepted}
+use Rattle.exec.specs.Meeting.{accept, servedOnly, accepted}
 use Rattle.exec.specs.declared.Exec.{Exec}
-use Rattle.exec.specs.declared.Step.{Step}
-use Rattle.exec.specs.declared.Answer.the-variants.{Accepted}
 
 -- what is asked
 pub record Settles (g : Rig) (w : Work) : Type 0 where
@@ -52,6 +51,11 @@ pub record Settled (g : Rig) (w : Work) (d : Done) : Type 0 where
   pub served : (cycles : List Cycle) → d .served ≡ serve (rigOf g cycles) (workOf (w .st) (w .queue)) .served
   pub sound : L.Sound (d .st .links)
   pub sized : Sized (d .st .links)
+
+-- who runs is not touched by the serving
+pub settled-low : (g : Rig) (w : Work) → Settles g w → (d : Done) → Emptied g (w .st) (w .queue) d → d .st .running ≤ 64
+settled-low g w h d e =
+    omega (arith, ap (λ (y : S.Done). y .now .running) (e .is []), serve-running (rigOf g []) (workOf (w .st) (w .queue)), h .low)
 
 pub settled-is : (g : Rig) (w : Work) (d : Done) → Emptied g (w .st) (w .queue) d → (s : State) → Dispatched (d .st) g s
     → Settled g w (record { st = s; served = d .served })
@@ -145,11 +149,10 @@ module _ (x : Exec) (h : Sound x) (k : R.Call) (p : P.Proper k) (e : 0 ≡ R.ref
     served-is = m .served (x .cycles) ∙ ap (λ (y : S.Work). serve (rigIn x) y .served) q
 
     -- a call that answers only the number of flags served, and writes nothing
-    pub settled-meets : ((s : S.State) → R.output (rigIn x) s k ≡ R.silent)
-        → Meets x k (record { exec = withState x (d .st); answer = Accepted (record { served = d .served; words = 0; value = 0 }) }) []
+    pub settled-meets : ((s : S.State) → R.output (rigIn x) s k ≡ R.silent) → Meets x k (accept x (d .st) (servedOnly (d .served))) []
     unfolding R.accepted
     settled-meets o =
         let n = R.accepted (rigIn x) (view x) k .next in
-        accepted x k h p e (d .st) (record { served = d .served; words = 0; value = 0 }) [] next-is
+        accepted x k h p e (d .st) (servedOnly (d .served)) [] next-is
         (λ i. record { served = served-is i; words = sym (o n) i .words; value = sym (o n) i .value })
         (λ i. sym (o n) i .lent) (m .sound) (m .sized)

@@ -1,14 +1,23 @@
 // The executive: the record, and every call on it by value.
+mod flags;
 mod refusals;
+mod signal;
 
 use rig::Rig;
+use state::Done;
 use state::State;
+use state::Work;
 ghost use mathlib.Core.Path.{_≡_};
 ghost use mathlib.Core.Bool.{true};
 ghost use mathlib.Core.Logic.{_↔_};
 ghost use Prim.Native.Nat.{ℕ, _<_, _≤_};
 ghost use Rattle.laws.specs.All.{allOf};
+ghost use Rattle.rig.specs.Tests.{rightB};
+ghost use Rattle.exec.specs.Sound.{Sound};
 ghost use Rattle.exec.specs.Check.{Placed, tableTests, ChainsSound};
+ghost use Rattle.exec.specs.Call.{bit, refuse};
+ghost use Rattle.exec.specs.Meeting.{accept};
+ghost use Rattle.exec.specs.Settling.{Settles, Settled};
 
 // The rig and its cycles stay as they are from the start on; calls change the state. Numbers only: a record may stand in
 // memory of any bytes, and each is answered.
@@ -86,4 +95,69 @@ fn chains_ok(st: State) -> bool
     let wake = st.wake;
     let lo = st.count + 1;
     rings::in_order(links, wake, 65, lo)
+}
+
+impl Exec {
+    // Whether the record is sound.
+    pub fn sound(self) -> bool
+        ensures { λ r. ⌜ (r ≡ true) ↔ Sound self ⌝ }
+    {
+        let rig = self.rig;
+        let cycles = self.cycles;
+        if !right(rig, cycles) {
+            return false;
+        }
+        let st = self.st;
+        if !tables_ok(rig, st) {
+            return false;
+        }
+        chains_ok(st)
+    }
+
+    // The record as it is, and a refusal's number.
+    pub fn refuse(self, number: u8) -> Step
+        ensures { λ r. ⌜ r ≡ refuse self number ⌝ }
+    {
+        Step {
+            exec: self,
+            answer: Answer::Refused(number),
+        }
+    }
+
+    // The state that a call left, and what is told of it.
+    pub fn accept(self, st: State, report: Report) -> Step
+        ensures { λ r. ⌜ r ≡ accept self st report ⌝ }
+    {
+        let rig = self.rig;
+        let cycles = self.cycles;
+        Step {
+            exec: Exec { rig, cycles, st },
+            answer: Answer::Accepted(report),
+        }
+    }
+}
+
+// What is queued is served, and then it is decided who runs.
+pub fn settled(w: Work, rig: Rig) -> Done
+    requires { ⌜ Settles rig w ⌝ }
+    ensures { λ r. ⌜ Settled rig w r ⌝ }
+{
+    let st = w.st;
+    let queue = w.queue;
+    let d = state::serve(st, queue, rig);
+    let served = d.served;
+    let st = d.st.dispatched(rig);
+    Done { st, served }
+}
+
+pub fn bit_of(b: bool) -> u8
+    ensures { λ r. ⌜ r ≡ bit b ⌝ }
+{
+    if b { 1 } else { 0 }
+}
+
+fn right(rig: Rig, cycles: [rig::Cycle; 64]) -> bool
+    ensures { λ r. ⌜ r ≡ rightB rig cycles ⌝ }
+{
+    true
 }

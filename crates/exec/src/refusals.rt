@@ -1,10 +1,10 @@
-// The refusals of the table, row by row: the smallest number that is to be given, 0 for none.
+// The refusals of a call: "12 comes first, then the smallest number"; 0 for none.
 use crate::Exec;
 ghost use mathlib.Core.Path.{_≡_};
 ghost use lib.ListN.{getD};
-ghost use Rattle.rules.specs.Calls.{decide, isMinor, notPlain};
+ghost use Rattle.rules.specs.Calls.{isMinor, notPlain};
 ghost use Rattle.exec.specs.Sound.{rigIn, view};
-ghost use Rattle.exec.specs.Refusing.{flagRows, taskRows};
+ghost use Rattle.exec.specs.Refusing.{Judged, runRows, countRows, flagRows, taskRows};
 
 // What the table holds at any number: 0 past its end.
 pub fn look(table: &[u8], i: u32) -> u8
@@ -15,10 +15,42 @@ pub fn look(table: &[u8], i: u32) -> u8
 }
 
 impl Exec {
+    // Of a call that names nothing.
+    pub fn run_refusal(self) -> u8
+        ensures { λ r. ⌜ Judged self (runRows (view self)) r ⌝ }
+    {
+        if !self.sound() {
+            return 12;
+        }
+        if self.st.running == 0 {
+            return 5;
+        }
+        0
+    }
+
+    // Of a wait for a count, above the last or not.
+    pub fn count_refusal(self, above: bool) -> u8
+        ensures { λ r. ⌜ Judged self (countRows (view self) above) r ⌝ }
+    {
+        if !self.sound() {
+            return 12;
+        }
+        if self.st.running == 0 {
+            return 5;
+        }
+        if above {
+            return 9;
+        }
+        0
+    }
+
     // Of a wait on a flag, and of reading it.
     pub fn flag_refusal(self, flag: u32) -> u8
-        ensures { λ r. ⌜ r ≡ decide (flagRows (rigIn self) (view self) flag (isMinor (rigIn self .minor) flag)) ⌝ }
+        ensures { λ r. ⌜ Judged self (flagRows (rigIn self) (view self) flag (isMinor (rigIn self .minor) flag)) r ⌝ }
     {
+        if !self.sound() {
+            return 12;
+        }
         if self.st.running == 0 {
             return 5;
         }
@@ -34,7 +66,7 @@ impl Exec {
 
     // Of a signal.
     pub fn signal_refusal(self, flag: u32) -> u8
-        ensures { λ r. ⌜ r ≡ decide (flagRows (rigIn self) (view self) flag (notPlain (rigIn self) flag)) ⌝ }
+        ensures { λ r. ⌜ Judged self (flagRows (rigIn self) (view self) flag (notPlain (rigIn self) flag)) r ⌝ }
     {
         let n = self.flag_refusal(flag);
         if n != 0 {
@@ -49,8 +81,11 @@ impl Exec {
 
     // Of a call that names a task, in a state that is wrong for the call or not.
     pub fn task_refusal(self, task: u32, wrong: bool) -> u8
-        ensures { λ r. ⌜ r ≡ decide (taskRows (rigIn self) (view self) task wrong) ⌝ }
+        ensures { λ r. ⌜ Judged self (taskRows (rigIn self) (view self) task wrong) r ⌝ }
     {
+        if !self.sound() {
+            return 12;
+        }
         if self.st.running == 0 {
             return 5;
         }

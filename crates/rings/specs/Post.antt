@@ -1,9 +1,8 @@
 -- What the functions of the check answer.
 use mathlib.Core.Path.{_≡_}
-use mathlib.Core.Logic.{_≢_}
 use mathlib.Core.Bool.{Bool, true, false}
 use mathlib.Core.List.{List}
-use Prim.Native.Nat.{ℕ, _≤_, _<_}
+use Prim.Native.Nat.{ℕ, _≤_}
 use Rattle.chains.specs.Ops.{walk}
 use Rattle.chains.specs.Check.{ringb, marked, Rings, Accepted, taskb}
 use Rattle.chains.specs.Held.{at}

@@ -1,23 +1,23 @@
 -- The tasks due at the count become dispatchable. The rule picks them out of the time chain one by one; the code takes
 -- them off its front, which is the same where the chain is in order and nobody in it is due before the count.
 use mathlib.Core.Path.{_≡_, refl, sym, _∙_, ap, subst}
-use mathlib.Core.Logic.{_≢_, _⊎_, inl, inr}
-use mathlib.Core.Bool.{Bool, true, false, cond, not}
+use mathlib.Core.Logic.{_≢_, inl, inr}
+use mathlib.Core.Bool.{not}
 use mathlib.Core.List.{List, [], _∷_}
 use Prim.Native.Nat.{ℕ, _≤_, _<_}
 use native.Mathlib.Omega.{arith}
-use lib.Dec.{eqb, lit<}
-use lib.ListN.{length, set, getD}
+use lib.Dec.{lit<}
+use lib.ListN.{set}
 use borrow.Author.Tests.{eq-eqb, ne-eqb}
 use Rattle.laws.specs.Functions.{upd, upd-same}
 use Rattle.laws.specs.Members.{In, keep}
 use Rattle.laws.specs.Order.{Sorted}
-use Rattle.chains.specs.Held.{at, Held, Sound, Leaves}
+use Rattle.chains.specs.Held.{at, Sound, Leaves}
 use Rattle.chains.specs.Link.{first}
 use Rattle.chains.specs.Front.{Leaving, leaving-start, leaving-step, left-start, left-step}
 use Rattle.chains.specs.Read.{chainsOf, sound-chains, held-chains, only-of, only-upd}
 use Rattle.chains.specs.declared.Links.{Links}
-use Rattle.rules.specs.State.{withChains, timeChain}
+use Rattle.rules.specs.State.{withChains}
 use Rattle.rules.specs.Serving.{rouse}
 use Rattle.rules.specs.Waiting.{isDue, wakeDue}
 use Rattle.state.specs.View.{viewOf}

@@ -1,26 +1,25 @@
 -- What each call does before its queue is served.
-use mathlib.Core.Path.{_≡_, refl, sym, _∙_, ap, subst}
-use mathlib.Core.Bool.{Bool, true, false, cond}
-use mathlib.Core.List.{List, [], _∷_}
-use Prim.Native.Nat.{ℕ, suc, _+_, _≤_, _<_, _%_}
+use mathlib.Core.Path.{_≡_, refl, sym, _∙_, ap}
+use mathlib.Core.Bool.{true, false, cond}
+use mathlib.Core.List.{List, []}
+use Prim.Native.Nat.{ℕ, _+_, _%_}
 use native.Mathlib.Omega.{arith}
 use native.Mathlib.Numerals.{add-one}
-use lib.ListN.{length, getD, set, replicate}
+use lib.ListN.{set, replicate}
 use Rattle.laws.specs.Cases.{if-yes, if-no}
-use Rattle.laws.specs.Members.{In}
-use Rattle.chains.specs.Held.{at, Held, Sound, Sized, Empty}
+use Rattle.chains.specs.Held.{at, Empty}
 use Rattle.chains.specs.Read.{chainsOf, held-chains}
 use Rattle.chains.specs.declared.Links.{Links}
 use Rattle.steps.specs.Post.{Left, Deserted, Pushed}
-use Rattle.steps.specs.View.{entriesOf, minorOf, noCycle}
+use Rattle.steps.specs.View.{entriesOf, minorOf}
 use Rattle.steps.specs.declared.Queue.{Queue}
 use Rattle.rig.specs.declared.Cycle.{Cycle}
 use Rattle.rig.specs.declared.Rig.{Rig}
 use Rattle.rules.specs.State as S
-use Rattle.rules.specs.State.{Entry, withTables, withRunning, withChains, withCount, timeChain, blank}
+use Rattle.rules.specs.State.{Entry, withTables, withChains, withCount, blank}
 use Rattle.rules.specs.Conditions.{relax, met}
 use Rattle.rules.specs.Serving.{push, activate}
-use Rattle.rules.specs.Waiting.{wakeDue, leave}
+use Rattle.rules.specs.Waiting.{wakeDue}
 use Rattle.rules.specs.Family.{family, cleared, deserted, offs}
 use Rattle.rules.specs.Calls.{scheduled, finished, terminated, cancelled, ticked, cycleQueue}
 use Rattle.state.specs.View.{rigOf, viewOf, workOf}

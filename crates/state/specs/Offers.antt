@@ -1,8 +1,8 @@
 -- The tasks are offered one after the other: the loop, turn by turn.
 use mathlib.Core.Path.{_≡_, refl, sym, _∙_, ap}
 use mathlib.Core.Bool.{Bool, true, false, cond, _&&_}
-use mathlib.Core.List.{List, [], _∷_}
-use Prim.Native.Nat.{ℕ, _+_, _≤_, _<_}
+use mathlib.Core.List.{List, []}
+use Prim.Native.Nat.{ℕ, _+_, _≤_}
 use native.Mathlib.Omega.{arith}
 use native.Mathlib.Nat.{le-trans}
 use lib.Dec.{eqb}
@@ -25,7 +25,6 @@ use Rattle.state.specs.View.{rigOf, viewOf, workOf}
 use Rattle.state.specs.Set.{putState, putCond}
 use Rattle.state.specs.Post.{Offered}
 use Rattle.state.specs.declared.State.{State}
-use Rattle.state.specs.declared.Work.{Work}
 
 -- tasks 1 to i are done
 pub record Turned (g : Rig) (f : ℕ) (s₀ : State) (q₀ : Queue) (s : State) (q : Queue) (i : ℕ) : Type 0 where

@@ -2,8 +2,7 @@
 -- Where a rule looks at the rig but not at its cycles, its contract holds with whatever cycles stand beside the rig.
 use mathlib.Core.Path.{_≡_}
 use mathlib.Core.List.{List, [], _∷_}
-use Prim.Native.Nat.{ℕ, _+_, _<_, _≤_}
-use lib.ListN.{length, getD}
+use Prim.Native.Nat.{ℕ, _<_, _≤_}
 use Rattle.laws.specs.Members.{In}
 use Rattle.laws.specs.Order.{Sorted}
 use Rattle.chains.specs.Held.{at, Sound, Sized}

@@ -1,12 +1,12 @@
 -- One entry is served; then the next, until the queue is empty.
-use mathlib.Core.Path.{_≡_, refl, sym, _∙_, ap, subst}
+use mathlib.Core.Path.{_≡_, sym, _∙_, ap, subst}
 use mathlib.Core.Bool.{Bool, true, false, cond, _&&_}
 use mathlib.Core.List.{List, [], _∷_}
 use Prim.Native.Nat.{ℕ, zero, suc, _+_, _*_, _≤_, _<_}
 use native.Mathlib.Omega.{arith}
 use lib.Dec.{eqb}
 use lib.ListN.{length, getD, set}
-use Rattle.laws.specs.Iter.{iter, iter-ind}
+use Rattle.laws.specs.Iter.{iter-ind}
 use Rattle.chains.specs.Held.{at, Sound}
 use Rattle.chains.specs.declared.Links.{Links}
 use Rattle.rig.specs.declared.Cycle.{Cycle}
@@ -17,10 +17,11 @@ use Rattle.rules.specs.State.{Entry, stateOf}
 use Rattle.rules.specs.Conditions.{drive}
 use Rattle.rules.specs.Serving.{push, activate, ready, takes, wake, offer, offerNext, offers, serveFlag, another, serve, inactives}
 use Rattle.rules.specs.Serve.{load, wake-load, serveFlag-load, serve-nil, serve-cons}
+use Rattle.rules.specs.Queued.{Fine}
 use Rattle.steps.specs.View.{entriesOf, entries}
 use Rattle.steps.specs.Queued.{entries-length, entries-pop}
 use Rattle.steps.specs.declared.Queue.{Queue}
-use Rattle.state.specs.View.{rigOf, viewOf, workOf, doneOf}
+use Rattle.state.specs.View.{rigOf, viewOf, workOf}
 use Rattle.state.specs.Set.{putValue, putCond}
 use Rattle.state.specs.Post.{Fits, FlagOk, Servable, Whole, Woken, Offered, Served, Emptied}
 use Rattle.state.specs.declared.State.{State}
@@ -58,6 +59,12 @@ module _ (s : State) (q : Queue) (g : Rig) (f v : ℕ) (c : List ℕ)
 pub servable-push : (f v : ℕ) (q : List Entry) → f ≤ 128 → v ≤ 1 → Servable q → Servable (push f v q)
 servable-push zero v q a b h = h
 servable-push (suc f) v q a b h = (record { some = omega arith; flag = a; value = b }, h)
+
+-- what the rules let a call queue can be served
+pub fine-servable : (r : G.Rig) → r .flags ≤ 128 → (q : List Entry) → Fine r q → Servable q
+fine-servable r b [] h = tt
+fine-servable r b (e ∷ q) h =
+    (record { some = h .0 .0; flag = omega (arith, h .0 .1, b); value = h .0 .2 }, fine-servable r b q (h .1))
 
 module _ (r : G.Rig) (ok : (t : ℕ) → r .activation t ≤ 128) where
   servable-offer : (f t : ℕ) (w : S.Work) → Servable (w .queue) → Servable (offer r f t w .queue)

@@ -1,6 +1,5 @@
 -- THE VIEW: the rules' rig and the rules' state that the executive's own show.
-use mathlib.Core.List.{List, [], _∷_}
-use Prim.Native.Nat.{ℕ}
+use mathlib.Core.List.{List}
 use Rattle.chains.specs.Held.{at}
 use Rattle.chains.specs.Read.{chainsOf}
 use Rattle.compool.specs.View.{rowsOf}

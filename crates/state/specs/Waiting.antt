@@ -1,16 +1,16 @@
 -- The running task begins to wait: at the end of a flag's chain, or in its place in the time chain.
-use mathlib.Core.Path.{_≡_, refl, sym, _∙_, ap}
+use mathlib.Core.Path.{_≡_, ap}
 use mathlib.Core.List.{List, [], _∷_, _++_}
-use Prim.Native.Nat.{ℕ, _+_, _*_, _<_, _≤_}
+use Prim.Native.Nat.{ℕ, _+_, _<_}
 use native.Mathlib.Omega.{arith}
 use lib.Dec.{lit<}
-use lib.ListN.{length, getD, set}
+use lib.ListN.{set}
 use Rattle.laws.specs.Functions.{upd}
 use Rattle.laws.specs.Order.{place}
 use Rattle.chains.specs.Held.{at, Held, Puts, Joins, Places}
 use Rattle.chains.specs.Read.{chainsOf, sound-chains, held-chains, only-of, only-upd}
 use Rattle.chains.specs.declared.Links.{Links}
-use Rattle.rules.specs.State.{withChains, withRunning, withWakes, chainOf, timeChain}
+use Rattle.rules.specs.State.{withChains, withRunning, withWakes, chainOf}
 use Rattle.rules.specs.Waiting.{waitOn, waitUntilCount}
 use Rattle.state.specs.View.{viewOf}
 use Rattle.state.specs.Set.{putState, putLinks, putRunning, putWake}

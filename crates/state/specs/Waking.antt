@@ -1,9 +1,9 @@
 -- All who wait in a chain become dispatchable: the loop, turn by turn.
 use mathlib.Core.Path.{_≡_, refl, sym, _∙_, ap}
 use mathlib.Core.Logic.{_≢_}
-use mathlib.Core.List.{List, [], _∷_}
-use Prim.Native.Nat.{ℕ, _≤_, _<_}
-use lib.ListN.{length, set}
+use mathlib.Core.List.{List, []}
+use Prim.Native.Nat.{ℕ, _<_}
+use lib.ListN.{set}
 use Rattle.laws.specs.Functions.{upd}
 use Rattle.chains.specs.Held.{at, Held, Sound, Leaves}
 use Rattle.chains.specs.Front.{Leaving, leaving-start, leaving-step, leaving-none, left-start, left-step, left-none}

@@ -3,8 +3,7 @@ use chains::Links;
 use rig::Cycle;
 use rig::Rig;
 use steps::Queue;
-ghost use mathlib.Core.Path.{_≡_};
-ghost use Prim.Native.Nat.{ℕ, _+_, _<_, _≤_};
+ghost use Prim.Native.Nat.{_+_, _<_, _≤_};
 ghost use Rattle.chains.specs.Held.{Sound};
 ghost use Rattle.state.specs.Post.{Whole, FlagOk, Begins, MayWait, Timed, TickOk, CancelOk, Woken, WokenDue, WaitsOn, WaitsUntil, Dispatched, Offered, Served, Emptied, Finished, Terminated, Cancelled, Scheduled, Ticked, Blank, Fits, Room};
 

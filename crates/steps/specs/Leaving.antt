@@ -1,22 +1,20 @@
 -- Tasks that leave their chains, one or all that are marked: what the links show.
-use mathlib.Core.Path.{_≡_, refl, sym, _∙_, ap, subst, fun-ext}
-use mathlib.Core.Logic.{_≢_, _⊎_, inl, inr, ⊎-elim}
-use mathlib.Core.Bool.{Bool, true, false, cond}
-use mathlib.Core.List.{List, [], _∷_}
-use Prim.Native.Nat.{ℕ, _+_, _<_, _≤_}
+use mathlib.Core.Path.{_≡_, refl, sym, _∙_, ap}
+use mathlib.Core.Logic.{_≢_}
+use mathlib.Core.List.{List}
+use Prim.Native.Nat.{ℕ, _+_, _<_}
 use native.Mathlib.Omega.{arith}
-use lib.Dec.{eqb}
 use lib.ListN.{getD}
-use borrow.Author.Tests.{eq-eqb, ne-eqb, eqb-true, eqb-false}
-use Rattle.laws.specs.Cases.{by, if-yes, if-no}
+use borrow.Author.Tests.{eq-eqb, ne-eqb}
+use Rattle.laws.specs.Cases.{if-yes, if-no}
 use Rattle.laws.specs.Iter.{iter, iter-zero, iter-step}
 use Rattle.laws.specs.Functions.{upd, on-upd}
-use Rattle.laws.specs.Members.{In, without, without-out}
+use Rattle.laws.specs.Members.{without, without-out}
 use Rattle.chains.specs.Held.{at, Held, Sound, Leaves}
-use Rattle.chains.specs.Read.{chainsOf, Only, only-of, inside, inside-low, inside-high, held-chains, sound-chains, chains-ext}
+use Rattle.chains.specs.Read.{chainsOf, only-of, held-chains, sound-chains, chains-ext}
 use Rattle.chains.specs.declared.Links.{Links}
 use Rattle.rules.specs.Waiting.{leave}
-use Rattle.rules.specs.Family.{isMarked, leaveOne, deserted}
+use Rattle.rules.specs.Family.{leaveOne, deserted}
 use Rattle.steps.specs.Post.{Left, Deserted}
 
 -- links that hold what is left hold nothing else

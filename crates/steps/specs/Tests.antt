@@ -1,5 +1,5 @@
 -- Tests with equal numbers are equal.
-use mathlib.Core.Path.{_≡_, refl, sym, _∙_, ap}
+use mathlib.Core.Path.{_≡_, refl, sym}
 use mathlib.Core.Bool.{Bool, true, false, not, cond, _&&_, _||_}
 use mathlib.Core.List.{List}
 use lib.ListN.{getD}
@@ -12,9 +12,6 @@ use lib.Dec.{eqb, ltb, leb}
 
 pub better-same : (s b : ℕ) {x y u v : ℕ} → x ≡ u → y ≡ v → (eqb s 3 && (eqb b 0 || ltb u v)) ≡ (eqb s 3 && (eqb b 0 || ltb x y))
 better-same s b e f = rw (e, f)
-
-pub stays-same : (n s : ℕ) {x y u v : ℕ} → x ≡ u → y ≡ v → (not (eqb n 0) && (eqb s 3 && leb u v)) ≡ (not (eqb n 0) && (eqb s 3 && leb x y))
-stays-same n s e f = rw (e, f)
 
 -- three tests, of which one fails
 pub and-one : (a b : Bool) → a ≡ false → false ≡ (a && b)

@@ -1,7 +1,7 @@
 -- `chains::fresh` meets its contract: the anchors below i are linked to themselves.
 use borrow.Author.Needs.{needs}
-use Prim.Native.Nat.{ℕ, _-_, _≤_, _<_}
-use mathlib.Core.Path.{_≡_, subst}
+use Prim.Native.Nat.{_-_, _≤_, _<_}
+use mathlib.Core.Path.{_≡_}
 use native.Mathlib.Omega.{arith}
 use Rattle.chains.specs.Held.{Selves, selves-start, selves-step, selves-empty}
 use Rattle.chains.proofs.fresh.Statement.{statement}

@@ -1,9 +1,8 @@
 use borrow.Author.Needs.{needs}
-use mathlib.Core.Path.{_≡_, refl, sym, _∙_, ap}
+use mathlib.Core.Path.{sym, _∙_}
 use mathlib.Core.Logic.{⊎-elim}
-use Prim.Native.Nat.{ℕ, _≤_, _<_, _-_}
+use Prim.Native.Nat.{_≤_, _<_, _-_}
 use native.Mathlib.Omega.{arith}
-use native.Mathlib.Nat.{le-trans}
 use Rattle.compool.specs.View.{rowsOf}
 use Rattle.compool.specs.Words.{Sent, sent-start, sent-room, sent-no, sent-yes, sent-done}
 use Rattle.compool.proofs.bus_words.Statement.{statement}

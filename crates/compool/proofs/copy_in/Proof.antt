@@ -1,9 +1,9 @@
 use borrow.Author.Needs.{needs}
-use mathlib.Core.Path.{_≡_, refl, sym, _∙_, ap}
-use Prim.Native.Nat.{ℕ, _≤_, _-_, _+_, _<_}
+use mathlib.Core.Path.{_≡_, _∙_, ap}
+use Prim.Native.Nat.{_≤_, _-_}
 use native.Mathlib.Omega.{arith}
 use lib.ListN.{length, length-set}
-use lib.Seq.{paste, paste-zero, length-paste}
+use lib.Seq.{paste, paste-zero}
 use Rattle.compool.specs.Blocks.{pasted-next, pasted-done}
 use Rattle.compool.proofs.copy_in.Statement.{statement}
 use Rattle.compool.proofs.copy_in.Tie as tie

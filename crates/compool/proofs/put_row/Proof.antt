@@ -1,4 +1,3 @@
-use mathlib.Core.Path.{_≡_, refl, sym, _∙_, ap}
 use Rattle.compool.specs.View.{rowOf}
 use lib.ListN.{length-set}
 use native.Mathlib.Omega.{arith}

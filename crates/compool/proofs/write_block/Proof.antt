@@ -1,4 +1,4 @@
-use mathlib.Core.Path.{_≡_, refl, sym, _∙_, ap}
+use mathlib.Core.Path.{_∙_, ap}
 use Prim.Native.Nat.{_%_}
 use Rattle.rules.specs.Bus.{written, blockAt}
 use Rattle.compool.specs.Blocks.{tagged}

@@ -4,6 +4,7 @@ use borrow.Author.Tests.{not-true, not-false}
 use native.Mathlib.Omega.{arith}
 use Rattle.exec.specs.Check.{ChainsSound, order-facts, order-back}
 use Rattle.chains.specs.Held.{Sound}
+use Rattle.chains.specs.Held.{Sized}
 use borrow.Author.Needs.{needs}
 use Rattle.exec.proofs.chains_ok.Statement.{statement}
 use Rattle.exec.proofs.chains_ok.Tie as tie
@@ -36,7 +37,8 @@ returns-2 : tie.Need-returns-2
 returns-2 c =
     let s = c .before .before .before .before .before .before .args .st in
     let h = held (c .before .before .before) in
-    (order-facts s h (c .in-order .result) (c .in-order .ensures), order-back s h (c .in-order .result) (c .in-order .ensures))
+    let z : Sized (s .links) = record { next = search needs; prev = search needs; on = search needs } in
+    (order-facts s h (c .in-order .result) (c .in-order .ensures) z, order-back s h (c .in-order .result) (c .in-order .ensures))
 
 pub chains-ok-spec : {M : Type 1} → statement M
 chains-ok-spec = tie.close (tie.spec sound-requires returns add-lo in-order-requires returns-2)

@@ -1,5 +1,4 @@
 use Rattle.state.specs.Serving.{served-room, served-is}
-use native.Mathlib.Omega.{arith}
 use borrow.Author.Needs.{needs}
 use Rattle.state.proofs.serve_flag.Statement.{statement}
 use Rattle.state.proofs.serve_flag.Tie as tie

@@ -1,5 +1,5 @@
 use borrow.Author.Needs.{needs}
-use mathlib.Core.Path.{_≡_, refl, sym, _∙_, ap}
+use mathlib.Core.Path.{_≡_, refl, sym, _∙_}
 use mathlib.Core.Logic.{⊎-elim}
 use Prim.Native.Nat.{_≤_, _-_}
 use native.Mathlib.Omega.{arith}
@@ -7,10 +7,8 @@ use Rattle.laws.specs.Cases.{if-yes, if-no}
 use Rattle.laws.specs.Iter.{iter, iter-zero, iter-step}
 use Rattle.chains.specs.Held.{at}
 use Rattle.rules.specs.Running.{best, bestOne}
-use mathlib.Core.Bool.{Bool, cond, _&&_, _||_}
-use lib.Dec.{eqb, ltb}
 use lib.ListN.{getD}
-use Prim.Native.Nat.{ℕ, _+_}
+use Prim.Native.Nat.{_+_}
 use Rattle.steps.specs.Tests.{better-same}
 use Rattle.steps.proofs.best.Statement.{statement}
 use Rattle.steps.proofs.best.Tie as tie

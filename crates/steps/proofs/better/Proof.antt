@@ -1,6 +1,4 @@
-use borrow.Author.Needs.{needs}
 use borrow.Author.Tests.{eq-eqb, ne-eqb}
-use mathlib.Core.Path.{_≡_, refl, sym}
 use Rattle.steps.proofs.better.Statement.{statement}
 use Rattle.steps.proofs.better.Tie as tie
 use Rattle.steps.proofs.better.Reads as reads

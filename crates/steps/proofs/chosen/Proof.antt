@@ -1,11 +1,8 @@
-use mathlib.Core.Path.{_≡_, refl, sym, _∙_, ap}
-use native.Mathlib.Omega.{arith}
+use mathlib.Core.Path.{_≡_, refl, sym, _∙_}
 use Rattle.laws.specs.Cases.{if-yes, if-no}
 use Rattle.rules.specs.Running.{chosen, best}
-use Rattle.steps.specs.Tests.{stays-same}
-use mathlib.Core.Bool.{Bool, cond}
+use mathlib.Core.Bool.{cond}
 use Rattle.chains.specs.Held.{at}
-use Prim.Native.Nat.{ℕ}
 use Rattle.steps.specs.Tests.{choice}
 use borrow.Author.Needs.{needs}
 use Rattle.steps.proofs.chosen.Statement.{statement}

@@ -1,4 +1,3 @@
-use borrow.Author.Needs.{needs}
 use borrow.Author.Tests.{eq-eqb, ne-eqb}
 use Rattle.steps.proofs.stands.Statement.{statement}
 use Rattle.steps.proofs.stands.Tie as tie

@@ -1,6 +1,4 @@
-use borrow.Author.Needs.{needs}
 use borrow.Author.Tests.{eq-eqb, ne-eqb}
-use borrow.Author.Tests.{lt-ltb, le-ltb}
 use Rattle.steps.specs.Tests.{active-is}
 use Rattle.steps.proofs.struck.Statement.{statement}
 use Rattle.steps.proofs.struck.Tie as tie

@@ -1,9 +1,8 @@
-use mathlib.Core.Path.{_≡_, refl, sym, _∙_, ap}
+use mathlib.Core.Path.{refl, ap}
 use Rattle.rules.specs.Running.{dispatch}
 use Rattle.state.specs.Set.{putRunning}
 use Rattle.state.specs.View.{viewOf}
 use Prim.Native.Nat.{ℕ}
-use lib.ListN.{length}
 use Rattle.chains.specs.Held.{Sized}
 use borrow.Author.Needs.{needs}
 use Rattle.state.proofs.State.dispatched.Statement.{statement}

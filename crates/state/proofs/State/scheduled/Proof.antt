@@ -1,5 +1,5 @@
 use borrow.Author.Tests.{not-true, not-false}
-use mathlib.Core.Path.{_≡_, refl, sym, _∙_, ap}
+use mathlib.Core.Path.{sym, _∙_}
 use Rattle.state.specs.Effects.{scheduled-no, scheduled-yes}
 use borrow.Author.Needs.{needs}
 use Rattle.state.proofs.State.scheduled.Statement.{statement}

@@ -1,13 +1,12 @@
 use borrow.Author.Needs.{needs}
 use mathlib.Core.Path.{_≡_, _∙_}
-use mathlib.Core.List.{List}
-use Prim.Native.Nat.{ℕ, _≤_, _<_}
+use Prim.Native.Nat.{_≤_, _<_}
 use native.Mathlib.Omega.{arith}
 use lib.Dec.{lit<}
 use lib.ListN.{length, length-set}
 use Rattle.laws.specs.Functions.{upd}
 use Rattle.chains.specs.Ops.{walk}
-use Rattle.chains.specs.Held.{at, Held}
+use Rattle.chains.specs.Held.{at}
 use Rattle.chains.specs.Front.{leaving-own, leaving-falls}
 use Rattle.chains.specs.Read.{chainsOf}
 use Rattle.state.specs.Due.{Waking, waking-start, waking-step, waking-done, wakes-kept, wakes-later}

@@ -1,4 +1,3 @@
-use borrow.Author.Needs.{needs}
 use Rattle.steps.specs.Queued.{entries-none}
 use mathlib.Core.Path.{refl}
 use Rattle.steps.proofs.Queue.empty.Statement.{statement}

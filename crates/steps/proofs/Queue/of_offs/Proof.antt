@@ -9,7 +9,6 @@ use Rattle.laws.specs.Iter.{iter, iter-zero, iter-step}
 use Rattle.chains.specs.Held.{at}
 use Rattle.rules.specs.Family.{offs, offOne}
 use Rattle.steps.specs.View.{entriesOf}
-use Prim.Native.Nat.{ℕ}
 use Rattle.steps.specs.declared.Queue.{Queue}
 use Rattle.steps.proofs.Queue.of_offs.Statement.{statement}
 use Rattle.steps.proofs.Queue.of_offs.Tie as tie
