@@ -7,6 +7,7 @@ pub mod Meeting
 pub mod Refusing
 pub mod Settling
 pub mod Start
+pub mod Starting
 pub mod Runs
 pub mod Demands
 pub mod RunLaws

@@ -69,7 +69,7 @@ settled-is g w d e s f =
 
 -- ---- what is asked holds of every accepted call
 
-fits : (g : Rig) (cycles : List Cycle) → Right g cycles → Fits g
+pub fits : (g : Rig) (cycles : List Cycle) → Right g cycles → Fits g
 fits g cycles h =
     record {
       lines =
@@ -81,7 +81,7 @@ fits g cycles h =
       activation = λ t. omega (arith, rig-ok g cycles h .activation-le t, h .flag-count .1);
     }
 
-servable : (r : G.Rig) → r .flags ≤ 128 → (q : List S.Entry) → Fine r q → Servable q
+pub servable : (r : G.Rig) → r .flags ≤ 128 → (q : List S.Entry) → Fine r q → Servable q
 servable r b [] h = tt
 servable r b (e ∷ q) h =
     (record { some = h .0 .0; flag = omega (arith, h .0 .1); value = h .0 .2 }, servable r b q (h .1))
@@ -91,7 +91,7 @@ either true s t h k = h
 either false s t h k = k
 
 -- no call makes a task the running one: that is for the dispatch
-effect-low : (r : G.Rig) (s : S.State) → s .running ≤ 64 → (k : R.Call) → R.effect r s k .now .running ≤ 64
+pub effect-low : (r : G.Rig) (s : S.State) → s .running ≤ 64 → (k : R.Call) → R.effect r s k .now .running ≤ 64
 unfolding R.effect R.scheduled R.finished R.terminated R.cancelled R.ticked wakeDue waitOn waitUntilCount activate
 effect-low r s h (R.schedule t) = go (met (r .present) (r .desired) t conds)
   where
