@@ -13,3 +13,5 @@ pub mod Demands
 pub mod RunLaws
 pub mod Signal
 pub mod Reading
+pub mod Waits
+pub mod Tasks

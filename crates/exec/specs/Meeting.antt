@@ -1,11 +1,12 @@
 -- How a call meets what it owes: refused by 12, refused by its table, or accepted.
 use mathlib.Core.Path.{_≡_, refl, sym, _∙_, ap, subst}
 use mathlib.Core.Logic.{_≢_, _⊎_, inl, inr}
-use mathlib.Core.List.{List}
+use mathlib.Core.List.{List, []}
 use Prim.Native.Nat.{ℕ, zero, suc}
 use native.Mathlib.Omega.{arith}
 use Rattle.chains.specs.Held.{Sized}
 use Rattle.chains.specs.Held as L
+use Rattle.rules.specs.Rig as G
 use Rattle.rules.specs.State as S
 use Rattle.rules.specs.Calls as R
 use Rattle.rules.specs.Proper as P
@@ -116,3 +117,52 @@ module _ (x : Exec) (k : R.Call) (h : Sound x) (q : R.effect (rigIn x) (view x) 
       accepted x k h p z (x .st) (record { served = 0; words = 0; value = v }) after stays
       (λ i. record { served = none-served i; words = sym u i .words; value = sym u i .value })
       (λ i. sym u i .lent) (h .links) (h .sized)
+
+-- ---- calls that answer only the number of flags served, and lend nothing
+
+abbrev pub Silent : R.Call → Type 0
+Silent (R.schedule t) = Unit {0}
+Silent (R.cancel t) = Unit {0}
+Silent (R.terminate t) = Unit {0}
+Silent R.finish = Unit {0}
+Silent (R.tick buffer) = ⊥
+Silent (R.waitUntil t) = Unit {0}
+Silent (R.waitFor n) = Unit {0}
+Silent (R.latched f v) = Unit {0}
+Silent (R.unlatched f v) = Unit {0}
+Silent (R.signal f v) = Unit {0}
+Silent (R.readFlag f) = ⊥
+Silent (R.readBlock k area buffer) = ⊥
+Silent (R.writeBlock k area buffer) = ⊥
+
+pub silent-lent : (k : R.Call) → Silent k → [] ≡ R.lent k
+unfolding R.lent
+silent-lent (R.schedule t) h = refl
+silent-lent (R.cancel t) h = refl
+silent-lent (R.terminate t) h = refl
+silent-lent R.finish h = refl
+silent-lent (R.tick buffer) h = absurd h
+silent-lent (R.waitUntil t) h = refl
+silent-lent (R.waitFor n) h = refl
+silent-lent (R.latched f v) h = refl
+silent-lent (R.unlatched f v) h = refl
+silent-lent (R.signal f v) h = refl
+silent-lent (R.readFlag f) h = absurd h
+silent-lent (R.readBlock k area buffer) h = absurd h
+silent-lent (R.writeBlock k area buffer) h = absurd h
+
+pub silent-output : (r : G.Rig) (s : S.State) (k : R.Call) → Silent k → R.output r s k ≡ R.silent
+unfolding R.output
+silent-output r s (R.schedule t) h = refl
+silent-output r s (R.cancel t) h = refl
+silent-output r s (R.terminate t) h = refl
+silent-output r s R.finish h = refl
+silent-output r s (R.tick buffer) h = absurd h
+silent-output r s (R.waitUntil t) h = refl
+silent-output r s (R.waitFor n) h = refl
+silent-output r s (R.latched f v) h = refl
+silent-output r s (R.unlatched f v) h = refl
+silent-output r s (R.signal f v) h = refl
+silent-output r s (R.readFlag f) h = absurd h
+silent-output r s (R.readBlock k area buffer) h = absurd h
+silent-output r s (R.writeBlock k area buffer) h = absurd h

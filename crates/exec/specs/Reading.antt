@@ -1,17 +1,12 @@
--- Reading a flag: the table of its refusals, and what it puts out.
+-- Reading a flag: what it puts out.
 use mathlib.Core.Path.{_≡_, refl, sym}
 use mathlib.Core.List.{List, []}
 use Prim.Native.Nat.{ℕ}
 use Rattle.rules.specs.Rig as G
 use Rattle.rules.specs.State as S
 use Rattle.rules.specs.Calls as R
-use Rattle.exec.specs.Refusing.{flagRows}
 
 module _ (r : G.Rig) (s : S.State) (f : ℕ) where
-  pub read-table : R.decide (flagRows r s f (R.isMinor (r .minor) f)) ≡ R.refusal r s (R.readFlag f)
-  unfolding R.refusal R.refusals
-  read-table = refl
-
   pub read-lent : [] ≡ R.lent (R.readFlag f)
   unfolding R.lent
   read-lent = refl

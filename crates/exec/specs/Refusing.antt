@@ -1,13 +1,17 @@
 -- The tables of refusals that several calls share, and how code goes through one, row by row.
 use mathlib.Core.Path.{_≡_, refl, sym, _∙_, ap}
 use mathlib.Core.Logic.{_≢_, _⊎_, inl, inr, ⊎-elim}
-use mathlib.Core.Bool.{Bool, true, false, cond, _||_}
+use mathlib.Core.Bool.{Bool, true, false, not, cond, _||_}
 use mathlib.Core.List.{List, [], _∷_}
-use Prim.Native.Nat.{ℕ, zero, suc, _≤_}
+use Prim.Native.Nat.{ℕ, zero, suc, _+_, _≤_}
+use lib.Dec.{eqb, leb, ltb}
+use lib.ListN.{length}
 use native.Mathlib.Omega.{arith}
 use Rattle.rules.specs.Rig.{Rig}
 use Rattle.rules.specs.State.{State}
-use Rattle.rules.specs.Calls.{Call, Refusal, row, decide, nobodyRuns, noSuch, notController, refusal, lent}
+use Rattle.rules.specs.Bus.{areaWords, blockWords}
+use Rattle.rules.specs.Calls.{Call, schedule, cancel, terminate, finish, tick, waitUntil, waitFor, latched, unlatched, signal, readFlag, readBlock, writeBlock}
+use Rattle.rules.specs.Calls.{Refusal, row, decide, refusals, refusal, lent, nobodyRuns, noSuch, notController, isInvoked, isUninvoked, notActive, isMinor, notPlain, lastCount, wrongBlock}
 use Rattle.rules.specs.Acceptance.{flagged-is}
 use Rattle.exec.specs.Sound.{rigIn, view, Sound}
 use Rattle.exec.specs.Call.{Meets, refuse}
@@ -34,6 +38,14 @@ taskRows r s t wrong = row 5 (nobodyRuns s) ∷ row 6 (noSuch (r .tasks) t) ∷ 
 -- a call that names a row; 10 where a buffer has a wrong length
 abbrev pub blockRows : Rig → State → ℕ → Bool → List Refusal
 blockRows r s k wrong = row 5 (nobodyRuns s) ∷ row 6 (noSuch (r .rows) k) ∷ row 10 wrong ∷ []
+
+-- 10: "The area has exactly 33 words a row; the caller's buffer has exactly the row's words", by lengths
+abbrev pub wrongLengths : Rig → ℕ → ℕ → ℕ → Bool
+wrongLengths r k area buffer = not (eqb area (areaWords r)) || not (eqb buffer (blockWords r k))
+
+-- a tick, with a buffer of so many words
+abbrev pub tickRows : State → ℕ → List Refusal
+tickRows s words = row 9 (leb 2147483647 (s .count)) ∷ row 10 (ltb words 128) ∷ []
 
 pub none : 0 ≡ decide []
 unfolding decide
@@ -103,3 +115,58 @@ module _ (x : Exec) (rows : List Refusal) where
 -- a flag that is there has a number of eight bits, where the rig's number of flags has
 pub there-low : (r : Rig) (s : State) (f : ℕ) (wrong : Bool) → 0 ≡ decide (flagRows r s f wrong) → f ≤ r .flags
 there-low r s f wrong e = flagged-is r s f wrong (sym e) .flag .1
+
+-- ---- the table of each call
+
+module _ (r : Rig) (s : State) where
+  pub schedule-table : (t : ℕ) → decide (taskRows r s t (isInvoked s t)) ≡ refusal r s (schedule t)
+  unfolding refusal refusals
+  schedule-table t = refl
+
+  pub cancel-table : (t : ℕ) → decide (taskRows r s t (isUninvoked s t)) ≡ refusal r s (cancel t)
+  unfolding refusal refusals
+  cancel-table t = refl
+
+  pub terminate-table : (t : ℕ) → decide (taskRows r s t (notActive s t)) ≡ refusal r s (terminate t)
+  unfolding refusal refusals
+  terminate-table t = refl
+
+  pub finish-table : decide (runRows s) ≡ refusal r s finish
+  unfolding refusal refusals
+  finish-table = refl
+
+  pub until-table : (n : ℕ) → decide (countRows s (ltb 2147483647 n)) ≡ refusal r s (waitUntil n)
+  unfolding refusal refusals lastCount
+  until-table n = refl
+
+  pub for-table : (n : ℕ) → decide (countRows s (ltb 2147483647 (s .count + n))) ≡ refusal r s (waitFor n)
+  unfolding refusal refusals lastCount
+  for-table n = refl
+
+  pub latched-table : (f v : ℕ) → decide (flagRows r s f (isMinor (r .minor) f)) ≡ refusal r s (latched f v)
+  unfolding refusal refusals
+  latched-table f v = refl
+
+  pub unlatched-table : (f v : ℕ) → decide (flagRows r s f (isMinor (r .minor) f)) ≡ refusal r s (unlatched f v)
+  unfolding refusal refusals
+  unlatched-table f v = refl
+
+  pub signal-table : (f v : ℕ) → decide (flagRows r s f (notPlain r f)) ≡ refusal r s (signal f v)
+  unfolding refusal refusals
+  signal-table f v = refl
+
+  pub read-table : (f : ℕ) → decide (flagRows r s f (isMinor (r .minor) f)) ≡ refusal r s (readFlag f)
+  unfolding refusal refusals
+  read-table f = refl
+
+  pub tick-table : (buffer : List ℕ) → decide (tickRows s (length buffer)) ≡ refusal r s (tick buffer)
+  unfolding refusal refusals lastCount
+  tick-table buffer = refl
+
+  pub read-block-table : (k : ℕ) (area buffer : List ℕ) → decide (blockRows r s k (wrongLengths r k (length area) (length buffer))) ≡ refusal r s (readBlock k area buffer)
+  unfolding refusal refusals wrongBlock
+  read-block-table k area buffer = refl
+
+  pub write-block-table : (k : ℕ) (area buffer : List ℕ) → decide (blockRows r s k (wrongLengths r k (length area) (length buffer))) ≡ refusal r s (writeBlock k area buffer)
+  unfolding refusal refusals wrongBlock
+  write-block-table k area buffer = refl

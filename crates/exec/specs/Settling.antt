@@ -37,8 +37,9 @@ use Rattle.exec.specs.Sound.{rigIn, view, Sound}
 use Rattle.exec.specs.Call.{Meets}
 use Rattle.exec.specs.RightRig.{rig-ok}
 use Rattle.exec.specs.Check.{running-low}
-use Rattle.exec.specs.Meeting.{accept, servedOnly, accepted}
+use Rattle.exec.specs.Meeting.{accept, servedOnly, accepted, Silent, silent-output}
 use Rattle.exec.specs.declared.Exec.{Exec}
+use Rattle.exec.specs.declared.Step.{Step}
 
 -- what is asked
 pub record Settles (g : Rig) (w : Work) : Type 0 where
@@ -51,6 +52,12 @@ pub record Settled (g : Rig) (w : Work) (d : Done) : Type 0 where
   pub served : (cycles : List Cycle) → d .served ≡ serve (rigOf g cycles) (workOf (w .st) (w .queue)) .served
   pub sound : L.Sound (d .st .links)
   pub sized : Sized (d .st .links)
+
+-- the step that a call hands back with it
+pub record Settling (x : Exec) (w : Work) (r : Step) : Type 0 where
+  pub done : Done
+  pub settled : Settled (x .rig) w done
+  pub is : r ≡ accept x (done .st) (servedOnly (done .served))
 
 -- who runs is not touched by the serving
 pub settled-low : (g : Rig) (w : Work) → Settles g w → (d : Done) → Emptied g (w .st) (w .queue) d → d .st .running ≤ 64
@@ -148,11 +155,14 @@ module _ (x : Exec) (h : Sound x) (k : R.Call) (p : P.Proper k) (e : 0 ≡ R.ref
     unfolding R.accepted
     served-is = m .served (x .cycles) ∙ ap (λ (y : S.Work). serve (rigIn x) y .served) q
 
-    -- a call that answers only the number of flags served, and writes nothing
-    pub settled-meets : ((s : S.State) → R.output (rigIn x) s k ≡ R.silent) → Meets x k (accept x (d .st) (servedOnly (d .served))) []
-    unfolding R.accepted
-    settled-meets o =
-        let n = R.accepted (rigIn x) (view x) k .next in
-        accepted x k h p e (d .st) (servedOnly (d .served)) [] next-is
-        (λ i. record { served = served-is i; words = sym (o n) i .words; value = sym (o n) i .value })
-        (λ i. sym (o n) i .lent) (m .sound) (m .sized)
+  -- a call that answers only the number of flags served, and writes nothing
+  pub settling-meets : Silent k → (r : Step) → Settling x w r → Meets x k r []
+  unfolding R.accepted
+  settling-meets z r m =
+      let d = m .done in
+      let n = R.accepted (rigIn x) (view x) k .next in
+      let o = silent-output (rigIn x) n k z in
+      rw (m .is)
+      (accepted x k h p e (d .st) (servedOnly (d .served)) [] (next-is d (m .settled))
+      (λ i. record { served = served-is d (m .settled) i; words = sym o i .words; value = sym o i .value })
+      (λ i. sym o i .lent) (m .settled .sound) (m .settled .sized))

@@ -4,7 +4,6 @@ use mathlib.Core.Bool.{Bool, true, false}
 use mathlib.Core.List.{List, [], _∷_}
 use Prim.Native.Nat.{ℕ, _≤_}
 use native.Mathlib.Omega.{arith}
-use Rattle.rules.specs.Rig as G
 use Rattle.rules.specs.State as S
 use Rattle.rules.specs.Serving.{push}
 use Rattle.rules.specs.Calls as R
@@ -15,25 +14,11 @@ use Rattle.state.specs.View.{workOf}
 use Rattle.state.specs.Effects.{pushed-one}
 use Rattle.exec.specs.Sound.{rigIn, view}
 use Rattle.exec.specs.Call.{bit}
-use Rattle.exec.specs.Refusing.{flagRows}
 use Rattle.exec.specs.declared.Exec.{Exec}
 
 pub bit-le : (b : Bool) → bit b ≤ 1
 bit-le true = omega arith
 bit-le false = omega arith
-
-module _ (r : G.Rig) (s : S.State) (f v : ℕ) where
-  pub signal-table : R.decide (flagRows r s f (R.notPlain r f)) ≡ R.refusal r s (R.signal f v)
-  unfolding R.refusal R.refusals
-  signal-table = refl
-
-  pub signal-lent : [] ≡ R.lent (R.signal f v)
-  unfolding R.lent
-  signal-lent = refl
-
-  pub signal-silent : R.output r s (R.signal f v) ≡ R.silent
-  unfolding R.output
-  signal-silent = refl
 
 -- the queue that the code makes
 pub signal-work : (x : Exec) (f : ℕ) (b : Bool) (none q : Queue) (v : ℕ) → entriesOf none ≡ [] → v ≡ bit b → Pushed none f v q

@@ -1,6 +1,5 @@
 // Reading a flag.
 use crate::Exec;
-use crate::Report;
 use crate::Step;
 ghost use mathlib.Core.List.{[]};
 ghost use Rattle.rules.specs.Calls.{readFlag};
@@ -16,14 +15,7 @@ impl Exec {
             return self.refuse(n);
         }
         let st = self.st;
-        let value = crate::refusals::look(&st.value, flag) as u32;
-        self.accept(
-            st,
-            Report {
-                served: 0,
-                words: 0,
-                value,
-            },
-        )
+        let value = crate::refusals::look(&st.value, flag);
+        self.unchanged(value as u32)
     }
 }

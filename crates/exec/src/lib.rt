@@ -2,6 +2,8 @@
 mod flags;
 mod refusals;
 mod signal;
+mod tasks;
+mod waits;
 
 use rig::Rig;
 use state::Done;
@@ -17,7 +19,7 @@ ghost use Rattle.exec.specs.Sound.{Sound};
 ghost use Rattle.exec.specs.Check.{Placed, tableTests, ChainsSound};
 ghost use Rattle.exec.specs.Call.{bit, refuse};
 ghost use Rattle.exec.specs.Meeting.{accept};
-ghost use Rattle.exec.specs.Settling.{Settles, Settled};
+ghost use Rattle.exec.specs.Settling.{Settles, Settled, Settling};
 
 // The rig and its cycles stay as they are from the start on; calls change the state. Numbers only: a record may stand in
 // memory of any bytes, and each is answered.
@@ -134,6 +136,40 @@ impl Exec {
             exec: Exec { rig, cycles, st },
             answer: Answer::Accepted(report),
         }
+    }
+}
+
+impl Exec {
+    // The record as it is, with no flag served, and the value that was asked for.
+    pub fn unchanged(self, value: u32) -> Step
+        ensures { λ r. ⌜ r ≡ accept self (self .st) (record { served = 0; words = 0; value = value }) ⌝ }
+    {
+        Step {
+            exec: self,
+            answer: Answer::Accepted(Report {
+                served: 0,
+                words: 0,
+                value,
+            }),
+        }
+    }
+
+    // What a call has queued is served, and then it is decided who runs.
+    pub fn settle(self, w: Work) -> Step
+        requires { ⌜ Settles (self .rig) w ⌝ }
+        ensures { λ r. ⌜ Settling self w r ⌝ }
+    {
+        let rig = self.rig;
+        let d = settled(w, rig);
+        let st = d.st;
+        self.accept(
+            st,
+            Report {
+                served: d.served,
+                words: 0,
+                value: 0,
+            },
+        )
     }
 }
 

@@ -1,6 +1,5 @@
 // "Signal: the flag and value are queued."
 use crate::Exec;
-use crate::Report;
 use crate::Step;
 use state::Work;
 use steps::Queue;
@@ -16,18 +15,8 @@ impl Exec {
         if n != 0 {
             return self.refuse(n);
         }
-        let rig = self.rig;
         let st = self.st;
         let queue = Queue::empty().push(flag as u8, crate::bit_of(value));
-        let d = crate::settled(Work { st, queue }, rig);
-        let st = d.st;
-        self.accept(
-            st,
-            Report {
-                served: d.served,
-                words: 0,
-                value: 0,
-            },
-        )
+        self.settle(Work { st, queue })
     }
 }

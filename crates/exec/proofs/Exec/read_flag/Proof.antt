@@ -1,60 +1,40 @@
-use mathlib.Core.Path.{_≡_, refl, sym, _∙_, ap}
-use mathlib.Core.List.{[]}
-use Prim.Native.Nat.{_≤_}
-use native.Mathlib.Omega.{arith}
-use Rattle.rules.specs.Calls as R
-use Rattle.exec.specs.Sound.{Sound, rigIn, view}
-use Rattle.exec.specs.Refusing.{judged-sound, judged-none, judged-meets}
-use Rattle.exec.specs.Meeting.{untouched}
-use Rattle.exec.specs.Reading.{read-table, read-lent, read-quiet, read-output}
 use borrow.Author.Needs.{needs}
 use Rattle.exec.proofs.Exec.read_flag.Statement.{statement}
 use Rattle.exec.proofs.Exec.read_flag.Tie as tie
 use Rattle.exec.proofs.Exec.read_flag.Reads as reads
 use Rattle.exec.proofs.Exec.read_flag.Lts as lts
-use Rattle.exec.proofs.Exec.accept.Reads as accept-reads
 use Rattle.exec.proofs.Exec.flag_refusal.Reads as flag-refusal-reads
 use Rattle.exec.proofs.Exec.refuse.Reads as refuse-reads
+use Rattle.exec.proofs.Exec.unchanged.Reads as unchanged-reads
 use Rattle.exec.proofs.refusals.look.Reads as look-reads
 
--- src/flags.rt:14:13
+-- src/flags.rt:13:13
 flag-refusal-requires : tie.Need-flag-refusal-requires
 flag-refusal-requires c κs = search needs
 
--- src/flags.rt:16:13
+-- src/flags.rt:15:13
 refuse-requires : tie.Need-refuse-requires
 refuse-requires c κs = search needs
 
--- src/flags.rt:16:13
+-- src/flags.rt:15:13
 returns : tie.Need-returns
-returns c =
-    let a = c .before .before .before .args in
-    judged-meets (a .self) _ (c .before .before .flag-refusal .result) (c .before .before .flag-refusal .ensures) (R.readFlag (a .flag))
-    (read-table (rigIn (a .self)) (view (a .self)) (a .flag)) (c .before .if1 .taken)
-    (c .refuse .result) (c .refuse .ensures) [] (read-lent (rigIn (a .self)) (view (a .self)) (a .flag))
+returns c = ?
 
--- src/flags.rt:19:21
+-- src/flags.rt:18:13
 look-requires : tie.Need-look-requires
 look-requires c κs = search needs
 
--- src/flags.rt:19:21
-cast-value : tie.Need-cast-value
-cast-value c = search needs
+-- src/flags.rt:19:24
+cast-unchanged : tie.Need-cast-unchanged
+cast-unchanged c = search needs
 
--- src/flags.rt:20:9
-accept-requires : tie.Need-accept-requires
-accept-requires c κs = search needs
+-- src/flags.rt:19:9
+unchanged-requires : tie.Need-unchanged-requires
+unchanged-requires c κs = search needs
 
--- src/flags.rt:11:5
+-- src/flags.rt:10:5
 returns-2 : tie.Need-returns-2
-returns-2 c =
-    let a = c .before .before .before .before .before .before .before .before .args in
-    let f = c .before .before .before .before .before .before .before .flag-refusal in
-    let z = c .before .before .before .before .before .before .if1 .left in
-    rw (c .accept .ensures)
-    (untouched (a .self) (R.readFlag (a .flag)) (judged-sound (a .self) _ (f .result) (f .ensures) z) (read-quiet (rigIn (a .self)) (view (a .self)) (a .flag)) tt
-    (judged-none (a .self) _ (f .result) (f .ensures) z ∙ read-table (rigIn (a .self)) (view (a .self)) (a .flag)) (c .before .look .result) []
-    (read-output (rigIn (a .self)) (view (a .self)) (a .flag) (c .before .look .result) (c .before .look .ensures)))
+returns-2 c = ?
 
 pub read-flag-spec : {M : Type 1} → statement M
 read-flag-spec =
@@ -64,6 +44,6 @@ read-flag-spec =
     refuse-requires
     returns
     look-requires
-    cast-value
-    accept-requires
+    cast-unchanged
+    unchanged-requires
     returns-2)
