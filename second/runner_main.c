@@ -4,13 +4,15 @@
 
 #include "runner.h"
 #include "wordlist.h"
+#include "wordsums.h"
 
 static int usage(FILE *to, int status)
 {
     fputs("usage: runner            rig, RUN and script on standard input; answers on standard output\n"
           "       runner --echo-rig read a rig and write it back\n"
           "       runner --entries  as the first, with the lines of entries.h besides\n"
-          "       runner --words    print all bus words and verdicts, as wordlist.h says\n",
+          "       runner --words    print all bus words and verdicts, as wordlist.h says\n"
+          "       runner --sums     print sums over them, as wordsums.h says\n",
           to);
     return status;
 }
@@ -26,6 +28,8 @@ int main(int argc, char **argv)
         done = runner_run_entries(0, 1);
     else if (argc == 2 && strcmp(argv[1], "--words") == 0)
         done = wordlist_print(1);
+    else if (argc == 2 && strcmp(argv[1], "--sums") == 0)
+        done = wordsums_print();
     else if (argc == 2 && strcmp(argv[1], "--help") == 0)
         return usage(stdout, 0);
     else

@@ -11,5 +11,5 @@ pub mod Order
 pub mod First
 pub mod Says
 pub mod Stores
-pub mod Ordered
 pub mod Bits
+pub mod Ordered

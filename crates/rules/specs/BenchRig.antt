@@ -1,14 +1,14 @@
 -- The rig of "A bench morning" is a right rig: the premises of the theorems can be met, and the theorems speak of it.
-use mathlib.Core.Path.{_≡_, refl, sym, ap, _∙_, subst}
+use mathlib.Core.Path.{_≡_, refl, sym, _∙_, subst}
 use mathlib.Core.Logic.{_≢_}
 use mathlib.Core.List.{List, [], _∷_}
-use Prim.Native.Nat.{ℕ, zero, suc, _+_, _*_, _≤_, _<_}
+use Prim.Native.Nat.{ℕ, zero, suc, _≤_, _<_}
 use native.Mathlib.Omega.{arith}
 use borrow.Author.Tests.{eqb-true, eqb-false}
 use lib.Dec.{eqb}
 use lib.ListN.{getD}
 use Rattle.laws.specs.Cases.{by}
-use Rattle.rules.specs.Rig.{Rig, place}
+use Rattle.rules.specs.Rig.{place}
 use Rattle.rules.specs.RigOk.{RigOk}
 use Rattle.rules.specs.Calls.{Call, run, start}
 use Rattle.rules.specs.Proper.{ProperRun}

@@ -17,7 +17,7 @@ use Rattle.rules.specs.Waiting.{waitOn, waitUntilCount, leave, wakeDue}
 use Rattle.rules.specs.Family.{family, cleared, deserted, offs}
 use Rattle.rules.specs.Running.{best, chosen, dispatch}
 use Rattle.rules.specs.Bus.{written, copied, rowWords, busWords}
-use Rattle.rules.specs.Calls.{Call, schedule, cancel, terminate, finish, tick, waitUntil, waitFor, latched, unlatched, signal, readFlag, readBlock, writeBlock}
+use Rattle.rules.specs.Calls.{schedule, cancel, terminate, finish, tick, waitUntil, waitFor, latched, unlatched, signal, readFlag, readBlock, writeBlock}
 use Rattle.rules.specs.Calls.{scheduled, finished, terminated, cancelled, cycleQueue, ticked, effect, decide, noSuch, inCycle, isMinor, isActivation, lastCount, wrongBlock, refusals, refusal, wordsAt, lent, output, accepted, after, step, run, started, start}
 use Rattle.rules.specs.Scripts.{TaskLine, MinorLine, T, C, A, M, B, ofTask, ofCondition, numbers, ofLine, ofCycle, rig, tick₀, startAt, seen, Case, shown, case, caseAt, bench, morningCalls}
 use Rattle.rules.specs.Scripts.{runs, answers, serves, writes, reads, lends, stateIs, valueIs, waitFlag, waitTime, _and_}

@@ -1,9 +1,9 @@
 -- A RIG OF FULL SIZE, computed: 64 tasks, each activated by the activation flag of the task before it, 128 flags, 15 flags
 -- a minor cycle. Its tick serves 79 flags: the bound of "at most 79" is reached.
 use mathlib.Core.Path.{_≡_, refl}
-use mathlib.Core.Bool.{Bool, true, false, cond, _&&_, _||_}
+use mathlib.Core.Bool.{cond, _&&_, _||_}
 use mathlib.Core.List.{List, [], _∷_, _++_}
-use Prim.Native.Nat.{ℕ, zero, suc, _+_, _-_, _*_, _%_}
+use Prim.Native.Nat.{ℕ, zero, suc, _+_, _%_}
 use lib.Dec.{leb, ltb, eqb}
 use Rattle.laws.specs.Iter.{iter}
 use Rattle.laws.specs.All.{all}

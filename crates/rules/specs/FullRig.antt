@@ -1,14 +1,14 @@
 -- The rig of full size is a right rig: so a right rig reaches the bound of 79, and no lower one would do.
-use mathlib.Core.Path.{_≡_, refl, sym, ap, _∙_, subst}
+use mathlib.Core.Path.{_≡_, refl, sym, _∙_}
 use mathlib.Core.Logic.{_≢_, _⊎_, inl, inr, ⊎-elim}
-use mathlib.Core.Bool.{Bool, true, false, cond, _&&_, _||_}
-use Prim.Native.Nat.{ℕ, zero, suc, _+_, _*_, _%_, _≤_, _<_}
+use mathlib.Core.Bool.{_&&_, _||_}
+use Prim.Native.Nat.{ℕ, _+_, _*_, _%_, _≤_, _<_}
 use native.Mathlib.Omega.{arith}
 use native.Mathlib.Nat.{mul-add-mod-self-left}
 use borrow.Author.Tests.{ltb-true, leb-true, lt-ltb, le-leb, eq-eqb}
 use lib.Dec.{eqb, leb, ltb}
 use Rattle.laws.specs.Cases.{by, and-true}
-use Rattle.rules.specs.Rig.{Rig, place}
+use Rattle.rules.specs.Rig.{place}
 use Rattle.rules.specs.RigOk.{RigOk}
 use Rattle.rules.specs.Full.{full}
 

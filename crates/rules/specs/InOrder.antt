@@ -3,17 +3,17 @@ use mathlib.Core.Path.{_≡_, refl, sym, ap, _∙_, subst}
 use mathlib.Core.Logic.{_⊎_, inl, inr, ⊎-elim, _≢_, _↔_}
 use mathlib.Core.Bool.{Bool, true, false, not, cond}
 use mathlib.Core.List.{List, [], _∷_, _++_}
-use Prim.Native.Nat.{ℕ, zero, suc, _+_, _*_, _≤_, _<_}
+use Prim.Native.Nat.{ℕ, zero, suc, _+_, _≤_, _<_}
 use native.Mathlib.Omega.{arith}
 use borrow.Author.Tests.{eqb-true, eqb-false, leb-true, leb-false}
 use lib.Dec.{eqb, leb}
 use lib.ListN.{length, getD, set}
 use lib.Seq.{getD-set-same, getD-set-other}
 use Rattle.laws.specs.Cases.{by}
-use Rattle.laws.specs.Iter.{iter, iter-ind}
+use Rattle.laws.specs.Iter.{iter-ind}
 use Rattle.laws.specs.Functions.{upd, upd-same, upd-other, on-upd}
 use Rattle.laws.specs.Tables.{in-range}
-use Rattle.laws.specs.Members.{In, in-cases, without, in-without, keep, in-keep}
+use Rattle.laws.specs.Members.{In, in-cases, in-without, keep, in-keep}
 use Rattle.laws.specs.Order.{place, in-place}
 use Rattle.laws.specs.Ordered.{Ordered, ordered-map, ordered-keep, ordered-without, ordered-end, ordered-same}
 use Rattle.rules.specs.Rig.{Rig}
@@ -26,12 +26,12 @@ use Rattle.rules.specs.Family.{family, isMarked, leaveOne, deserted}
 use Rattle.rules.specs.Running.{dispatch}
 use Rattle.rules.specs.Calls.{Call, schedule, cancel, terminate, finish, tick, waitUntil, waitFor, latched, unlatched, signal, readFlag, readBlock, writeBlock}
 use Rattle.rules.specs.Calls.{scheduled, finished, terminated, cancelled, ticked, effect, refusal, refusals, accepted, after, step, run, started, start}
-use Rattle.rules.specs.Proper.{Proper, ProperRun}
+use Rattle.rules.specs.Proper.{ProperRun}
 use Rattle.rules.specs.Soundness.{Somewhere, Sound}
 use Rattle.rules.specs.Good.{serve-keeps}
 use Rattle.rules.specs.Acceptance.{somebody-runs, flagged-is}
-use Rattle.rules.specs.Steps.{step-sound, run-sound, start-sound}
-use Rattle.rules.specs.History.{Wait, History, Begins, nothing, onFlag, untilCount, begins, noted, notedIf, history, never, historyOf, Earlier, Sooner, InOrder}
+use Rattle.rules.specs.Steps.{step-sound, start-sound}
+use Rattle.rules.specs.History.{Wait, History, nothing, onFlag, untilCount, begins, noted, notedIf, history, never, historyOf, Earlier, Sooner, InOrder}
 
 -- What is kept: of a history h whose calls have numbers below n, and a state's chains X and waking counts w
 pub record Told (h : History) (n : ℕ) (w : List ℕ) (X : ℕ → List ℕ) : Type 0 where

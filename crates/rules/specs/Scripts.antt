@@ -1,12 +1,12 @@
 -- SCRIPTS: small rigs written as the lines of their file, and what a script of calls shows on one. For computed cases.
-use mathlib.Core.Bool.{Bool, true, false, cond, _&&_}
+use mathlib.Core.Bool.{cond}
 use mathlib.Core.List.{List, [], _∷_, _++_}
-use Prim.Native.Nat.{ℕ, _+_, _*_}
+use Prim.Native.Nat.{ℕ}
 use lib.Dec.{eqb}
-use lib.ListN.{length, take, getD, replicate}
+use lib.ListN.{length, getD, replicate}
 use Rattle.rules.specs.Rig.{Rig, Row, place}
 use Rattle.rules.specs.State.{State, withCount, chainOf, timeChain, stateOf, valueOf}
-use Rattle.rules.specs.Calls.{Call, schedule, cancel, terminate, finish, tick, waitUntil, waitFor, latched, unlatched, signal, readFlag, readBlock, writeBlock, Step, step, start}
+use Rattle.rules.specs.Calls.{Call, schedule, finish, tick, waitFor, Step, step, start}
 
 -- ---- a rig, as its file says it
 

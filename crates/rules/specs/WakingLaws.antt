@@ -1,40 +1,41 @@
 -- A task that waits for a count, and is spared, wakes at that count and no sooner: after any run from the start.
 use mathlib.Core.Path.{_≡_, refl, sym, ap, _∙_, subst}
-use mathlib.Core.Logic.{_≢_, _⊎_, inl, inr, ⊎-elim}
+use mathlib.Core.Logic.{_≢_, _⊎_, inl, inr}
 use mathlib.Core.Bool.{Bool, true, false, not, cond, _&&_, true≢false}
-use mathlib.Core.List.{List, [], _∷_, _++_}
-use Prim.Native.Nat.{ℕ, zero, suc, _+_, _*_, _≤_, _<_}
+use mathlib.Core.List.{List, [], _∷_}
+use Prim.Native.Nat.{ℕ, zero, suc, _+_, _≤_, _<_}
 use native.Mathlib.Omega.{arith}
 use native.Mathlib.Nat.{le-refl, le-trans}
-use borrow.Author.Tests.{eqb-true, eqb-false, leb-false, ltb-false, lt-leb, le-ltb, eq-eqb}
+use borrow.Author.Tests.{eqb-true, eqb-false, leb-false, ltb-false, lt-leb, le-ltb}
 use lib.Dec.{eqb, leb, ltb}
 use lib.ListN.{length, getD, set}
 use lib.Seq.{getD-set-same, getD-set-other}
 use Rattle.laws.specs.Cases.{by}
 use Rattle.laws.specs.Iter.{iter, iter-ind}
-use Rattle.laws.specs.Functions.{upd, upd-same, upd-other}
+use Rattle.laws.specs.Functions.{upd-same, upd-other}
 use Rattle.laws.specs.Tables.{in-range, keeps}
-use Rattle.laws.specs.Members.{In, without, without-in, keep, keep-in}
-use Rattle.laws.specs.Order.{place, place-new, place-old}
+use Rattle.laws.specs.Members.{In, without-in, keep, keep-in}
+use Rattle.laws.specs.Order.{place-new, place-old}
 use Rattle.rules.specs.Rig.{Rig}
 use Rattle.rules.specs.RigOk.{RigOk}
-use Rattle.rules.specs.State.{State, Work, Entry, stateOf, valueOf, wakeOf, withCount, withTables, timeChain, chainOf}
+use Rattle.rules.specs.State.{State, Work, Entry, stateOf, valueOf, wakeOf, withTables, timeChain, chainOf}
 use Rattle.rules.specs.Conditions.{met, relax}
-use Rattle.rules.specs.Serving.{activate, takes, rouse, wake, ready, offer, offerNext, offers, serveFlag, serving, serve}
+use Rattle.rules.specs.Serving.{activate, takes, wake, ready, offer, offerNext, offers, serveFlag, serving, serve}
 use Rattle.rules.specs.Waiting.{waitOn, waitUntilCount, leave, isDue, wakeDue}
-use Rattle.rules.specs.Family.{family, isMarked, leaveOne, deserted}
+use Rattle.rules.specs.Family.{family, isMarked}
 use Rattle.rules.specs.Running.{dispatch}
 use Rattle.rules.specs.Calls.{Call, schedule, cancel, terminate, finish, tick, waitUntil, waitFor, latched, unlatched, signal, readFlag, readBlock, writeBlock}
-use Rattle.rules.specs.Calls.{scheduled, finished, terminated, cancelled, ticked, effect, isUninvoked, isMinor, lastCount, decide, row, refusal, refusals, accepted, after, step, run, start}
+use Rattle.rules.specs.Calls.{scheduled, finished, terminated, cancelled, ticked, effect, isUninvoked, isMinor, lastCount, decide, refusal, refusals, accepted, after, step, run, start}
 use Rattle.rules.specs.Proper.{Proper, ProperRun}
 use Rattle.rules.specs.Soundness.{Sound}
 use Rattle.rules.specs.Queued.{Fine, fine-push}
 use Rattle.rules.specs.Rousing.{rouse-in, rouse-three}
 use Rattle.rules.specs.Acceptance.{passed, somebody-runs, named-is, flagged-is}
 use Rattle.rules.specs.FamilyLaws.{Under, family-is}
+use Rattle.rules.specs.Leaving.{deserted-is}
 use Rattle.rules.specs.Good.{serve-count}
 use Rattle.rules.specs.Steps.{effect-ready, step-sound, run-sound, always}
-use Rattle.rules.specs.History.{Begins, nothing, onFlag, untilCount, begins}
+use Rattle.rules.specs.History.{nothing, onFlag, untilCount, begins}
 use Rattle.rules.specs.Waking.{Struck, Spared, Wakes}
 
 -- ---- what a serving of flags keeps, that waking the time chain would not
@@ -123,16 +124,6 @@ next-kept : (t c : ℕ) (a b : State) → Kept a b → Next t c a → Next t c b
 next-kept t c a b k (inl x) = inl (omega (arith, k .count, x .0), k .due t c (x .1))
 next-kept t c a b k (inr x) = inr (k .count ∙ x .0, k .three t (x .1))
 
--- who is not marked stays
-deserted-in : (marks : List ℕ) (X : ℕ → List ℕ) (t c : ℕ) → isMarked marks t ≡ false → In t (X c) → In t (deserted marks X c)
-unfolding deserted leave
-deserted-in marks X t c m i =
-    iter-ind (λ j Y. In t (Y c)) (leaveOne marks) X i (λ j Y h. go (isMarked marks (j + 1)) j refl Y h) 64
-  where
-    go : (b : Bool) (j : ℕ) → isMarked marks (j + 1) ≡ b → (Y : ℕ → List ℕ) → In t (Y c) → In t (cond b (leave (j + 1) Y) Y c)
-    go true j e Y h = without-in (j + 1) t (Y c) h (λ q. true≢false (sym e ∙ sym (ap (isMarked marks) q) ∙ m))
-    go false j e Y h = h
-
 module _ (r : Rig) (ok : RigOk r) (s : State) (sound : Sound r s) (t c : ℕ) (m : Due t c s) (low : s .count < c) where
   -- who is in a chain waits, and does not run
   is-waiting : stateOf s t ≡ 2
@@ -176,7 +167,20 @@ module _ (r : Rig) (ok : RigOk r) (s : State) (sound : Sound r s) (t c : ℕ) (m
       by (isMarked (family (r .controller) u) t)
       (λ e. absurd (n (family-is r ok u (a .0) (omega (arith, a .1, ok .tasks-le)) t (b .0) (omega (arith, b .1, ok .tasks-le)) .0 (eqb-true _ 1 e))))
       (λ e. e) in
-      inl (low, record { there = deserted-in (family (r .controller) u) (s .chains) t timeChain unmarked (m .there); due = m .due })
+      inl (
+        low,
+        record {
+          there =
+              subst (λ (l : List ℕ). In t l) (sym (deserted-is (family (r .controller) u) (s .chains) timeChain known))
+              (keep-in (λ (x : ℕ). not (isMarked (family (r .controller) u) x)) t (s .chains timeChain) (m .there) (ap not unmarked));
+          due = m .due;
+        },
+      )
+    where
+      known : (x : ℕ) → In x (s .chains timeChain) → (1 ≤ x) × (x ≤ 64)
+      known x i =
+          let b = sound .tasks .within x (λ z. omega (arith, z, sound .chains .listed .two x (timeChain, i))) in
+          (b .0, omega (arith, b .1, ok .tasks-le))
 
   ticked-next : Next t c (ticked r s .now)
   unfolding ticked wakeDue
