@@ -4,7 +4,7 @@ use mathlib.Core.Bool.{Bool, true, false, _||_, true≢false}
 use Prim.Native.Nat.{ℕ, zero, suc, _+_, _<_}
 use native.Mathlib.Numerals.{add-one}
 use native.Mathlib.Omega.{arith}
-use Rattle.laws.specs.Cases.{by-bool, by-eqb, below-but}
+use Rattle.laws.specs.Cases.{by, by-bool, by-eqb, below-but}
 
 unfoldable pub any : ℕ → (ℕ → Bool) → Bool
 any zero p = false
@@ -31,3 +31,14 @@ any-at (suc n) p k h e =
 
 pub any-not : (n : ℕ) (p : ℕ → Bool) → any n p ≡ false → (k : ℕ) → k < n → p k ≡ false
 any-not n p e k h = by-bool (p k) (λ b. b ≡ false) (λ t. absurd (true≢false (sym (any-at n p k h t) ∙ e))) (λ r. refl)
+
+-- where some number passes, one is found
+pub any-some : (n : ℕ) (p : ℕ → Bool) → any n p ≡ true → (k : ℕ) × (k < n) × (p k ≡ true)
+unfolding any
+any-some zero p e = absurd (true≢false (sym e))
+any-some (suc n) p e =
+    by (p n) (λ q. (n, omega arith, q)) (λ q. let w = any-some n p (left (any n p) (p n) q e) in (w .0, omega (arith, w .1), w .2))
+  where
+    left : (a b : Bool) → b ≡ false → (a || b) ≡ true → a ≡ true
+    left true b q e = refl
+    left false b q e = absurd (true≢false (sym e ∙ q))

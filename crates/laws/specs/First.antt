@@ -6,7 +6,7 @@ use mathlib.Core.List.{List, [], _∷_, _++_}
 use Prim.Native.Nat.{ℕ, zero, suc, _+_, _≤_, _<_}
 use native.Mathlib.Omega.{arith}
 use native.Mathlib.Nat.{add-suc}
-use lib.ListN.{length}
+use lib.ListN.{length, getD}
 use Rattle.laws.specs.Cases.{by-bool}
 use Rattle.laws.specs.All.{allOf, allOf-cons, allOf-nil, and-left, and-right}
 
@@ -53,3 +53,43 @@ unfolding firstFalse allOf
 all-first n [] e = refl
 all-first n (true ∷ bs) e = all-first (suc n) bs e
 all-first n (false ∷ bs) e = absurd (false≢true e)
+
+-- the answer r of a group of tests, in front of others: it is theirs too, or they go on
+pub first-found : (n : ℕ) (xs ys : List Bool) (r : ℕ) → r ≡ firstFalse n xs → r ≢ 0 → r ≡ firstFalse n (xs ++ ys)
+first-found n xs ys r e h = e ∙ sym (first-in n xs ys (λ z. h (e ∙ z)))
+
+pub first-passed : (n : ℕ) (xs ys : List Bool) (r : ℕ) → r ≡ firstFalse n xs → r ≡ 0 → 0 < n → firstFalse n (xs ++ ys) ≡ firstFalse (n + length xs) ys
+first-passed n xs ys r e z h = first-group n xs ys (sym e ∙ z) h
+
+-- a last test that holds changes nothing
+pub first-last : (n : ℕ) (xs : List Bool) (b : Bool) → b ≡ true → firstFalse n (xs ++ (b ∷ [])) ≡ firstFalse n xs
+unfolding firstFalse
+first-last n [] b e = rw e
+first-last n (true ∷ xs) b e = first-last (suc n) xs b e
+first-last n (false ∷ xs) b e = refl
+
+-- a number that is given is at least the first
+pub first-least : (n : ℕ) (l : List Bool) → firstFalse n l ≢ 0 → n ≤ firstFalse n l
+unfolding firstFalse
+first-least n [] h = absurd (h refl)
+first-least n (true ∷ bs) h = omega (arith, first-least (suc n) bs h)
+first-least n (false ∷ bs) h = omega arith
+
+-- the number that is given is that of a test that fails
+pub first-fails : (n k : ℕ) (l : List Bool) → 0 < n → firstFalse n l ≡ n + k → getD l k true ≡ false
+unfolding firstFalse
+first-fails n k [] h e = absurd (omega arith)
+first-fails n zero (true ∷ bs) h e = absurd (omega (arith, first-least (suc n) bs (λ z. omega arith)))
+first-fails n zero (false ∷ bs) h e = refl
+first-fails n (suc k) (true ∷ bs) h e = first-fails (suc n) k bs (omega arith) (omega arith)
+first-fails n (suc k) (false ∷ bs) h e = absurd (omega arith)
+
+-- and all before it hold
+pub first-before : (n k j : ℕ) (l : List Bool) → 0 < n → firstFalse n l ≡ n + k → j < k → getD l j true ≡ true
+unfolding firstFalse
+first-before n k j [] h e g = refl
+first-before n k zero (true ∷ bs) h e g = refl
+first-before n k zero (false ∷ bs) h e g = absurd (omega arith)
+first-before n zero (suc j) (b ∷ bs) h e g = absurd (omega arith)
+first-before n (suc k) (suc j) (true ∷ bs) h e g = first-before (suc n) k j bs (omega arith) (omega arith) (omega arith)
+first-before n (suc k) (suc j) (false ∷ bs) h e g = absurd (omega arith)

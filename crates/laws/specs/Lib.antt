@@ -13,3 +13,6 @@ pub mod Says
 pub mod Stores
 pub mod Bits
 pub mod Ordered
+pub mod Decides
+pub mod Owners
+pub mod Mapped

@@ -6,7 +6,7 @@ use mathlib.Core.List.{List, [], _∷_, _++_, reverse, reverse-cons}
 use Prim.Native.Nat.{ℕ, zero, suc, _+_, _≤_, _<_}
 use native.Mathlib.Omega.{arith}
 use lib.Dec.{eqb}
-use lib.ListN.{length}
+use lib.ListN.{length, getD}
 use borrow.Author.Tests.{eq-eqb, ne-eqb, eqb-true, eqb-false}
 use Rattle.laws.specs.Cases.{by, dec-eq}
 
@@ -192,3 +192,14 @@ without-keep x p (y ∷ ys) =
     by (p y)
     (λ e. by (eqb y x) (λ f. rw (e, f, without-keep x p ys)) (λ f. rw (e, f, without-keep x p ys)))
     (λ e. rw (e, without-keep x p ys))
+
+-- who stands at a place of a list is in it, and who is in it stands at some place
+pub at-in : (a : ℕ) (xs : List ℕ) (i : ℕ) → i < length xs → getD xs i 0 ≡ a → In a xs
+at-in a [] i h e = absurd (omega arith)
+at-in a (x ∷ xs) zero h e = inl (sym e)
+at-in a (x ∷ xs) (suc i) h e = inr (at-in a xs i (omega arith) e)
+
+pub in-at : (a : ℕ) (xs : List ℕ) → In a xs → (i : ℕ) × (i < length xs) × (getD xs i 0 ≡ a)
+in-at a [] h = absurd h
+in-at a (x ∷ xs) (inl e) = (0, omega arith, sym e)
+in-at a (x ∷ xs) (inr h) = let w = in-at a xs h in (suc (w .0), omega (arith, w .1), w .2)

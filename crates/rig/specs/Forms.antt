@@ -5,7 +5,7 @@ use lib.ListN.{replicate}
 use Rattle.rig.specs.declared.Row.{Row}
 use Rattle.rig.specs.declared.Cycle.{Cycle}
 use Rattle.rig.specs.declared.Rig.{Rig}
-use Rattle.rig.specs.Rules.{noRow, noCycle}
+use Rattle.rig.specs.Rules.{noRow}
 
 -- "an array of arrays built from M lines, passed by value beside the rig; the record keeps it as an array of row structs"
 abbrev pub cycleOf : List ℕ → Cycle
@@ -43,4 +43,4 @@ noRig =
     }
 
 abbrev pub noCycles : List Cycle
-noCycles = replicate 64 noCycle
+noCycles = replicate 64 (record { flags = replicate 15 0 })

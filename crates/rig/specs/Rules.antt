@@ -4,25 +4,18 @@ use mathlib.Core.Path.{_≡_}
 use mathlib.Core.Logic.{_⊎_, _≢_}
 use mathlib.Core.List.{List, [], _∷_}
 use Prim.Native.Nat.{ℕ, _+_, _-_, _*_, _≤_, _<_}
-use lib.ListN.{length, getD, replicate}
+use lib.ListN.{length, getD}
 use Rattle.laws.specs.Members.{In}
+pub use Rattle.rigtests.specs.Tests.{at, place}
 use Rattle.rig.specs.declared.Row.{Row}
 use Rattle.rig.specs.declared.Cycle.{Cycle}
 use Rattle.rig.specs.declared.Rig.{Rig}
-
--- what a table holds at a number; 0 past its end
-abbrev pub at : List ℕ → ℕ → ℕ
-at l i = getD l i 0
-
--- "up to 16 conditions a task at positions 0 to 15": where a condition stands
-abbrev pub place : ℕ → ℕ → ℕ
-place task position = 16 * task + position
 
 abbrev pub noRow : Row
 noRow = record { sender = 0; sendersub = 0; receiver = 0; receiversub = 0; words = 0; period = 0; phase = 0 }
 
 abbrev pub noCycle : Cycle
-noCycle = record { flags = replicate 15 0 }
+noCycle = record { flags = [] }
 
 -- the i-th flag of cycle c in file order, from 0; 0 behind the last
 abbrev pub flagAt : List Cycle → ℕ → ℕ → ℕ
@@ -125,7 +118,7 @@ abbrev pub ActivationNumbers : Rig → Type 0
 ActivationNumbers g = (t : ℕ) → t < 65 → at (g .activation) t ≤ g .flags
 
 abbrev pub ConditionNumbers : Rig → Type 0
-ConditionNumbers g = (p : ℕ) → p < 1040 → at (g .present) p ≢ 0 → (16 ≤ p) × (p < place (g .tasks + 1) 0)
+ConditionNumbers g = (p : ℕ) → p < 1040 → at (g .present) p ≢ 0 → (16 ≤ p) × (p < 16 * (g .tasks + 1))
 
 pub record LineNumbers (g : Rig) (k : ℕ) : Type 0 where
   pub task : Task g (at (g .atask) k)

@@ -1,4 +1,13 @@
-// The rig by value: what a rig file says, by number. Entries beyond its counts are 0.
+// The rig by value: what a rig file says, by number. Entries beyond its counts are 0. Whether a rig obeys the rules, and if
+// not, which rule it breaks first.
+ghost use mathlib.Core.Path.{_≡_};
+ghost use Prim.Native.Nat.{ℕ, _≤_, _<_};
+ghost use Rattle.laws.specs.All.{allOf};
+ghost use Rattle.laws.specs.First.{firstFalse};
+ghost use Rattle.rigtests.specs.Tables.{marked, LinesFit};
+ghost use Rattle.rig.specs.Rules.{at, flagAt};
+ghost use Rattle.rig.specs.Tests.{listedB, rowTests, rowsB, cyclesRiseB, cyclesSmallB, minorMarks, differB, rowZero, rowZerosB, countTests, sizeTests, orderTests, numberTests, taskTests, lineTests, restTests, firstBroken, rightB};
+ghost use Rattle.rig.specs.Forms.{cyclesOf, tableOf, noRig, noCycles};
 
 // A B line: sender and receiver with their sub-addresses, words, period and phase.
 pub struct Row {
@@ -35,4 +44,508 @@ pub struct Rig {
     pub apos: [u8; 1024],
     pub aflag: [u8; 1024],
     pub row: [Row; 64],
+}
+
+// The rig of all zeros.
+pub fn none() -> Rig
+    ensures { λ r. ⌜ r ≡ noRig ⌝ }
+{
+    let b = Row {
+        sender: 0,
+        sendersub: 0,
+        receiver: 0,
+        receiversub: 0,
+        words: 0,
+        period: 0,
+        phase: 0,
+    };
+    Rig {
+        tasks: 0,
+        flags: 0,
+        master: 0,
+        alines: 0,
+        rows: 0,
+        controller: [0; 65],
+        priority: [0; 65],
+        privileged: [0; 65],
+        activation: [0; 65],
+        present: [0; 1040],
+        latched: [0; 1040],
+        desired: [0; 1040],
+        atask: [0; 1024],
+        apos: [0; 1024],
+        aflag: [0; 1024],
+        row: [b; 64],
+    }
+}
+
+// Cycles with no flag.
+pub fn no_cycles() -> [Cycle; 64]
+    ensures { λ r. ⌜ r ≡ noCycles ⌝ }
+{
+    let c = Cycle { flags: [0; 15] };
+    [c; 64]
+}
+
+// The cycles as row structs, from an array of arrays.
+pub fn cycles_of(table: [[u8; 15]; 64]) -> [Cycle; 64]
+    ensures { λ r. ⌜ r ≡ cyclesOf table ⌝ }
+{
+    let mut cycles = no_cycles();
+    let mut c: usize = 0;
+    while c < 64 {
+        let flags = table[c];
+        cycles[c] = Cycle { flags };
+        c = c + 1;
+    }
+    cycles
+}
+
+// The cycles as an array of arrays, from row structs.
+pub fn table_of(cycles: [Cycle; 64]) -> [[u8; 15]; 64]
+    ensures { λ r. ⌜ r ≡ tableOf cycles ⌝ }
+{
+    let mut table = [[0u8; 15]; 64];
+    let mut c: usize = 0;
+    while c < 64 {
+        let cycle = cycles[c];
+        let flags = cycle.flags;
+        table[c] = flags;
+        c = c + 1;
+    }
+    table
+}
+
+const PERIODS: [u8; 7] = [1, 2, 4, 8, 16, 32, 64];
+
+fn listed(p: u8) -> bool
+    ensures { λ r. ⌜ r ≡ listedB p ⌝ }
+{
+    let mut i: usize = 0;
+    while i < 7 {
+        if PERIODS[i] == p {
+            return true;
+        }
+        i = i + 1;
+    }
+    false
+}
+
+// Addresses, sub-addresses, words, period and phase of a row.
+fn row_ok(b: Row) -> bool
+    ensures { λ r. ⌜ r ≡ allOf (rowTests b) ⌝ }
+{
+    if 31 < b.sender {
+        return false;
+    }
+    if !rigtests::in_range(1, b.sendersub, 30) {
+        return false;
+    }
+    if 31 < b.receiver {
+        return false;
+    }
+    if !rigtests::in_range(1, b.receiversub, 30) {
+        return false;
+    }
+    if !rigtests::in_range(1, b.words, 32) {
+        return false;
+    }
+    if !listed(b.period) {
+        return false;
+    }
+    b.phase < b.period
+}
+
+fn rows_ok(n: usize, row: [Row; 64]) -> bool
+    requires { ⌜ n ≤ 64 ⌝ }
+    ensures { λ r. ⌜ r ≡ rowsB n row ⌝ }
+{
+    let mut k: usize = 0;
+    while k < n {
+        let b = row[k];
+        if !row_ok(b) {
+            return false;
+        }
+        k = k + 1;
+    }
+    true
+}
+
+fn cycles_rise(cycles: [Cycle; 64]) -> bool
+    ensures { λ r. ⌜ r ≡ cyclesRiseB cycles ⌝ }
+{
+    let mut c: usize = 0;
+    while c < 64 {
+        let cycle = cycles[c];
+        let flags = cycle.flags;
+        if !rigtests::cycle_rises(flags) {
+            return false;
+        }
+        c = c + 1;
+    }
+    true
+}
+
+fn cycles_small(top: u8, cycles: [Cycle; 64]) -> bool
+    ensures { λ r. ⌜ r ≡ cyclesSmallB top cycles ⌝ }
+{
+    let mut c: usize = 0;
+    while c < 64 {
+        let cycle = cycles[c];
+        if !rigtests::cycle_small(top, &cycle.flags) {
+            return false;
+        }
+        c = c + 1;
+    }
+    true
+}
+
+// The minor-cycle flags, marked by 1.
+fn minor_marks(cycles: [Cycle; 64]) -> [u8; 129]
+    requires { ⌜ ((c : ℕ) → c < 64 → (i : ℕ) → i < 15 → flagAt cycles c i ≤ 128) ⌝ }
+    ensures { λ r. ⌜ r ≡ minorMarks cycles ⌝ }
+{
+    let mut table = [0u8; 129];
+    let mut c: usize = 0;
+    while c < 64 {
+        let cycle = cycles[c];
+        rigtests::mark_cycle(&cycle.flags, &mut table);
+        c = c + 1;
+    }
+    table[0] = 0;
+    table
+}
+
+fn differ(n: usize, row: [Row; 64]) -> bool
+    requires { ⌜ n ≤ 64 ⌝ }
+    ensures { λ r. ⌜ r ≡ differB n row ⌝ }
+{
+    let mut k: usize = 0;
+    while k < n {
+        let b = row[k];
+        if b.sender == b.receiver {
+            return false;
+        }
+        k = k + 1;
+    }
+    true
+}
+
+fn row_zero(b: Row) -> bool
+    ensures { λ r. ⌜ r ≡ rowZero b ⌝ }
+{
+    if b.sender != 0 {
+        return false;
+    }
+    if b.sendersub != 0 {
+        return false;
+    }
+    if b.receiver != 0 {
+        return false;
+    }
+    if b.receiversub != 0 {
+        return false;
+    }
+    if b.words != 0 {
+        return false;
+    }
+    if b.period != 0 {
+        return false;
+    }
+    b.phase == 0
+}
+
+fn row_zeros(n: usize, row: [Row; 64]) -> bool
+    requires { ⌜ n ≤ 64 ⌝ }
+    ensures { λ r. ⌜ r ≡ rowZerosB n row ⌝ }
+{
+    let mut k = n;
+    while k < 64 {
+        let b = row[k];
+        if !row_zero(b) {
+            return false;
+        }
+        k = k + 1;
+    }
+    true
+}
+
+// Rules 1 to 5: the counts of the RIG line, of A lines and of rows.
+fn counts(tasks: u8, flags: u8, master: u8, alines: u16, rows: u8) -> u8
+    ensures { λ r. ⌜ r ≡ firstFalse 1 (countTests tasks flags master alines rows) ⌝ }
+{
+    if !rigtests::in_range(1, tasks, 64) {
+        return 1;
+    }
+    if !rigtests::in_range(1, flags, 128) {
+        return 2;
+    }
+    if 31 < master {
+        return 3;
+    }
+    if 1024 < alines {
+        return 4;
+    }
+    if 64 < rows {
+        return 5;
+    }
+    0
+}
+
+// Rules 6 to 9: priorities, privileges, conditions, rows.
+fn sizes<'a>(
+    priority: &'a [u8; 65],
+    privileged: &'a [u8; 65],
+    present: &'a [u8; 1040],
+    latched: &'a [u8; 1040],
+    desired: &'a [u8; 1040],
+    rows: usize,
+    row: [Row; 64],
+) -> u8
+    requires { ⌜ rows ≤ 64 ⌝ }
+    ensures { λ r.
+        ⌜
+        r
+        ≡ firstFalse 6 (sizeTests (now (priority .entry)) (now (privileged .entry)) (now (present .entry)) (now (latched .entry)) (now (desired .entry)) rows row)
+        ⌝ }
+{
+    if !rigtests::small(priority, 255) {
+        return 6;
+    }
+    if !rigtests::small(privileged, 1) {
+        return 7;
+    }
+    if !rigtests::conditions(present, latched, desired) {
+        return 8;
+    }
+    if !rows_ok(rows, row) {
+        return 9;
+    }
+    0
+}
+
+// Rules 10 and 11: A lines and the flags of each cycle rise.
+fn orders<'a>(
+    alines: usize,
+    atask: &'a [u8; 1024],
+    apos: &'a [u8; 1024],
+    aflag: &'a [u8; 1024],
+    cycles: [Cycle; 64],
+) -> u8
+    requires { ⌜ alines ≤ 1024 ⌝ }
+    ensures { λ r. ⌜ r ≡ firstFalse 10 (orderTests alines (now (atask .entry)) (now (apos .entry)) (now (aflag .entry)) cycles) ⌝ }
+{
+    if !rigtests::lines_rise(alines, atask, apos, aflag) {
+        return 10;
+    }
+    if !cycles_rise(cycles) {
+        return 11;
+    }
+    0
+}
+
+// Rules 12 to 15: no task or flag number is above the RIG line's.
+fn numbers<'a>(
+    tasks: u8,
+    flags: u8,
+    alines: usize,
+    activation: &'a [u8; 65],
+    present: &'a [u8; 1040],
+    atask: &'a [u8; 1024],
+    apos: &'a [u8; 1024],
+    aflag: &'a [u8; 1024],
+    cycles: [Cycle; 64],
+) -> u8
+    requires { ⌜ alines ≤ 1024 ⌝ }
+    ensures { λ r.
+        ⌜
+        r
+        ≡ firstFalse 12 (numberTests tasks flags alines (now (activation .entry)) (now (present .entry)) (now (atask .entry)) (now (apos .entry)) (now (aflag .entry)) cycles)
+        ⌝ }
+{
+    if !rigtests::small(activation, flags) {
+        return 12;
+    }
+    if !rigtests::condition_tasks(tasks, present) {
+        return 13;
+    }
+    if !rigtests::lines(alines, tasks, flags, atask, apos, aflag) {
+        return 14;
+    }
+    if !cycles_small(flags, cycles) {
+        return 15;
+    }
+    0
+}
+
+// Rules 16 to 18: controllers, and activation flags against each other and against the marked minor-cycle flags.
+fn task_rules<'a>(
+    tasks: usize,
+    controller: &'a [u8; 65],
+    activation: &'a [u8; 65],
+    flags: &'a [u8; 129],
+) -> u8
+    requires { ⌜ (1 ≤ tasks) × ((tasks ≤ 64) × ((t : ℕ) → t < 65 → at (now activation) t ≤ 128)) ⌝ }
+    ensures { λ r. ⌜ r ≡ firstFalse 16 (taskTests tasks (now (controller .entry)) (now (activation .entry)) (marked (now (flags .entry)))) ⌝ }
+{
+    if !rigtests::controllers(tasks, controller) {
+        return 16;
+    }
+    let table = rigtests::flag_owners(activation);
+    if !rigtests::served(activation, &table) {
+        return 17;
+    }
+    if !rigtests::unmarked(activation, flags) {
+        return 18;
+    }
+    0
+}
+
+// Rules 19 to 21: A lines and conditions name each other, and conditions with a marked minor-cycle flag.
+fn line_rules<'a>(
+    alines: usize,
+    present: &'a [u8; 1040],
+    latched: &'a [u8; 1040],
+    desired: &'a [u8; 1040],
+    atask: &'a [u8; 1024],
+    apos: &'a [u8; 1024],
+    aflag: &'a [u8; 1024],
+    flags: &'a [u8; 129],
+) -> u8
+    requires { ⌜ LinesFit alines (now atask) (now apos) (now aflag) ⌝ }
+    ensures { λ r.
+        ⌜
+        r
+        ≡ firstFalse 19 (lineTests alines (now (present .entry)) (now (latched .entry)) (now (desired .entry)) (now (atask .entry)) (now (apos .entry)) (now (aflag .entry)) (marked (now (flags .entry))))
+        ⌝ }
+{
+    if !rigtests::named(alines, present, atask, apos) {
+        return 19;
+    }
+    let table = rigtests::place_owners(alines, atask, apos);
+    if !rigtests::owned(present, &table) {
+        return 20;
+    }
+    if !rigtests::minor_conditions(alines, latched, desired, atask, apos, aflag, flags, &table) {
+        return 21;
+    }
+    0
+}
+
+// Rules 22 to 25: sender and receiver differ; entries beyond the counts are 0.
+fn rest_rules<'a>(
+    tasks: u8,
+    alines: usize,
+    rows: usize,
+    controller: &'a [u8; 65],
+    priority: &'a [u8; 65],
+    privileged: &'a [u8; 65],
+    activation: &'a [u8; 65],
+    atask: &'a [u8; 1024],
+    apos: &'a [u8; 1024],
+    aflag: &'a [u8; 1024],
+    row: [Row; 64],
+) -> u8
+    requires { ⌜ rows ≤ 64 ⌝ }
+    ensures { λ r.
+        ⌜
+        r
+        ≡ firstFalse 22 (restTests tasks alines rows (now (controller .entry)) (now (priority .entry)) (now (privileged .entry)) (now (activation .entry)) (now (atask .entry)) (now (apos .entry)) (now (aflag .entry)) row)
+        ⌝ }
+{
+    if !differ(rows, row) {
+        return 22;
+    }
+    if !rigtests::task_zeros(tasks, controller, priority, privileged, activation) {
+        return 23;
+    }
+    if !rigtests::line_zeros(alines, atask, apos, aflag) {
+        return 24;
+    }
+    if !row_zeros(rows, row) {
+        return 25;
+    }
+    0
+}
+
+// The number of the first rule that the rig and its cycles break, 0 for none.
+pub fn broken(rig: Rig, cycles: [Cycle; 64]) -> u8
+    ensures { λ r. ⌜ r ≡ firstBroken rig cycles ⌝ }
+{
+    let a = counts(rig.tasks, rig.flags, rig.master, rig.alines, rig.rows);
+    if a != 0 {
+        return a;
+    }
+    let alines = rig.alines as usize;
+    let rows = rig.rows as usize;
+    let tasks = rig.tasks as usize;
+    let row = rig.row;
+    let b = sizes(
+        &rig.priority,
+        &rig.privileged,
+        &rig.present,
+        &rig.latched,
+        &rig.desired,
+        rows,
+        row,
+    );
+    if b != 0 {
+        return b;
+    }
+    let c = orders(alines, &rig.atask, &rig.apos, &rig.aflag, cycles);
+    if c != 0 {
+        return c;
+    }
+    let d = numbers(
+        rig.tasks,
+        rig.flags,
+        alines,
+        &rig.activation,
+        &rig.present,
+        &rig.atask,
+        &rig.apos,
+        &rig.aflag,
+        cycles,
+    );
+    if d != 0 {
+        return d;
+    }
+    let flags = minor_marks(cycles);
+    let e = task_rules(tasks, &rig.controller, &rig.activation, &flags);
+    if e != 0 {
+        return e;
+    }
+    let f = line_rules(
+        alines,
+        &rig.present,
+        &rig.latched,
+        &rig.desired,
+        &rig.atask,
+        &rig.apos,
+        &rig.aflag,
+        &flags,
+    );
+    if f != 0 {
+        return f;
+    }
+    rest_rules(
+        rig.tasks,
+        alines,
+        rows,
+        &rig.controller,
+        &rig.priority,
+        &rig.privileged,
+        &rig.activation,
+        &rig.atask,
+        &rig.apos,
+        &rig.aflag,
+        row,
+    )
+}
+
+// Whether the rig and its cycles obey every rule.
+pub fn right(rig: Rig, cycles: [Cycle; 64]) -> bool
+    ensures { λ r. ⌜ r ≡ rightB rig cycles ⌝ }
+{
+    broken(rig, cycles) == 0
 }

@@ -1,0 +1,75 @@
+use borrow.Author.Needs.{needs}
+use mathlib.Core.Path.{_≡_, refl, sym, _∙_, ap}
+use mathlib.Core.Bool.{true, false, not}
+use borrow.Author.Tests.{not-true, not-false, lt-leb, le-leb, ne-eqb, eq-eqb}
+use Prim.Native.Nat.{ℕ, _≤_, _-_, _+_}
+use native.Mathlib.Omega.{arith}
+use Rattle.laws.specs.All.{all, all-zero, all-next, all-not}
+use Rattle.rig.specs.Tests.{rowOne, rowsB}
+use Rattle.rig.proofs.rows_ok.Statement.{statement}
+use Rattle.rig.proofs.rows_ok.Tie as tie
+use Rattle.rig.proofs.rows_ok.Reads as reads
+use Rattle.rig.proofs.rows_ok.Lts as lts
+use Rattle.rig.proofs.row_ok.Reads as row-ok-reads
+
+abbrev Inv-loop : tie.InvT-loop
+Inv-loop n row k₀ k = (all k (rowOne row) ≡ true) × (k ≤ n)
+
+abbrev μ-loop : tie.MeasureT-loop
+μ-loop n row k₀ k = n - k
+
+-- src/lib.rt:164:5
+loop-holds : tie.Need-loop-holds Inv-loop μ-loop
+loop-holds c = (all-zero _, search needs)
+
+-- src/lib.rt:165:17
+mul-b : tie.Need-mul-b Inv-loop μ-loop
+mul-b c = search needs
+
+-- src/lib.rt:165:17
+array-copy-out-b : tie.Need-array-copy-out-b Inv-loop μ-loop
+array-copy-out-b c = search needs
+
+-- src/lib.rt:166:13
+row-ok-requires : tie.Need-row-ok-requires Inv-loop μ-loop
+row-ok-requires c κs = search needs
+
+-- src/lib.rt:167:13
+returns : tie.Need-returns Inv-loop μ-loop
+unfolding rowsB
+returns c = sym (all-not _ _ (c .before .before .before .before .loop .k) (c .before .before .before .loop-test .taken) (sym (c .before .row-ok .ensures) ∙ not-true _ (c .if1 .taken)))
+
+-- src/lib.rt:169:13
+add-k : tie.Need-add-k Inv-loop μ-loop
+add-k c = search needs
+
+-- src/lib.rt:164:5
+loop-less : tie.Need-loop-less Inv-loop μ-loop
+loop-less c = search needs
+
+-- src/lib.rt:164:5
+loop-again : tie.Need-loop-again Inv-loop μ-loop
+loop-again c = (all-next _ _ (c .before .before .before .before .loop .inv .0) (sym (c .before .row-ok .ensures) ∙ not-false _ (c .if1 .left)), search needs)
+
+-- src/lib.rt:159:1
+returns-2 : tie.Need-returns-2 Inv-loop μ-loop
+unfolding rowsB
+returns-2 c =
+    let e : c .before .loop .k ≡ c .before .before .args .n = omega arith in
+    sym (rw e at (c .before .loop .inv .0))
+
+pub rows-ok-spec : {M : Type 1} → statement M
+rows-ok-spec =
+    tie.close
+    (tie.spec
+    Inv-loop
+    μ-loop
+    loop-holds
+    mul-b
+    array-copy-out-b
+    row-ok-requires
+    returns
+    add-k
+    loop-less
+    loop-again
+    returns-2)

@@ -1,0 +1,54 @@
+use borrow.Author.Needs.{needs}
+use Rattle.rig.proofs.task_rules.Statement.{statement}
+use Rattle.rig.proofs.task_rules.Tie as tie
+use Rattle.rig.proofs.task_rules.Reads as reads
+use Rattle.rig.proofs.task_rules.Lts as lts
+use Rattle.rigtests.proofs.controllers.Reads as controllers-reads
+use Rattle.rigtests.proofs.flag_owners.Reads as flag-owners-reads
+use Rattle.rigtests.proofs.served.Reads as served-reads
+use Rattle.rigtests.proofs.unmarked.Reads as unmarked-reads
+
+-- src/lib.rt:389:9
+controllers-requires : tie.Need-controllers-requires
+controllers-requires c κs = search needs
+
+-- src/lib.rt:390:9
+returns : tie.Need-returns
+returns c = ?
+
+-- src/lib.rt:392:17
+flag-owners-requires : tie.Need-flag-owners-requires
+flag-owners-requires c κs = search needs
+
+-- src/lib.rt:393:9
+served-requires : tie.Need-served-requires
+served-requires c κs = search needs
+
+-- src/lib.rt:394:9
+returns-2 : tie.Need-returns-2
+returns-2 c = ?
+
+-- src/lib.rt:396:9
+unmarked-requires : tie.Need-unmarked-requires
+unmarked-requires c κs = search needs
+
+-- src/lib.rt:397:9
+returns-3 : tie.Need-returns-3
+returns-3 c = ?
+
+-- src/lib.rt:380:1
+returns-4 : tie.Need-returns-4
+returns-4 c = ?
+
+pub task-rules-spec : {M : Type 1} → statement M
+task-rules-spec =
+    tie.close
+    (tie.spec
+    controllers-requires
+    returns
+    flag-owners-requires
+    served-requires
+    returns-2
+    unmarked-requires
+    returns-3
+    returns-4)

@@ -1,0 +1,223 @@
+-- Each test of Tests.antt is true exactly when its rule of Rules.antt holds; all together, `rightB` is true of exactly the right
+-- rigs.
+use mathlib.Core.Path.{_≡_, refl, sym, _∙_, ap}
+use mathlib.Core.Logic.{_⊎_, inl, inr, ⊎-elim, _≢_, _↔_}
+use mathlib.Core.Bool.{Bool, true, false, not, cond, _&&_, _||_}
+use mathlib.Core.List.{List, [], _∷_, _++_}
+use Prim.Native.Nat.{ℕ, zero, suc, _+_, _-_, _*_, _≤_, _<_}
+use native.Mathlib.Omega.{arith}
+use lib.Dec.{eqb, leb, ltb}
+use lib.ListN.{length, getD}
+use borrow.Author.Tests.{eqb-true, eqb-false, eq-eqb, ne-eqb, leb-true, le-leb, ltb-true, lt-ltb}
+use Rattle.laws.specs.Cases.{by}
+use Rattle.laws.specs.Members.{In, in-at, at-in}
+use Rattle.laws.specs.All.{all, allOf, allOf-at, allOf-cons, allOf-nil}
+use Rattle.laws.specs.Any.{any}
+use Rattle.laws.specs.Decides.{Is, is-eqb, is-leb, is-ltb, is-and, is-or, is-not, is-else, is-then, is-if, is-all, is-any, is-said}
+use Rattle.rigtests.specs.Tests.{within, smallB, conditionsB, linesRiseB, cycleRises, conditionTasksB, linesB, cycleSmall, servesOneB, notMinorB, placeOf, namedB, usedB, minorConditionsB, taskZerosB, lineZerosB, risesTest}
+use Rattle.rigtests.specs.Laws.{serves-is}
+use Rattle.rig.specs.declared.Row.{Row}
+use Rattle.rig.specs.declared.Cycle.{Cycle}
+use Rattle.rig.specs.declared.Rig.{Rig}
+use Rattle.rig.specs.Rules.{at, place, noRow, noCycle, flagAt, rowAt, linePlace, Minor, periods, Priorities, Privileges, ConditionValues, Conditions, RowSizes, Rows, Rises, LineOrder, CycleOrder, ActivationNumbers, ConditionNumbers, LineNumbers, Lines, CycleNumbers, Controllers, ActivationServesOne, ActivationNotMinor, LineHasCondition, ConditionHasLine, MinorCondition, MinorConditions, SenderDiffers, NoTask, TaskZeros, NoLine, LineZeros, RowZeros, Shaped, Right}
+use Rattle.rig.specs.Tests.{listedB, rowTests, rowsB, cyclesRiseB, cyclesSmallB, minorB, differB, rowZeros, rowZero, rowZerosB, shapedTests}
+use Rattle.rig.specs.Marks.{minor-is}
+
+pub within-is : (low n high : ℕ) → Is (within low n high) ((low ≤ n) × (n ≤ high))
+within-is low n high = is-and (is-leb low n) (is-leb n high)
+
+pub small-is : (l : List ℕ) (top : ℕ) → Is (smallB l top) ((t : ℕ) → t < 65 → at l t ≤ top)
+unfolding smallB
+small-is l top = is-all 65 (λ t h. is-leb (at l t) top)
+
+-- ---- rows
+
+listed-is : (p : ℕ) → Is (listedB p) (In p periods)
+unfolding listedB
+listed-is p =
+    is-said (is-any 7 (λ i h. is-eqb (at periods i) p)) (λ w. at-in p periods (w .0) (w .1) (w .2))
+    (λ i. let w = in-at p periods i in (w .0, w .1, w .2))
+
+sizes-is : (b : Row) → Is (allOf (rowTests b)) (RowSizes b)
+unfolding rowTests
+sizes-is b =
+    ((λ e.
+      let k = allOf-at (rowTests b) e in
+      record {
+        sender = leb-true (b .sender) 31 (k 0);
+        sendersub = within-is 1 (b .sendersub) 30 .0 (k 1);
+        receiver = leb-true (b .receiver) 31 (k 2);
+        receiversub = within-is 1 (b .receiversub) 30 .0 (k 3);
+        words = within-is 1 (b .words) 32 .0 (k 4);
+        period = listed-is (b .period) .0 (k 5);
+        phase = ltb-true (b .phase) (b .period) (k 6);
+      }), (λ r.
+      allOf-cons _ _ (le-leb (b .sender) 31 (r .sender))
+          (allOf-cons _ _ (within-is 1 (b .sendersub) 30 .1 (r .sendersub))
+          (allOf-cons _ _ (le-leb (b .receiver) 31 (r .receiver))
+          (allOf-cons _ _ (within-is 1 (b .receiversub) 30 .1 (r .receiversub))
+          (allOf-cons _ _ (within-is 1 (b .words) 32 .1 (r .words))
+          (allOf-cons _ _ (listed-is (b .period) .1 (r .period))
+          (allOf-cons _ _ (lt-ltb (b .phase) (b .period) (r .phase)) allOf-nil))))))))
+
+row-zero-is : (b : Row) → Is (rowZero b) (b ≡ noRow)
+unfolding rowZero rowZeros
+row-zero-is b =
+    ((λ e.
+      let k = allOf-at (rowZeros b) e in
+      same b (eqb-true (b .sender) 0 (k 0)) (eqb-true (b .sendersub) 0 (k 1)) (eqb-true (b .receiver) 0 (k 2)) (eqb-true (b .receiversub) 0 (k 3))
+      (eqb-true (b .words) 0 (k 4)) (eqb-true (b .period) 0 (k 5)) (eqb-true (b .phase) 0 (k 6))), (λ e.
+      allOf-cons _ _ (eq-eqb (b .sender) 0 (ap (λ (x : Row). x .sender) e))
+          (allOf-cons _ _ (eq-eqb (b .sendersub) 0 (ap (λ (x : Row). x .sendersub) e))
+          (allOf-cons _ _ (eq-eqb (b .receiver) 0 (ap (λ (x : Row). x .receiver) e))
+          (allOf-cons _ _ (eq-eqb (b .receiversub) 0 (ap (λ (x : Row). x .receiversub) e))
+          (allOf-cons _ _ (eq-eqb (b .words) 0 (ap (λ (x : Row). x .words) e))
+          (allOf-cons _ _ (eq-eqb (b .period) 0 (ap (λ (x : Row). x .period) e))
+          (allOf-cons _ _ (eq-eqb (b .phase) 0 (ap (λ (x : Row). x .phase) e)) allOf-nil))))))))
+  where
+    same : (b : Row) → b .sender ≡ 0 → b .sendersub ≡ 0 → b .receiver ≡ 0 → b .receiversub ≡ 0 → b .words ≡ 0 → b .period ≡ 0 → b .phase ≡ 0 → b ≡ noRow
+    same b p q r s t u v =
+        ap
+        (λ (x : ℕ).
+          record { sender = x; sendersub = b .sendersub; receiver = b .receiver; receiversub = b .receiversub; words = b .words; period = b .period; phase = b .phase })
+        p
+        ∙ rw (q, r, s, t, u, v)
+
+-- ---- orders
+
+rises-is : (t p f u q h : ℕ) → Is (risesTest t p f u q h) (Rises t p f u q h)
+rises-is t p f u q h =
+    is-said (is-if (is-eqb t u) (is-if (is-eqb p q) (is-ltb f h) (is-ltb p q)) (is-ltb t u))
+    (λ w.
+      by (eqb t u)
+      (λ e.
+        let a = eqb-true t u e in
+        let v = w .0 a in
+        inr (a, by (eqb p q) (λ d. let c = eqb-true p q d in inr (c, v .0 c)) (λ d. inl (v .1 (eqb-false p q d)))))
+      (λ e. inl (w .1 (eqb-false t u e))))
+    (λ w.
+      ((λ a.
+        ⊎-elim (λ l. absurd (omega (arith, l)))
+            (λ v. ((λ c. ⊎-elim (λ l. absurd (omega (arith, l))) (λ y. y .1) (v .1)), (λ c. ⊎-elim (λ l. l) (λ y. absurd (c (y .0))) (v .1))))
+            w), (λ a. ⊎-elim (λ l. l) (λ v. absurd (a (v .0))) w)))
+
+cycle-is : (flags : List ℕ) → Is (cycleRises flags)
+    ((length flags ≡ 15) × ((i : ℕ) → i < 14 → at flags (i + 1) ≢ 0 → (at flags i ≢ 0) × (at flags i < at flags (i + 1))))
+unfolding cycleRises
+cycle-is flags =
+    is-and (is-eqb (length flags) 15)
+    (is-all 14 (λ i h. is-else (is-eqb (at flags (i + 1)) 0) (is-and (is-not (is-eqb (at flags i) 0)) (is-ltb (at flags i) (at flags (i + 1))))))
+
+-- ---- each rule
+
+module _ (g : Rig) (cycles : List Cycle) where
+  pub conditions-is : Is (conditionsB (g .present) (g .latched) (g .desired)) (Conditions g)
+  unfolding conditionsB
+  conditions-is =
+      is-all 1040 (λ p h.
+        is-said
+            (is-and (is-leb (at (g .present) p) 1)
+            (is-and (is-leb (at (g .latched) p) (at (g .present) p)) (is-leb (at (g .desired) p) (at (g .present) p))))
+            (λ w. record { present = w .0; latched = w .1 .0; desired = w .1 .1 })
+            (λ r. (r .present, (r .latched, r .desired))))
+
+  pub rows-is : Is (rowsB (g .rows) (g .row)) ((length (g .row) ≡ 64) × Rows g)
+  unfolding rowsB
+  rows-is = is-and (is-eqb (length (g .row)) 64) (is-all (g .rows) (λ k h. sizes-is (rowAt g k)))
+
+  pub line-order-is : Is (linesRiseB (g .alines) (g .atask) (g .apos) (g .aflag)) (LineOrder g)
+  unfolding linesRiseB
+  line-order-is =
+      is-said
+      (is-all (g .alines - 1) (λ k h.
+        rises-is (at (g .atask) k) (at (g .apos) k) (at (g .aflag) k) (at (g .atask) (k + 1)) (at (g .apos) (k + 1)) (at (g .aflag) (k + 1))))
+      (λ f k h. f k (omega arith))
+      (λ f k h. f k (omega arith))
+
+  pub cycle-order-is : Is (cyclesRiseB cycles)
+      ((length cycles ≡ 64) × (((c : ℕ) → c < 64 → length (getD cycles c noCycle .flags) ≡ 15) × CycleOrder cycles))
+  unfolding cyclesRiseB
+  cycle-order-is =
+      is-and (is-eqb (length cycles) 64)
+      (is-said (is-all 64 (λ c h. cycle-is (getD cycles c noCycle .flags)))
+      (λ f. ((λ c h. f c h .0), (λ c h. f c h .1)))
+      (λ w c h. (w .0 c h, w .1 c h)))
+
+  pub condition-numbers-is : Is (conditionTasksB (g .tasks) (g .present)) (ConditionNumbers g)
+  unfolding conditionTasksB
+  condition-numbers-is = is-all 1040 (λ p h. is-else (is-eqb (at (g .present) p) 0) (is-and (is-leb 16 p) (is-ltb p (16 * (g .tasks + 1)))))
+
+  pub lines-is : Is (linesB (g .alines) (g .tasks) (g .flags) (g .atask) (g .apos) (g .aflag)) (Lines g)
+  unfolding linesB
+  lines-is =
+      is-all (g .alines) (λ k h.
+        is-said
+            (is-and (within-is 1 (at (g .atask) k) (g .tasks))
+            (is-and (is-leb (at (g .apos) k) 15) (within-is 1 (at (g .aflag) k) (g .flags))))
+            (λ w. record { task = w .0; position = w .1 .0; flag = w .1 .1 })
+            (λ r. (r .task, (r .position, r .flag))))
+
+  pub cycle-numbers-is : Is (cyclesSmallB (g .flags) cycles) (CycleNumbers g cycles)
+  unfolding cyclesSmallB cycleSmall
+  cycle-numbers-is = is-all 64 (λ c h. is-all 15 (λ i b. is-leb (flagAt cycles c i) (g .flags)))
+
+  pub serves-one-is : Is (servesOneB (g .activation)) (ActivationServesOne g)
+  unfolding servesOneB
+  serves-one-is =
+      is-said (is-all 65 (λ t h. serves-is (g .activation) t)) (λ f t u h b n e. sym (f t h n u b (sym e)))
+      (λ f t h n u b e. sym (f t u h b n (sym e)))
+
+  pub not-minor-is : Is (notMinorB (g .activation) (minorB cycles)) (ActivationNotMinor g cycles)
+  unfolding notMinorB
+  not-minor-is = is-all 65 (λ t h. is-not (minor-is cycles (at (g .activation) t)))
+
+  pub line-has-condition-is : Is (namedB (g .alines) (g .present) (g .atask) (g .apos)) (LineHasCondition g)
+  unfolding namedB
+  line-has-condition-is = is-all (g .alines) (λ k h. is-eqb (at (g .present) (linePlace g k)) 1)
+
+  pub condition-has-line-is : Is (usedB (g .alines) (g .present) (g .atask) (g .apos)) (ConditionHasLine g)
+  unfolding usedB
+  condition-has-line-is =
+      is-all 1040 (λ p h. is-else (is-eqb (at (g .present) p) 0) (is-any (g .alines) (λ k b. is-eqb (linePlace g k) p)))
+
+  pub minor-conditions-is : Is (minorConditionsB (g .alines) (g .latched) (g .desired) (g .atask) (g .apos) (g .aflag) (minorB cycles)) (MinorConditions g cycles)
+  unfolding minorConditionsB
+  minor-conditions-is =
+      is-all (g .alines) (λ k h.
+        is-then (minor-is cycles (at (g .aflag) k))
+            (is-said
+            (is-and (is-all (g .alines) (λ j b. is-then (is-eqb (linePlace g j) (linePlace g k)) (is-eqb j k)))
+            (is-and (is-eqb (at (g .latched) (linePlace g k)) 0) (is-eqb (at (g .desired) (linePlace g k)) 1)))
+            (λ w. record { alone = w .0; unlatched = w .1 .0; desires = w .1 .1 })
+            (λ r. (r .alone, (r .unlatched, r .desires)))))
+
+  pub sender-differs-is : Is (differB (g .rows) (g .row)) (SenderDiffers g)
+  unfolding differB
+  sender-differs-is = is-all (g .rows) (λ k h. is-not (is-eqb (rowAt g k .sender) (rowAt g k .receiver)))
+
+  pub task-zeros-is : Is (taskZerosB (g .tasks) (g .controller) (g .priority) (g .privileged) (g .activation)) (TaskZeros g)
+  unfolding taskZerosB
+  task-zeros-is =
+      is-all 65 (λ t h.
+        is-else (within-is 1 t (g .tasks))
+            (is-said
+            (is-and (is-eqb (at (g .controller) t) 0)
+            (is-and (is-eqb (at (g .priority) t) 0) (is-and (is-eqb (at (g .privileged) t) 0) (is-eqb (at (g .activation) t) 0))))
+            (λ w. record { controller = w .0; priority = w .1 .0; privileged = w .1 .1 .0; activation = w .1 .1 .1 })
+            (λ r. (r .controller, (r .priority, (r .privileged, r .activation))))))
+
+  pub line-zeros-is : Is (lineZerosB (g .alines) (g .atask) (g .apos) (g .aflag)) (LineZeros g)
+  unfolding lineZerosB
+  line-zeros-is =
+      is-all 1024 (λ k h.
+        is-said
+            (is-else (is-ltb k (g .alines))
+            (is-and (is-eqb (at (g .atask) k) 0) (is-and (is-eqb (at (g .apos) k) 0) (is-eqb (at (g .aflag) k) 0))))
+            (λ f b. let w = f (λ y. omega arith) in record { task = w .0; position = w .1 .0; flag = w .1 .1 })
+            (λ f n. let r = f (omega (arith, n)) in (r .task, (r .position, r .flag))))
+
+  pub row-zeros-is : Is (rowZerosB (g .rows) (g .row)) (RowZeros g)
+  unfolding rowZerosB
+  row-zeros-is =
+      is-all 64 (λ k h.
+        is-said (is-else (is-ltb k (g .rows)) (row-zero-is (rowAt g k))) (λ f b. f (λ y. omega arith)) (λ f n. f (omega (arith, n))))

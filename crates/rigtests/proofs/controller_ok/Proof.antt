@@ -1,0 +1,47 @@
+use borrow.Author.Tests.{eq-eqb, ne-eqb, le-leb, lt-leb, lt-ltb, le-ltb}
+use mathlib.Core.Path.{_≡_, refl, sym, _∙_, ap}
+use mathlib.Core.Bool.{not}
+use Prim.Native.Nat.{ℕ, _-_}
+use native.Mathlib.Omega.{arith}
+use lib.Dec.{eqb}
+use Rattle.laws.specs.Cases.{and-go, and-stop}
+use Rattle.rigtests.specs.Tests.{at, climb}
+use borrow.Author.Needs.{needs}
+use Rattle.rigtests.proofs.controller_ok.Statement.{statement}
+use Rattle.rigtests.proofs.controller_ok.Tie as tie
+use Rattle.rigtests.proofs.controller_ok.Reads as reads
+use Rattle.rigtests.proofs.controller_ok.Lts as lts
+use Rattle.rigtests.proofs.climbed.Reads as climbed-reads
+use Rattle.rigtests.proofs.wide.Reads as wide-reads
+
+-- src/lib.rt:238:18
+element-copy-out-wide : tie.Need-element-copy-out-wide
+element-copy-out-wide c = search needs
+
+-- src/lib.rt:238:9
+wide-requires : tie.Need-wide-requires
+wide-requires c κs = search needs
+
+-- src/lib.rt:240:9
+returns : tie.Need-returns
+returns c = sym (and-stop _ (ap not (eq-eqb _ _ (sym (c .before .wide .ensures) ∙ c .if1 .taken))))
+
+-- src/lib.rt:242:28
+sub-climbed : tie.Need-sub-climbed
+sub-climbed c = search needs
+
+-- src/lib.rt:242:5
+climbed-requires : tie.Need-climbed-requires
+climbed-requires c κs = (search needs, (λ t i j. c .before .before .before .pre .1 .1 t i (omega arith)))
+
+-- src/lib.rt:229:1
+returns-2 : tie.Need-returns-2
+returns-2 c =
+    let a = c .before .before .before .before .args in
+    let q = c .before .before .wide .ensures in
+    ap (λ (n : ℕ). eqb n (c .before .before .wide .result)) (c .climbed .ensures) ∙ ap (λ (n : ℕ). eqb (climb (at (a .controller .now)) n 64 (a .t - 1)) n) q ∙ sym (and-go (ap not (ne-eqb _ _ (λ z. c .before .if1 .left (q ∙ z)))) refl)
+
+pub controller-ok-spec : {M : Type 1} → statement M
+controller-ok-spec =
+    tie.close
+    (tie.spec element-copy-out-wide wide-requires returns sub-climbed climbed-requires returns-2)

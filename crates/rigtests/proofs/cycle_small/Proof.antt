@@ -1,0 +1,64 @@
+use borrow.Author.Needs.{needs}
+use mathlib.Core.Path.{_≡_, refl, sym, _∙_, ap}
+use mathlib.Core.Bool.{true, false}
+use borrow.Author.Tests.{not-true, not-false, lt-leb, le-leb, ne-eqb, eq-eqb}
+use Prim.Native.Nat.{ℕ, _≤_, _-_, _+_}
+use native.Mathlib.Omega.{arith}
+use Rattle.laws.specs.All.{all, all-zero, all-next, all-not}
+use Rattle.rigtests.specs.Tests.{smallOne, cycleSmall}
+use Rattle.rigtests.proofs.cycle_small.Statement.{statement}
+use Rattle.rigtests.proofs.cycle_small.Tie as tie
+use Rattle.rigtests.proofs.cycle_small.Reads as reads
+use Rattle.rigtests.proofs.cycle_small.Lts as lts
+
+abbrev Inv-loop : tie.InvT-loop
+Inv-loop top flags i₀ i = (all i (smallOne flags top) ≡ true) × (i ≤ 15)
+
+abbrev μ-loop : tie.MeasureT-loop
+μ-loop top flags i₀ i = 15 - i
+
+-- src/lib.rt:207:5
+loop-holds : tie.Need-loop-holds Inv-loop μ-loop
+loop-holds c = (all-zero _, search needs)
+
+-- src/lib.rt:208:18
+element-copy-out-if1 : tie.Need-element-copy-out-if1 Inv-loop μ-loop
+element-copy-out-if1 c = search needs
+
+-- src/lib.rt:209:13
+returns : tie.Need-returns Inv-loop μ-loop
+unfolding cycleSmall
+returns c = sym (all-not _ _ (c .before .before .before .loop .i) (c .before .before .loop-test .taken) (lt-leb _ _ (c .if1 .taken)))
+
+-- src/lib.rt:211:13
+add-i : tie.Need-add-i Inv-loop μ-loop
+add-i c = search needs
+
+-- src/lib.rt:207:5
+loop-less : tie.Need-loop-less Inv-loop μ-loop
+loop-less c = search needs
+
+-- src/lib.rt:207:5
+loop-again : tie.Need-loop-again Inv-loop μ-loop
+loop-again c = (all-next _ _ (c .before .before .before .loop .inv .0) (le-leb _ _ (c .if1 .left)), search needs)
+
+-- src/lib.rt:203:1
+returns-2 : tie.Need-returns-2 Inv-loop μ-loop
+unfolding cycleSmall
+returns-2 c =
+    let e : c .before .loop .i ≡ 15 = omega arith in
+    sym (rw e at (c .before .loop .inv .0))
+
+pub cycle-small-spec : {M : Type 1} → statement M
+cycle-small-spec =
+    tie.close
+    (tie.spec
+    Inv-loop
+    μ-loop
+    loop-holds
+    element-copy-out-if1
+    returns
+    add-i
+    loop-less
+    loop-again
+    returns-2)

@@ -1,0 +1,17 @@
+use borrow.Author.Needs.{needs}
+use borrow.Author.Tests.{eq-eqb, ne-eqb, le-leb, lt-leb, lt-ltb, le-ltb}
+use Rattle.rigtests.proofs.in_range.Statement.{statement}
+use Rattle.rigtests.proofs.in_range.Tie as tie
+use Rattle.rigtests.proofs.in_range.Reads as reads
+use Rattle.rigtests.proofs.in_range.Lts as lts
+
+-- src/lib.rt:30:1
+returns : tie.Need-returns
+returns c = simp (le-leb _ _ (c .if1 .taken))
+
+-- src/lib.rt:30:1
+returns-2 : tie.Need-returns-2
+returns-2 c = simp (lt-leb _ _ (c .if1 .left))
+
+pub in-range-spec : {M : Type 1} → statement M
+in-range-spec = tie.close (tie.spec returns returns-2)

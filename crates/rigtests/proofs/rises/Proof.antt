@@ -1,0 +1,21 @@
+use borrow.Author.Needs.{needs}
+use borrow.Author.Tests.{eq-eqb, ne-eqb, le-leb, lt-leb, lt-ltb, le-ltb}
+use Rattle.rigtests.proofs.rises.Statement.{statement}
+use Rattle.rigtests.proofs.rises.Tie as tie
+use Rattle.rigtests.proofs.rises.Reads as reads
+use Rattle.rigtests.proofs.rises.Lts as lts
+
+-- src/lib.rt:82:1
+returns : tie.Need-returns
+returns c = simp (eq-eqb _ _ (c .before .if1 .taken), eq-eqb _ _ (c .if2 .taken))
+
+-- src/lib.rt:82:1
+returns-2 : tie.Need-returns-2
+returns-2 c = simp (eq-eqb _ _ (c .before .if1 .taken), ne-eqb _ _ (c .if2 .left))
+
+-- src/lib.rt:82:1
+returns-3 : tie.Need-returns-3
+returns-3 c = simp (ne-eqb _ _ (c .if1 .left))
+
+pub rises-spec : {M : Type 1} → statement M
+rises-spec = tie.close (tie.spec returns returns-2 returns-3)

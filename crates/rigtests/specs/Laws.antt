@@ -1,0 +1,167 @@
+-- The tests that go by a table say what the tests of Tests.antt say.
+use mathlib.Core.Path.{_≡_, refl, sym, _∙_, ap}
+use mathlib.Core.Logic.{_⊎_, inl, inr, ⊎-elim, _≢_, _↔_}
+use mathlib.Core.Bool.{Bool, true, false, not, cond, _&&_, _||_, false≢true}
+use mathlib.Core.List.{List}
+use Prim.Native.Nat.{ℕ, zero, suc, _+_, _-_, _≤_, _<_}
+use native.Mathlib.Omega.{arith}
+use lib.Dec.{eqb, leb, ltb}
+use borrow.Author.Tests.{eqb-true, eqb-false, eq-eqb, ne-eqb, lt-ltb}
+use Rattle.laws.specs.Cases.{by, by-bool, or-yes}
+use Rattle.laws.specs.All.{all, all-at, all-all}
+use Rattle.laws.specs.Any.{any}
+use Rattle.laws.specs.Decides.{Is, is-eqb, is-and, is-or, is-not, is-else, is-then, is-if, is-all, is-any, is-said, is-same}
+use Rattle.laws.specs.Owners.{owners, owner-key, owner-some}
+use Rattle.rigtests.specs.Tests.{at, placeOf, aloneOne, servesOne, servesOneB, isPlace, usedOne, usedB, onlyOne, minorConditionOne, minorConditionsB, lineZeroOne}
+use Rattle.rigtests.specs.Tables.{Placed, LinesFit, Owned, marked, servedOne, servedB, hasOwnerOne, hasOwnerB, minorTest, minorOwnerOne, minorOwnerB}
+
+-- the lines before the first that must be 0
+pub zeros-start : (n : ℕ) (atask apos aflag : List ℕ) → all n (lineZeroOne n atask apos aflag) ≡ true
+zeros-start n atask apos aflag =
+    all-all n (lineZeroOne n atask apos aflag)
+    (λ k h. sym (or-yes (ltb k n) (eqb (at atask k) 0 && (eqb (at apos k) 0 && eqb (at aflag k) 0)) (lt-ltb k n h)))
+
+-- what a number that is not 0 is one more than
+pub some-suc : (n : ℕ) → n ≢ 0 → (i : ℕ) × (n ≡ suc i)
+some-suc zero h = absurd (h refl)
+some-suc (suc n) h = (n, refl)
+
+-- an activation flag serves one task
+abbrev pub Serves : List ℕ → ℕ → Type 0
+Serves activation t = at activation t ≢ 0 → (u : ℕ) → u < 65 → at activation u ≡ at activation t → u ≡ t
+
+pub serves-is : (activation : List ℕ) (t : ℕ) → Is (servesOne activation t) (Serves activation t)
+serves-is activation t =
+    is-else (is-eqb (at activation t) 0)
+    (is-all 65 (λ u h.
+      is-said (is-or (is-eqb u t) (is-not (is-eqb (at activation u) (at activation t))))
+          (λ w e. ⊎-elim (λ q. q) (λ n. absurd (n e)) w)
+          (λ f. by (eqb u t) (λ e. inl (eqb-true u t e)) (λ e. inr (λ q. eqb-false u t e (f q))))))
+
+-- it is owned by its task exactly where it serves no other
+module _ (activation : List ℕ) (small : (t : ℕ) → t < 65 → at activation t ≤ 128) where
+  abbrev table : List ℕ
+  table = owners 65 (at activation) 129
+
+  served-is : ((t : ℕ) → t < 65 → Is (servedOne activation table t) (at activation t ≢ 0 → at table (at activation t) ≡ t + 1))
+  served-is t h = is-else (is-eqb (at activation t) 0) (is-eqb (at table (at activation t)) (t + 1))
+
+  pub served-law : servedB activation (owners 65 (at activation) 129) ≡ servesOneB activation
+  unfolding servedB servesOneB
+  served-law = is-same (is-said (is-all 65 served-is) there back) (is-all 65 (λ t h. serves-is activation t))
+    where
+      there : ((t : ℕ) → t < 65 → at activation t ≢ 0 → at table (at activation t) ≡ t + 1) → (t : ℕ) → t < 65 → Serves activation t
+      there f t h n u g e = omega (arith, f t h n, f u g (λ z. n (sym e ∙ z)), ap (at table) e)
+
+      back : ((t : ℕ) → t < 65 → Serves activation t) → (t : ℕ) → t < 65 → at activation t ≢ 0 → at table (at activation t) ≡ t + 1
+      back f t h n =
+          let s = some-suc (at table (at activation t)) (owner-some (at activation) 129 65 t h (omega (arith, small t h))) in
+          let k = owner-key (at activation) 129 65 (at activation t) (s .0) (s .1) in
+          omega (arith, s .1, f t h n (s .0) (k .0) (k .1))
+
+-- the table of the conditions' last A lines
+module _ (n : ℕ) (atask apos : List ℕ) (placed : Placed n atask apos) where
+  abbrev lasts : List ℕ
+  lasts = owners n (placeOf atask apos) 1040
+
+  last-some : (k : ℕ) → k < n → at lasts (placeOf atask apos k) ≢ 0
+  last-some k h = owner-some (placeOf atask apos) 1040 n k h (placed .low k h)
+
+  last-few : (k : ℕ) → k < n → at lasts (placeOf atask apos k) ≤ n
+  last-few k h =
+      let s = some-suc (at lasts (placeOf atask apos k)) (last-some k h) in
+      omega (arith, s .1, owner-key (placeOf atask apos) 1040 n (placeOf atask apos k) (s .0) (s .1))
+
+  pub lasts-owned : (aflag : List ℕ) → ((k : ℕ) → k < n → at aflag k ≤ 128) → Owned n atask apos aflag (owners n (placeOf atask apos) 1040)
+  lasts-owned aflag flags = record { fit = record { placed = placed; flags = flags }; some = last-some; few = last-few }
+
+  -- a condition has an owner exactly where it has an A line
+  has-is : (p : ℕ) → p < 1040 → Is (not (eqb (at lasts p) 0)) ((k : ℕ) × (k < n) × (placeOf atask apos k ≡ p))
+  has-is p h =
+      is-said (is-not (is-eqb (at lasts p) 0))
+      (λ z. let s = some-suc (at lasts p) z in let k = owner-key (placeOf atask apos) 1040 n p (s .0) (s .1) in (s .0, k .0, k .1))
+      (λ w z. last-some (w .0) (w .1) (ap (at lasts) (w .2) ∙ z))
+
+  pub owned-law : (present : List ℕ) → hasOwnerB present (owners n (placeOf atask apos) 1040) ≡ usedB n present atask apos
+  unfolding hasOwnerB usedB
+  owned-law present =
+      is-same
+      (is-all 1040 (λ p h. is-else (is-eqb (at present p) 0) (has-is p h)))
+      (is-all 1040 (λ p h. is-else (is-eqb (at present p) 0) (is-any n (λ k g. is-eqb (placeOf atask apos k) p))))
+
+  -- the last line of the condition that line k names
+  lastOf : (k : ℕ) → k < n → (i : ℕ) × (at lasts (placeOf atask apos k) ≡ suc i) × (i < n) × (placeOf atask apos i ≡ placeOf atask apos k)
+  lastOf k h =
+      let s = some-suc (at lasts (placeOf atask apos k)) (last-some k h) in
+      let w = owner-key (placeOf atask apos) 1040 n (placeOf atask apos k) (s .0) (s .1) in
+      (s .0, s .1, w .0, w .1)
+
+  module _ (latched desired aflag flags : List ℕ) where
+    abbrev Marked : ℕ → Type 0
+    Marked k = at flags (at aflag k) ≢ 0
+
+    -- the line is alone with its condition, which is unlatched and desires on
+    abbrev Alone : ℕ → Type 0
+    Alone k =
+        Marked k →
+        ((j : ℕ) → j < n → placeOf atask apos j ≡ placeOf atask apos k → j ≡ k)
+        × ((at latched (placeOf atask apos k) ≡ 0) × (at desired (placeOf atask apos k) ≡ 1))
+
+    alone-is : (k : ℕ) → k < n → Is (minorConditionOne n latched desired atask apos aflag (marked flags) k) (Alone k)
+    alone-is k h =
+        is-then (is-not (is-eqb (at flags (at aflag k)) 0))
+        (is-and
+        (is-all n (λ j g. is-said (is-then (is-eqb (placeOf atask apos j) (placeOf atask apos k)) (is-eqb j k)) (λ f. f) (λ f. f)))
+        (is-and (is-eqb (at latched (placeOf atask apos k)) 0) (is-eqb (at desired (placeOf atask apos k)) 1)))
+
+    -- what the test by the table says
+    abbrev Last : ℕ → Type 0
+    Last k =
+        (at flags (at aflag k) ≡ 0 → (at lasts (placeOf atask apos k) ≡ k + 1) ⊎ (at flags (at aflag (at lasts (placeOf atask apos k) - 1)) ≡ 0))
+        × (Marked k
+        → (at lasts (placeOf atask apos k) ≡ k + 1)
+        × ((at latched (placeOf atask apos k) ≡ 0) × (at desired (placeOf atask apos k) ≡ 1)))
+
+    last-is : (k : ℕ) → k < n → Is (minorOwnerOne latched desired atask apos aflag flags lasts k) (Last k)
+    last-is k h =
+        is-if (is-eqb (at flags (at aflag k)) 0)
+        (is-or (is-eqb (at lasts (placeOf atask apos k)) (k + 1)) (is-eqb (at flags (at aflag (at lasts (placeOf atask apos k) - 1))) 0))
+        (is-and (is-eqb (at lasts (placeOf atask apos k)) (k + 1))
+        (is-and (is-eqb (at latched (placeOf atask apos k)) 0) (is-eqb (at desired (placeOf atask apos k)) 1)))
+
+    there : ((k : ℕ) → k < n → Last k) → (k : ℕ) → k < n → Alone k
+    there f k h m =
+        let w = f k h .1 m in
+        ((λ j g e. same j g e (ap (at lasts) e ∙ w .0)), w .1)
+      where
+        same : (j : ℕ) → j < n → placeOf atask apos j ≡ placeOf atask apos k → at lasts (placeOf atask apos j) ≡ k + 1 → j ≡ k
+        same j g e q =
+            by (eqb (at flags (at aflag j)) 0)
+            (λ z. ⊎-elim (λ r. omega (arith, q, r))
+            (λ r. absurd (m (ap (λ (i : ℕ). at flags (at aflag i)) (omega (arith, q)) ∙ r)))
+            (f j g .0 (eqb-true (at flags (at aflag j)) 0 z)))
+            (λ z. omega (arith, q, f j g .1 (eqb-false (at flags (at aflag j)) 0 z) .0))
+
+    back : ((k : ℕ) → k < n → Alone k) → (k : ℕ) → k < n → Last k
+    back f k h =
+        let w = lastOf k h in (
+          (λ z.
+              by (eqb (at flags (at aflag (w .0))) 0)
+              (λ e. inr (ap (λ (i : ℕ). at flags (at aflag i)) (omega (arith, w .1)) ∙ eqb-true (at flags (at aflag (w .0))) 0 e))
+              (λ e. inl (omega (arith, w .1, f (w .0) (w .2) (eqb-false (at flags (at aflag (w .0))) 0 e) .0 k h (sym (w .3)))))),
+          (λ m.
+              let a = f k h m in
+              (omega (arith, w .1, a .0 (w .0) (w .2) (w .3)), a .1)),
+        )
+
+    pub minor-law : minorOwnerB n latched desired atask apos aflag flags (owners n (placeOf atask apos) 1040)
+        ≡ minorConditionsB n latched desired atask apos aflag (marked flags)
+    unfolding minorOwnerB minorConditionsB
+    minor-law = is-same (is-said (is-all n last-is) there back) (is-all n alone-is)
+
+-- what is read of the tables for one A line, by the names that the code gives it
+pub minor-read : (latched desired atask apos aflag flags table : List ℕ) (k p owner mine other : ℕ) → p ≡ placeOf atask apos k → owner ≡ at table p
+    → mine ≡ at aflag k → other ≡ at aflag (owner - 1)
+    → minorOwnerOne latched desired atask apos aflag flags table k
+    ≡ minorTest (eqb owner (k + 1)) (at flags mine) (at flags other) (at latched p) (at desired p)
+minor-read latched desired atask apos aflag flags table k p owner mine other a b c d = rw (d, c, b, a)

@@ -1,0 +1,4 @@
+pub mod Tests
+pub mod Tables
+pub mod Climb
+pub mod Laws

@@ -1,0 +1,528 @@
+// The tests of a rig's tables of numbers, each a loop over lent arrays whose contract is the test that it computes. Each takes
+// time linear in its tables: what would compare every entry with every other goes by a table of owners or of marks.
+ghost use mathlib.Core.Path.{_≡_};
+ghost use mathlib.Core.Bool.{not, cond, _&&_, _||_};
+ghost use Prim.Native.Nat.{ℕ, _+_, _-_, _*_, _<_, _≤_};
+ghost use lib.Dec.{eqb, ltb, leb};
+ghost use lib.ListN.{getD};
+ghost use Rattle.laws.specs.Owners.{owners, marks};
+ghost use Rattle.rigtests.specs.Tests.{at, place, within, smallB, conditionTest, conditionsB, risesTest, linesRiseB, flagTest, cycleRises, conditionTaskTest, conditionTasksB, lineTest, linesB, cycleSmall, climb, controllersB, notMinorB, placeOf, namedB, taskZeroTest, taskZerosB, lineZerosB};
+ghost use Rattle.rigtests.specs.Tables.{marked, servedB, hasOwnerB, minorTest, minorOwnerB, Low, Placed, Owned};
+
+pub fn wide(x: u8) -> usize
+    ensures { λ r. ⌜ r ≡ x ⌝ }
+{
+    x as usize
+}
+
+pub fn wide16(x: u16) -> usize
+    ensures { λ r. ⌜ r ≡ x ⌝ }
+{
+    x as usize
+}
+
+pub fn place_of(task: u8, position: u8) -> usize
+    ensures { λ r. ⌜ r ≡ place task position ⌝ }
+{
+    16 * (task as usize) + (position as usize)
+}
+
+pub fn in_range(low: u8, n: u8, high: u8) -> bool
+    ensures { λ r. ⌜ r ≡ within low n high ⌝ }
+{
+    if low <= n { n <= high } else { false }
+}
+
+// Each entry is at most top.
+pub fn small(l: &[u8; 65], top: u8) -> bool
+    ensures { λ r. ⌜ r ≡ smallB (now (l .entry)) top ⌝ }
+{
+    let mut t: usize = 0;
+    while t < 65 {
+        if top < l[t] {
+            return false;
+        }
+        t = t + 1;
+    }
+    true
+}
+
+fn condition_ok(present: u8, latched: u8, desired: u8) -> bool
+    ensures { λ r. ⌜ r ≡ conditionTest present latched desired ⌝ }
+{
+    if present <= 1 {
+        if latched <= present {
+            desired <= present
+        } else {
+            false
+        }
+    } else {
+        false
+    }
+}
+
+pub fn conditions<'a>(
+    present: &'a [u8; 1040],
+    latched: &'a [u8; 1040],
+    desired: &'a [u8; 1040],
+) -> bool
+    ensures { λ r. ⌜ r ≡ conditionsB (now (present .entry)) (now (latched .entry)) (now (desired .entry)) ⌝ }
+{
+    let mut p: usize = 0;
+    while p < 1040 {
+        if !condition_ok(present[p], latched[p], desired[p]) {
+            return false;
+        }
+        p = p + 1;
+    }
+    true
+}
+
+// One A line before the next: by task, then position, then flag.
+fn rises(t: u8, p: u8, f: u8, u: u8, q: u8, h: u8) -> bool
+    ensures { λ r. ⌜ r ≡ risesTest t p f u q h ⌝ }
+{
+    if t == u {
+        if p == q { f < h } else { p < q }
+    } else {
+        t < u
+    }
+}
+
+pub fn lines_rise<'a>(
+    n: usize,
+    atask: &'a [u8; 1024],
+    apos: &'a [u8; 1024],
+    aflag: &'a [u8; 1024],
+) -> bool
+    requires { ⌜ n ≤ 1024 ⌝ }
+    ensures { λ r. ⌜ r ≡ linesRiseB n (now (atask .entry)) (now (apos .entry)) (now (aflag .entry)) ⌝ }
+{
+    let mut k: usize = 0;
+    while k + 1 < n {
+        if !rises(
+            atask[k],
+            apos[k],
+            aflag[k],
+            atask[k + 1],
+            apos[k + 1],
+            aflag[k + 1],
+        ) {
+            return false;
+        }
+        k = k + 1;
+    }
+    true
+}
+
+fn flag_rises(f: u8, h: u8) -> bool
+    ensures { λ r. ⌜ r ≡ flagTest f h ⌝ }
+{
+    if h == 0 {
+        true
+    } else {
+        if f != 0 { f < h } else { false }
+    }
+}
+
+// The flags of one cycle rise, and nothing stands behind the last.
+pub fn cycle_rises(flags: [u8; 15]) -> bool
+    ensures { λ r. ⌜ r ≡ cycleRises flags ⌝ }
+{
+    let mut i: usize = 0;
+    while i < 14 {
+        if !flag_rises(flags[i], flags[i + 1]) {
+            return false;
+        }
+        i = i + 1;
+    }
+    true
+}
+
+fn condition_task_ok(top: usize, present: u8, p: usize) -> bool
+    ensures { λ r. ⌜ r ≡ (eqb present 0 || (leb 16 p && ltb p top)) ⌝ }
+{
+    if present == 0 {
+        true
+    } else {
+        if 16 <= p { p < top } else { false }
+    }
+}
+
+// No condition is of a task above the count.
+pub fn condition_tasks(tasks: u8, present: &[u8; 1040]) -> bool
+    ensures { λ r. ⌜ r ≡ conditionTasksB tasks (now (present .entry)) ⌝ }
+{
+    let top = 16 * (tasks as usize + 1);
+    let mut p: usize = 0;
+    while p < 1040 {
+        if !condition_task_ok(top, present[p], p) {
+            return false;
+        }
+        p = p + 1;
+    }
+    true
+}
+
+fn line_ok(tasks: u8, flags: u8, t: u8, p: u8, f: u8) -> bool
+    ensures { λ r. ⌜ r ≡ lineTest tasks flags t p f ⌝ }
+{
+    if in_range(1, t, tasks) {
+        if p <= 15 {
+            in_range(1, f, flags)
+        } else {
+            false
+        }
+    } else {
+        false
+    }
+}
+
+// The numbers of each A line are within the counts.
+pub fn lines<'a>(
+    n: usize,
+    tasks: u8,
+    flags: u8,
+    atask: &'a [u8; 1024],
+    apos: &'a [u8; 1024],
+    aflag: &'a [u8; 1024],
+) -> bool
+    requires { ⌜ n ≤ 1024 ⌝ }
+    ensures { λ r. ⌜ r ≡ linesB n tasks flags (now (atask .entry)) (now (apos .entry)) (now (aflag .entry)) ⌝ }
+{
+    let mut k: usize = 0;
+    while k < n {
+        if !line_ok(tasks, flags, atask[k], apos[k], aflag[k]) {
+            return false;
+        }
+        k = k + 1;
+    }
+    true
+}
+
+pub fn cycle_small(top: u8, flags: &[u8; 15]) -> bool
+    ensures { λ r. ⌜ r ≡ cycleSmall top (now (flags .entry)) ⌝ }
+{
+    let mut i: usize = 0;
+    while i < 15 {
+        if top < flags[i] {
+            return false;
+        }
+        i = i + 1;
+    }
+    true
+}
+
+// Up from task x, controller by controller, while the number is above c. Over all tasks of a right rig this takes no more
+// steps than there are tasks, since the next task's path leaves out what was climbed past.
+fn climbed(controller: &[u8; 65], c: usize, x: usize) -> usize
+    requires { ⌜ (x ≤ 64) × Low (now controller) (x + 1) ⌝ }
+    ensures { λ r. ⌜ r ≡ climb (at (now (controller .entry))) c 64 x ⌝ }
+{
+    let mut y = x;
+    while c < y {
+        y = wide(controller[y]);
+    }
+    y
+}
+
+fn controller_ok(controller: &[u8; 65], t: usize) -> bool
+    requires { ⌜ (1 < t) × ((t < 65) × Low (now controller) t) ⌝ }
+    ensures { λ r.
+        ⌜
+        r
+        ≡ (not (eqb (at (now (controller .entry)) t) 0)
+        && eqb (climb (at (now (controller .entry))) (at (now (controller .entry)) t) 64 (t - 1)) (at (now (controller .entry)) t))
+        ⌝ }
+{
+    let c = wide(controller[t]);
+    if c == 0 {
+        return false;
+    }
+    climbed(controller, c, t - 1) == c
+}
+
+// Task 1 has controller 0; every other controller is the previous task or one of that task's ancestors.
+pub fn controllers(tasks: usize, controller: &[u8; 65]) -> bool
+    requires { ⌜ (1 ≤ tasks) × (tasks ≤ 64) ⌝ }
+    ensures { λ r. ⌜ r ≡ controllersB tasks (now (controller .entry)) ⌝ }
+{
+    if controller[1] != 0 {
+        return false;
+    }
+    let mut t: usize = 2;
+    while t < tasks + 1 {
+        if !controller_ok(controller, t) {
+            return false;
+        }
+        t = t + 1;
+    }
+    true
+}
+
+// Whose activation flag each flag is: the task's number and 1 more, 0 for none.
+pub fn flag_owners(activation: &[u8; 65]) -> [u8; 129]
+    requires { ⌜ ((t : ℕ) → t < 65 → at (now activation) t ≤ 128) ⌝ }
+    ensures { λ r. ⌜ r ≡ owners 65 (at (now (activation .entry))) 129 ⌝ }
+{
+    let mut table = [0u8; 129];
+    let mut t: usize = 0;
+    while t < 65 {
+        let f = wide(activation[t]);
+        table[f] = (t + 1) as u8;
+        t = t + 1;
+    }
+    table
+}
+
+fn served_ok(flag: u8, owner: u8, t: usize) -> bool
+    requires { ⌜ t < 65 ⌝ }
+    ensures { λ r. ⌜ r ≡ (eqb flag 0 || eqb owner (t + 1)) ⌝ }
+{
+    if flag == 0 {
+        true
+    } else {
+        wide(owner) == t + 1
+    }
+}
+
+// Each activation flag is owned by the task that has it.
+pub fn served<'a>(activation: &'a [u8; 65], table: &'a [u8; 129]) -> bool
+    requires { ⌜ ((t : ℕ) → t < 65 → at (now activation) t ≤ 128) ⌝ }
+    ensures { λ r. ⌜ r ≡ servedB (now (activation .entry)) (now (table .entry)) ⌝ }
+{
+    let mut t: usize = 0;
+    while t < 65 {
+        let f = wide(activation[t]);
+        if !served_ok(activation[t], table[f], t) {
+            return false;
+        }
+        t = t + 1;
+    }
+    true
+}
+
+// Marks each flag of one cycle, and 0 for the places behind its last.
+pub fn mark_cycle(flags: &[u8; 15], table: &mut [u8; 129])
+    requires { ⌜ ((i : ℕ) → i < 15 → at (now flags) i ≤ 128) ⌝ }
+    ensures { λ r. ⌜ now (table .exit) ≡ marks 15 (at (now (flags .entry))) (now (table .entry)) ⌝ }
+{
+    let mut i: usize = 0;
+    while i < 15 {
+        let f = wide(flags[i]);
+        table[f] = 1;
+        i = i + 1;
+    }
+}
+
+// No activation flag is marked.
+pub fn unmarked<'a>(activation: &'a [u8; 65], table: &'a [u8; 129]) -> bool
+    requires { ⌜ ((t : ℕ) → t < 65 → at (now activation) t ≤ 128) ⌝ }
+    ensures { λ r. ⌜ r ≡ notMinorB (now (activation .entry)) (marked (now (table .entry))) ⌝ }
+{
+    let mut t: usize = 0;
+    while t < 65 {
+        let f = wide(activation[t]);
+        if table[f] != 0 {
+            return false;
+        }
+        t = t + 1;
+    }
+    true
+}
+
+// Each A line names a condition with a C line.
+pub fn named<'a>(
+    n: usize,
+    present: &'a [u8; 1040],
+    atask: &'a [u8; 1024],
+    apos: &'a [u8; 1024],
+) -> bool
+    requires { ⌜ Placed n (now atask) (now apos) ⌝ }
+    ensures { λ r. ⌜ r ≡ namedB n (now (present .entry)) (now (atask .entry)) (now (apos .entry)) ⌝ }
+{
+    let mut k: usize = 0;
+    while k < n {
+        let p = place_of(atask[k], apos[k]);
+        if present[p] != 1 {
+            return false;
+        }
+        k = k + 1;
+    }
+    true
+}
+
+// The last A line of each condition, counted from 1; 0 for none.
+pub fn place_owners<'a>(n: usize, atask: &'a [u8; 1024], apos: &'a [u8; 1024]) -> [u16; 1040]
+    requires { ⌜ Placed n (now atask) (now apos) ⌝ }
+    ensures { λ r. ⌜ r ≡ owners n (placeOf (now (atask .entry)) (now (apos .entry))) 1040 ⌝ }
+{
+    let mut table = [0u16; 1040];
+    let mut k: usize = 0;
+    while k < n {
+        let p = place_of(atask[k], apos[k]);
+        table[p] = (k + 1) as u16;
+        k = k + 1;
+    }
+    table
+}
+
+fn owned_ok(present: u8, owner: u16) -> bool
+    ensures { λ r. ⌜ r ≡ (eqb present 0 || not (eqb owner 0)) ⌝ }
+{
+    if present == 0 { true } else { owner != 0 }
+}
+
+// Each condition has an owner.
+pub fn owned<'a>(present: &'a [u8; 1040], table: &'a [u16; 1040]) -> bool
+    ensures { λ r. ⌜ r ≡ hasOwnerB (now (present .entry)) (now (table .entry)) ⌝ }
+{
+    let mut p: usize = 0;
+    while p < 1040 {
+        if !owned_ok(present[p], table[p]) {
+            return false;
+        }
+        p = p + 1;
+    }
+    true
+}
+
+// An A line whose own flag, or the flag of the condition's last line, is a minor-cycle flag.
+fn minor_ok(last: bool, mine: u8, other: u8, latched: u8, desired: u8) -> bool
+    ensures { λ r. ⌜ r ≡ minorTest last mine other latched desired ⌝ }
+{
+    if mine == 0 {
+        if last { true } else { other == 0 }
+    } else {
+        if last {
+            if latched == 0 { desired == 1 } else { false }
+        } else {
+            false
+        }
+    }
+}
+
+// A condition with a minor-cycle flag has no other flag, is unlatched and desires on; flags are the marks of minor-cycle
+// flags, table the conditions' last lines.
+pub fn minor_conditions<'a>(
+    n: usize,
+    latched: &'a [u8; 1040],
+    desired: &'a [u8; 1040],
+    atask: &'a [u8; 1024],
+    apos: &'a [u8; 1024],
+    aflag: &'a [u8; 1024],
+    flags: &'a [u8; 129],
+    table: &'a [u16; 1040],
+) -> bool
+    requires { ⌜ Owned n (now atask) (now apos) (now aflag) (now table) ⌝ }
+    ensures { λ r.
+        ⌜
+        r
+        ≡ minorOwnerB n (now (latched .entry)) (now (desired .entry)) (now (atask .entry)) (now (apos .entry)) (now (aflag .entry)) (now (flags .entry)) (now (table .entry))
+        ⌝ }
+{
+    let mut k: usize = 0;
+    while k < n {
+        let p = place_of(atask[k], apos[k]);
+        let owner = wide16(table[p]);
+        let mine = wide(aflag[k]);
+        let other = wide(aflag[owner - 1]);
+        if !minor_ok(
+            owner == k + 1,
+            flags[mine],
+            flags[other],
+            latched[p],
+            desired[p],
+        ) {
+            return false;
+        }
+        k = k + 1;
+    }
+    true
+}
+
+fn is_task(tasks: u8, t: usize) -> bool
+    ensures { λ r. ⌜ r ≡ within 1 t tasks ⌝ }
+{
+    if 1 <= t { t <= wide(tasks) } else { false }
+}
+
+fn four_zeros(a: u8, b: u8, c: u8, d: u8) -> bool
+    ensures { λ r. ⌜ r ≡ (eqb a 0 && (eqb b 0 && (eqb c 0 && eqb d 0))) ⌝ }
+{
+    if a == 0 {
+        if b == 0 {
+            if c == 0 { d == 0 } else { false }
+        } else {
+            false
+        }
+    } else {
+        false
+    }
+}
+
+fn task_zero(tasks: u8, t: usize, a: u8, b: u8, c: u8, d: u8) -> bool
+    ensures { λ r. ⌜ r ≡ taskZeroTest tasks t a b c d ⌝ }
+{
+    if is_task(tasks, t) {
+        true
+    } else {
+        four_zeros(a, b, c, d)
+    }
+}
+
+pub fn task_zeros<'a>(
+    tasks: u8,
+    controller: &'a [u8; 65],
+    priority: &'a [u8; 65],
+    privileged: &'a [u8; 65],
+    activation: &'a [u8; 65],
+) -> bool
+    ensures { λ r.
+        ⌜ r ≡ taskZerosB tasks (now (controller .entry)) (now (priority .entry)) (now (privileged .entry)) (now (activation .entry)) ⌝ }
+{
+    let mut t: usize = 0;
+    while t < 65 {
+        if !task_zero(
+            tasks,
+            t,
+            controller[t],
+            priority[t],
+            privileged[t],
+            activation[t],
+        ) {
+            return false;
+        }
+        t = t + 1;
+    }
+    true
+}
+
+fn line_zero(t: u8, p: u8, f: u8) -> bool
+    ensures { λ r. ⌜ r ≡ (eqb t 0 && (eqb p 0 && eqb f 0)) ⌝ }
+{
+    if t == 0 {
+        if p == 0 { f == 0 } else { false }
+    } else {
+        false
+    }
+}
+
+pub fn line_zeros<'a>(
+    n: usize,
+    atask: &'a [u8; 1024],
+    apos: &'a [u8; 1024],
+    aflag: &'a [u8; 1024],
+) -> bool
+    requires { ⌜ n ≤ 1024 ⌝ }
+    ensures { λ r. ⌜ r ≡ lineZerosB n (now (atask .entry)) (now (apos .entry)) (now (aflag .entry)) ⌝ }
+{
+    let mut k = n;
+    while k < 1024 {
+        if !line_zero(atask[k], apos[k], aflag[k]) {
+            return false;
+        }
+        k = k + 1;
+    }
+    true
+}
