@@ -12,7 +12,8 @@ use Rattle.rules.specs.State.{State}
 use Rattle.rules.specs.Bus.{areaWords, blockWords}
 use Rattle.rules.specs.Calls.{Call, schedule, cancel, terminate, finish, tick, waitUntil, waitFor, latched, unlatched, signal, readFlag, readBlock, writeBlock}
 use Rattle.rules.specs.Calls.{Refusal, row, decide, refusals, refusal, lent, nobodyRuns, noSuch, notController, isInvoked, isUninvoked, notActive, isMinor, notPlain, lastCount, wrongBlock}
-use Rattle.rules.specs.Acceptance.{flagged-is}
+use borrow.Author.Tests.{ltb-false}
+use Rattle.rules.specs.Acceptance.{passed, flagged-is}
 use Rattle.exec.specs.Sound.{rigIn, view, Sound}
 use Rattle.exec.specs.Call.{Meets, refuse}
 use Rattle.exec.specs.Meeting.{unsound, refused}
@@ -115,6 +116,10 @@ module _ (x : Exec) (rows : List Refusal) where
 -- a flag that is there has a number of eight bits, where the rig's number of flags has
 pub there-low : (r : Rig) (s : State) (f : ℕ) (wrong : Bool) → 0 ≡ decide (flagRows r s f wrong) → f ≤ r .flags
 there-low r s f wrong e = flagged-is r s f wrong (sym e) .flag .1
+
+-- a waking count that is not refused is in range
+pub count-there : (s : State) (n : ℕ) → 0 ≡ decide (countRows s (ltb 2147483647 n)) → n ≤ 2147483647
+count-there s n e = ltb-false 2147483647 n (passed 8 (ltb 2147483647 n) [] (passed 4 (nobodyRuns s) _ (sym e) .1) .0)
 
 -- ---- the table of each call
 

@@ -33,8 +33,8 @@ use Rattle.exec.specs.Sound.{rigIn, view, Sound}
 use Rattle.exec.specs.Call.{Follows, Meets, answerOf, refuse}
 use Rattle.exec.specs.Unique.{record-same}
 use Rattle.exec.specs.RightRig.{rig-ok}
-use Rattle.exec.specs.Start.{Begun, noRecord}
-use Rattle.exec.specs.Runs.{Made, MadeOn, Ran, callsOf, codeOf, servedOf, Started, noting, historyIn, SparedIn}
+use Rattle.exec.specs.Starting.{Started, noExec}
+use Rattle.exec.specs.Runs.{Made, MadeOn, Ran, callsOf, codeOf, servedOf, AcceptedStart, noting, historyIn, SparedIn}
 use Rattle.exec.specs.Demands.{Anchor, Stands, Chained, Activated, Bounded, Demand, Wakes, forwardIn, stateIn}
 use Rattle.exec.specs.declared.Exec.{Exec}
 use Rattle.exec.specs.declared.Step.{Step}
@@ -199,11 +199,11 @@ module _ (y : Exec) (h : Sound y) where
 
 -- ---- FROM AN ACCEPTED START
 
-refused-four : (r : Step) → codeOf r ≡ 0 → r ≡ refuse noRecord 4 → ⊥
+refused-four : (r : Step) → codeOf r ≡ 0 → r ≡ refuse noExec 4 → ⊥
 refused-four r e q = omega (arith, e, ap codeOf q)
 
-module _ (g : Rig) (table : List (List ℕ)) (x : Exec) (s : Started g table x) where
-  begun : Right g (cyclesOf table) × Begun g (cyclesOf table) (s .begun)
+module _ (g : Rig) (table : List (List ℕ)) (x : Exec) (s : AcceptedStart g table x) where
+  begun : Right g (cyclesOf table) × Started g (cyclesOf table) (s .begun)
   begun = ⊎-elim (λ p. p) (λ p. absurd (refused-four (s .begun) (s .accepted) (p .1))) (s .starts .is)
 
   -- the start's record holds the rig and its cycles
@@ -223,7 +223,7 @@ module _ (g : Rig) (table : List (List ℕ)) (x : Exec) (s : Started g table x) 
       record {
         sound = subst Sound (s .gave) (begun .1 .sound);
         rig = refl;
-        state = ap view (sym (s .gave)) ∙ begun .1 .shows ∙ ap R.start e;
+        state = ap view (sym (s .gave)) ∙ begun .1 .next ∙ ap R.start e;
       }
 
   rig-right : RigOk (rigIn x)

@@ -10,7 +10,7 @@ use Rattle.rules.specs.History.{History, notedIf, never}
 use Rattle.rules.specs.Waking.{Struck}
 use Rattle.exec.specs.Sound.{rigIn, view}
 use Rattle.exec.specs.Call.{Meets, answerOf}
-use Rattle.exec.specs.Start.{Starts}
+use Rattle.exec.specs.Starting.{Starts}
 use Rattle.exec.specs.declared.Exec.{Exec}
 use Rattle.exec.specs.declared.Step.{Step}
 
@@ -43,7 +43,7 @@ callsOf [] = []
 callsOf (m ∷ ms) = m .call ∷ callsOf ms
 
 -- an accepted start of the rig g, with the table of its cycles, gave the record x
-pub record Started (g : Rig) (table : List (List ℕ)) (x : Exec) : Type 0 where
+pub record AcceptedStart (g : Rig) (table : List (List ℕ)) (x : Exec) : Type 0 where
   pub begun : Step
   pub starts : Starts g table begun
   pub accepted : codeOf begun ≡ 0

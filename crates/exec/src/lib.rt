@@ -1,8 +1,10 @@
 // The executive: the record, and every call on it by value.
+mod blocks;
 mod flags;
 mod refusals;
 mod signal;
 mod tasks;
+mod tick;
 mod waits;
 
 use rig::Rig;

@@ -1,10 +1,12 @@
 // The refusals of a call: "12 comes first, then the smallest number"; 0 for none.
 use crate::Exec;
 ghost use mathlib.Core.Path.{_≡_};
+ghost use mathlib.Core.Bool.{not, _||_};
+ghost use lib.Dec.{eqb};
 ghost use lib.ListN.{getD};
 ghost use Rattle.rules.specs.Calls.{isMinor, notPlain};
 ghost use Rattle.exec.specs.Sound.{rigIn, view};
-ghost use Rattle.exec.specs.Refusing.{Judged, runRows, countRows, flagRows, taskRows};
+ghost use Rattle.exec.specs.Refusing.{Judged, runRows, countRows, flagRows, taskRows, tickRows, blockRows, wrongLengths};
 
 // What the table holds at any number: 0 past its end.
 pub fn look(table: &[u8], i: u32) -> u8
@@ -101,4 +103,52 @@ impl Exec {
         }
         0
     }
+
+    // Of a tick, with a buffer of so many words: it needs no running task.
+    pub fn tick_refusal(self, words: usize) -> u8
+        ensures { λ r. ⌜ Judged self (tickRows (view self) words) r ⌝ }
+    {
+        if !self.sound() {
+            return 12;
+        }
+        if 2147483647 <= self.st.count {
+            return 9;
+        }
+        if words < 128 {
+            return 10;
+        }
+        0
+    }
+
+    // Of reading and writing row k's block, with an area and a buffer of so many words.
+    pub fn block_refusal(self, k: u32, area: usize, buffer: usize) -> u8
+        ensures { λ r. ⌜ Judged self (blockRows (rigIn self) (view self) k (wrongLengths (rigIn self) k area buffer)) r ⌝ }
+    {
+        if !self.sound() {
+            return 12;
+        }
+        if self.st.running == 0 {
+            return 5;
+        }
+        let many = self.rig.rows as usize;
+        if tests::no_such(many, k as usize) {
+            return 6;
+        }
+        let rows = self.rig.row;
+        let row = rows[(k - 1) as usize];
+        if differ(area, 33 * many, buffer, row.words as usize) {
+            return 10;
+        }
+        0
+    }
+}
+
+// Whether one of two lengths is not what it is to be.
+fn differ(area: usize, whole: usize, buffer: usize, words: usize) -> bool
+    ensures { λ r. ⌜ r ≡ (not (eqb area whole) || not (eqb buffer words)) ⌝ }
+{
+    if area != whole {
+        return true;
+    }
+    buffer != words
 }

@@ -1,3 +1,19 @@
+use mathlib.Core.Path.{_≡_, refl, sym, _∙_, ap}
+use mathlib.Core.Bool.{Bool, true, false, not}
+use mathlib.Core.List.{[]}
+use Prim.Native.Nat.{ℕ, _+_, _<_, _≤_}
+use native.Mathlib.Omega.{arith}
+use lib.Dec.{eqb, leb, ltb}
+use Rattle.rules.specs.Calls as R
+use Rattle.rules.specs.Acceptance.{somebody-runs}
+use Rattle.exec.specs.Sound.{Sound, rigIn, view}
+use Rattle.exec.specs.Call.{bit}
+use Rattle.exec.specs.Meeting.{silent-lent, silent-output, untouched}
+use Rattle.exec.specs.Refusing.{judged-sound, judged-none, judged-meets, latched-table}
+use Rattle.exec.specs.Settling.{settles, settling-meets}
+use Rattle.rules.specs.Waiting.{waitOn}
+use Rattle.exec.specs.Signal.{bit-le}
+use Rattle.exec.specs.Waits.{may-wait, flag-ok, latched-work, latched-stays}
 use borrow.Author.Needs.{needs}
 use Rattle.exec.proofs.Exec.latched.Statement.{statement}
 use Rattle.exec.proofs.Exec.latched.Tie as tie
@@ -22,7 +38,11 @@ refuse-requires c κs = search needs
 
 -- src/waits.rt:50:13
 returns : tie.Need-returns
-returns c = ?
+returns c =
+    let a = c .before .before .before .args in
+    let j = c .before .before .flag-refusal in
+    judged-meets (a .self) _ (j .result) (j .ensures) (R.latched (a .flag) (bit (a .value))) (latched-table (rigIn (a .self)) (view (a .self)) (a .flag) (bit (a .value))) (c .before .if1 .taken)
+    (c .refuse .result) (c .refuse .ensures) [] (silent-lent (R.latched (a .flag) (bit (a .value))) tt)
 
 -- src/waits.rt:53:13
 bit-of-requires : tie.Need-bit-of-requires
@@ -38,7 +58,17 @@ unchanged-requires c κs = search needs
 
 -- src/waits.rt:55:13
 returns-2 : tie.Need-returns-2
-returns-2 c = ?
+returns-2 c =
+    let a = c .before .before .before .before .before .before .before .before .before .before .args in
+    let j = c .before .before .before .before .before .before .before .before .before .flag-refusal in
+    let z = c .before .before .before .before .before .before .before .before .if1 .left in
+    let h = judged-sound (a .self) _ (j .result) (j .ensures) z in
+    let n = judged-none (a .self) _ (j .result) (j .ensures) z in
+    let e = n ∙ latched-table (rigIn (a .self)) (view (a .self)) (a .flag) (bit (a .value)) in
+    rw (c .unchanged .ensures)
+    (untouched (a .self) (R.latched (a .flag) (bit (a .value))) h
+    (latched-stays (a .self) h (a .flag) (bit (a .value)) (sym (c .before .before .look .ensures) ∙ c .before .if2 .taken ∙ c .before .before .before .before .before .before .bit-of .ensures)) (bit-le (a .value)) e 0 []
+    (silent-output (rigIn (a .self)) (view (a .self)) (R.latched (a .flag) (bit (a .value))) tt))
 
 -- src/waits.rt:57:45
 cast-wait-on : tie.Need-cast-wait-on
@@ -46,7 +76,13 @@ cast-wait-on c = search needs
 
 -- src/waits.rt:57:13
 wait-on-requires : tie.Need-wait-on-requires
-wait-on-requires c κs = ?
+wait-on-requires c κs =
+    let a = c .before .before .before .before .before .before .before .before .before .args in
+    let j = c .before .before .before .before .before .before .before .before .flag-refusal in
+    let z = c .before .before .before .before .before .before .before .if1 .left in
+    let h = judged-sound (a .self) _ (j .result) (j .ensures) z in
+    let n = judged-none (a .self) _ (j .result) (j .ensures) z in
+    (may-wait (a .self) h (somebody-runs (view (a .self)) _ (sym n)), rw (c .before .before .before .before .before .bit-of .ensures) (flag-ok (a .self) h (a .flag) (a .value) _ n))
 
 -- src/waits.rt:58:13
 empty-requires : tie.Need-empty-requires
@@ -54,11 +90,25 @@ empty-requires c κs = search needs
 
 -- src/waits.rt:59:9
 settle-requires : tie.Need-settle-requires
-settle-requires c κs = ?
+settle-requires c κs =
+    let a = c .before .before .before .before .before .before .before .before .before .before .before .args in
+    let j = c .before .before .before .before .before .before .before .before .before .before .flag-refusal in
+    let z = c .before .before .before .before .before .before .before .before .before .if1 .left in
+    let h = judged-sound (a .self) _ (j .result) (j .ensures) z in
+    let n = judged-none (a .self) _ (j .result) (j .ensures) z in
+    let e = n ∙ latched-table (rigIn (a .self)) (view (a .self)) (a .flag) (bit (a .value)) in
+    settles (a .self) h (R.latched (a .flag) (bit (a .value))) (bit-le (a .value)) e (record { st = c .before .wait-on .result; queue = c .empty .result }) (latched-work (a .self) h (c .before .wait-on .result) (c .empty .result) (c .empty .ensures .0) (a .flag) (bit (a .value)) (λ q. c .before .before .if2 .left (c .before .before .before .look .ensures ∙ q ∙ sym (c .before .before .before .before .before .before .before .bit-of .ensures))) (c .before .wait-on .ensures .is ∙ ap (waitOn (view (a .self)) (a .flag)) (c .before .before .before .before .before .before .before .bit-of .ensures))) (c .before .wait-on .ensures .sound)
 
 -- src/waits.rt:45:5
 returns-3 : tie.Need-returns-3
-returns-3 c = ?
+returns-3 c =
+    let a = c .before .before .before .before .before .before .before .before .before .before .before .before .args in
+    let j = c .before .before .before .before .before .before .before .before .before .before .before .flag-refusal in
+    let z = c .before .before .before .before .before .before .before .before .before .before .if1 .left in
+    let h = judged-sound (a .self) _ (j .result) (j .ensures) z in
+    let n = judged-none (a .self) _ (j .result) (j .ensures) z in
+    let e = n ∙ latched-table (rigIn (a .self)) (view (a .self)) (a .flag) (bit (a .value)) in
+    settling-meets (a .self) h (R.latched (a .flag) (bit (a .value))) (bit-le (a .value)) e (record { st = c .before .before .wait-on .result; queue = c .before .empty .result }) (latched-work (a .self) h (c .before .before .wait-on .result) (c .before .empty .result) (c .before .empty .ensures .0) (a .flag) (bit (a .value)) (λ q. c .before .before .before .if2 .left (c .before .before .before .before .look .ensures ∙ q ∙ sym (c .before .before .before .before .before .before .before .before .bit-of .ensures))) (c .before .before .wait-on .ensures .is ∙ ap (waitOn (view (a .self)) (a .flag)) (c .before .before .before .before .before .before .before .before .bit-of .ensures))) tt (c .settle .result) (c .settle .ensures)
 
 pub latched-spec : {M : Type 1} → statement M
 latched-spec =

@@ -1,3 +1,17 @@
+use mathlib.Core.Path.{_≡_, refl, sym, _∙_, ap}
+use mathlib.Core.Bool.{Bool, true, false, not}
+use mathlib.Core.List.{[]}
+use Prim.Native.Nat.{ℕ, _+_, _<_, _≤_}
+use native.Mathlib.Omega.{arith}
+use lib.Dec.{eqb, leb, ltb}
+use Rattle.rules.specs.Calls as R
+use Rattle.rules.specs.Acceptance.{somebody-runs}
+use Rattle.exec.specs.Sound.{Sound, rigIn, view}
+use Rattle.exec.specs.Call.{bit}
+use Rattle.exec.specs.Meeting.{silent-lent, silent-output, untouched}
+use Rattle.exec.specs.Refusing.{judged-sound, judged-none, judged-meets, for-table, count-there}
+use Rattle.exec.specs.Settling.{settles, settling-meets}
+use Rattle.exec.specs.Waits.{may-wait, for-work, for-stays}
 use borrow.Author.Needs.{needs}
 use Rattle.exec.proofs.Exec.wait_for.Statement.{statement}
 use Rattle.exec.proofs.Exec.wait_for.Tie as tie
@@ -28,7 +42,11 @@ refuse-requires c κs = search needs
 
 -- src/waits.rt:34:13
 returns : tie.Need-returns
-returns c = ?
+returns c =
+    let a = c .before .before .before .before .args in
+    let j = c .before .before .count-refusal in
+    judged-meets (a .self) _ (j .result) (j .ensures) (R.waitFor (a .cycles)) (for-table (rigIn (a .self)) (view (a .self)) (a .cycles)) (c .before .if1 .taken)
+    (c .refuse .result) (c .refuse .ensures) [] (silent-lent (R.waitFor (a .cycles)) tt)
 
 -- src/waits.rt:37:13
 unchanged-requires : tie.Need-unchanged-requires
@@ -36,15 +54,35 @@ unchanged-requires c κs = search needs
 
 -- src/waits.rt:37:13
 returns-2 : tie.Need-returns-2
-returns-2 c = ?
+returns-2 c =
+    let a = c .before .before .before .before .before .args in
+    let j = c .before .before .before .count-refusal in
+    let z = c .before .before .if1 .left in
+    let h = judged-sound (a .self) _ (j .result) (j .ensures) z in
+    let n = judged-none (a .self) _ (j .result) (j .ensures) z in
+    let e = n ∙ for-table (rigIn (a .self)) (view (a .self)) (a .cycles) in
+    rw (c .unchanged .ensures)
+    (untouched (a .self) (R.waitFor (a .cycles)) h (for-stays (a .self) h (a .cycles) (c .before .if2 .taken)) tt e 0 [] (silent-output (rigIn (a .self)) (view (a .self)) (R.waitFor (a .cycles)) tt))
 
 -- src/waits.rt:39:37
 cast-wait-until : tie.Need-cast-wait-until
-cast-wait-until c = ?
+cast-wait-until c =
+    let a = c .before .before .before .before .args in
+    let j = c .before .before .count-refusal in
+    let z = c .before .if1 .left in
+    let h = judged-sound (a .self) _ (j .result) (j .ensures) z in
+    let n = judged-none (a .self) _ (j .result) (j .ensures) z in
+    omega (arith, count-there (view (a .self)) (a .self .st .count + a .cycles) n)
 
 -- src/waits.rt:39:13
 wait-until-requires : tie.Need-wait-until-requires
-wait-until-requires c κs = ?
+wait-until-requires c κs =
+    let a = c .before .before .before .before .args in
+    let j = c .before .before .count-refusal in
+    let z = c .before .if1 .left in
+    let h = judged-sound (a .self) _ (j .result) (j .ensures) z in
+    let n = judged-none (a .self) _ (j .result) (j .ensures) z in
+    may-wait (a .self) h (somebody-runs (view (a .self)) _ (sym n))
 
 -- src/waits.rt:40:13
 empty-requires : tie.Need-empty-requires
@@ -52,11 +90,25 @@ empty-requires c κs = search needs
 
 -- src/waits.rt:41:9
 settle-requires : tie.Need-settle-requires
-settle-requires c κs = ?
+settle-requires c κs =
+    let a = c .before .before .before .before .before .before .args in
+    let j = c .before .before .before .before .count-refusal in
+    let z = c .before .before .before .if1 .left in
+    let h = judged-sound (a .self) _ (j .result) (j .ensures) z in
+    let n = judged-none (a .self) _ (j .result) (j .ensures) z in
+    let e = n ∙ for-table (rigIn (a .self)) (view (a .self)) (a .cycles) in
+    settles (a .self) h (R.waitFor (a .cycles)) tt e (record { st = c .before .wait-until .result; queue = c .empty .result }) (for-work (a .self) h (c .before .wait-until .result) (c .empty .result) (c .empty .ensures .0) (a .cycles) (omega (arith, c .before .before .if2 .left)) (c .before .wait-until .ensures .is)) (c .before .wait-until .ensures .sound)
 
 -- src/waits.rt:28:5
 returns-3 : tie.Need-returns-3
-returns-3 c = ?
+returns-3 c =
+    let a = c .before .before .before .before .before .before .before .args in
+    let j = c .before .before .before .before .before .count-refusal in
+    let z = c .before .before .before .before .if1 .left in
+    let h = judged-sound (a .self) _ (j .result) (j .ensures) z in
+    let n = judged-none (a .self) _ (j .result) (j .ensures) z in
+    let e = n ∙ for-table (rigIn (a .self)) (view (a .self)) (a .cycles) in
+    settling-meets (a .self) h (R.waitFor (a .cycles)) tt e (record { st = c .before .before .wait-until .result; queue = c .before .empty .result }) (for-work (a .self) h (c .before .before .wait-until .result) (c .before .empty .result) (c .before .empty .ensures .0) (a .cycles) (omega (arith, c .before .before .before .if2 .left)) (c .before .before .wait-until .ensures .is)) tt (c .settle .result) (c .settle .ensures)
 
 pub wait-for-spec : {M : Type 1} → statement M
 wait-for-spec =
