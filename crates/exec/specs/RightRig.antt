@@ -6,10 +6,10 @@ use mathlib.Core.List.{List}
 use Prim.Native.Nat.{ℕ, zero, suc, _+_, _-_, _*_, _<_, _≤_}
 use native.Mathlib.Omega.{arith}
 use lib.Dec.{leb, ltb}
-use lib.ListN.{length, getD}
+use lib.ListN.{length, getD, List·getD-eq-default}
 use borrow.Author.Tests.{leb-true, leb-false, ltb-true, ltb-false}
 use Rattle.laws.specs.Cases.{by}
-use Rattle.laws.specs.Tables.{beyond, has-place}
+use Rattle.laws.specs.Tables.{has-place}
 use Rattle.laws.specs.Reading.{default-free}
 use Rattle.rig.specs.Rules.{at, noCycle, flagAt, Right, Ancestor, nearest, further}
 use Rattle.rig.specs.declared.Cycle.{Cycle}
@@ -22,7 +22,7 @@ use Rattle.state.specs.View.{rigOf}
 -- a bound on the entries that are there bounds them all
 pub bounded : (l : List ℕ) (n m : ℕ) → length l ≡ n → ((t : ℕ) → t < n → at l t ≤ m) → (t : ℕ) → at l t ≤ m
 bounded l n m z h t =
-    by (ltb t n) (λ e. h t (ltb-true t n e)) (λ e. omega (arith, beyond l t (omega (arith, ltb-false t n e))))
+    by (ltb t n) (λ e. h t (ltb-true t n e)) (λ e. omega (arith, List·getD-eq-default l 0 (omega (arith, ltb-false t n e))))
 
 module _ (g : Rig) (cycles : List Cycle) (h : Right g cycles) where
   -- a task's entries are 0 but for tasks 1 to the rig's number of tasks

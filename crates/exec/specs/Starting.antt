@@ -112,7 +112,7 @@ module _ (g : Rig) (cycles : List Cycle) (h : Right g cycles) (s : State) (b : B
                   };
               entries =
                   subst (λ (y : S.Work). Servable (y .queue)) (sym start-work)
-                  (servable (rigOf g cycles) (h .flag-count .1) _ (started-ready (rigOf g cycles) (rig-ok g cycles h) .good .fine));
+                  (servable (rigOf g cycles) (h .flag-count .1) (R.scheduled (rigOf g cycles) S.blank 1 .queue) (started-ready (rigOf g cycles) (rig-ok g cycles h) .good .fine));
             };
         low = subst (λ (y : S.Work). y .now .running ≤ 64) (sym start-work) blank-low;
       }

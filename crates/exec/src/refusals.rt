@@ -9,7 +9,7 @@ ghost use Rattle.exec.specs.Sound.{rigIn, view};
 ghost use Rattle.exec.specs.Refusing.{Judged, runRows, countRows, flagRows, taskRows, tickRows, blockRows, wrongLengths};
 
 // What the table holds at any number: 0 past its end.
-pub fn look(table: &[u8], i: u32) -> u8
+pub(crate) fn look(table: &[u8], i: u32) -> u8
     ensures { λ r. ⌜ r ≡ getD (now (table .entry)) i 0 ⌝ }
 {
     let k = i as usize;
@@ -18,7 +18,7 @@ pub fn look(table: &[u8], i: u32) -> u8
 
 impl Exec {
     // Of a call that names nothing.
-    pub fn run_refusal(self) -> u8
+    pub(crate) fn run_refusal(self) -> u8
         ensures { λ r. ⌜ Judged self (runRows (view self)) r ⌝ }
     {
         if !self.sound() {
@@ -31,7 +31,7 @@ impl Exec {
     }
 
     // Of a wait for a count, above the last or not.
-    pub fn count_refusal(self, above: bool) -> u8
+    pub(crate) fn count_refusal(self, above: bool) -> u8
         ensures { λ r. ⌜ Judged self (countRows (view self) above) r ⌝ }
     {
         if !self.sound() {
@@ -47,7 +47,7 @@ impl Exec {
     }
 
     // Of a wait on a flag, and of reading it.
-    pub fn flag_refusal(self, flag: u32) -> u8
+    pub(crate) fn flag_refusal(self, flag: u32) -> u8
         ensures { λ r. ⌜ Judged self (flagRows (rigIn self) (view self) flag (isMinor (rigIn self .minor) flag)) r ⌝ }
     {
         if !self.sound() {
@@ -67,7 +67,7 @@ impl Exec {
     }
 
     // Of a signal.
-    pub fn signal_refusal(self, flag: u32) -> u8
+    pub(crate) fn signal_refusal(self, flag: u32) -> u8
         ensures { λ r. ⌜ Judged self (flagRows (rigIn self) (view self) flag (notPlain (rigIn self) flag)) r ⌝ }
     {
         let n = self.flag_refusal(flag);
@@ -82,7 +82,7 @@ impl Exec {
     }
 
     // Of a call that names a task, in a state that is wrong for the call or not.
-    pub fn task_refusal(self, task: u32, wrong: bool) -> u8
+    pub(crate) fn task_refusal(self, task: u32, wrong: bool) -> u8
         ensures { λ r. ⌜ Judged self (taskRows (rigIn self) (view self) task wrong) r ⌝ }
     {
         if !self.sound() {
@@ -105,7 +105,7 @@ impl Exec {
     }
 
     // Of a tick, with a buffer of so many words: it needs no running task.
-    pub fn tick_refusal(self, words: usize) -> u8
+    pub(crate) fn tick_refusal(self, words: usize) -> u8
         ensures { λ r. ⌜ Judged self (tickRows (view self) words) r ⌝ }
     {
         if !self.sound() {
@@ -121,7 +121,7 @@ impl Exec {
     }
 
     // Of reading and writing row k's block, with an area and a buffer of so many words.
-    pub fn block_refusal(self, k: u32, area: usize, buffer: usize) -> u8
+    pub(crate) fn block_refusal(self, k: u32, area: usize, buffer: usize) -> u8
         ensures { λ r. ⌜ Judged self (blockRows (rigIn self) (view self) k (wrongLengths (rigIn self) k area buffer)) r ⌝ }
     {
         if !self.sound() {

@@ -16,7 +16,7 @@ impl Exec {
             return self.refuse(n);
         }
         let st = self.st;
-        let queue = Queue::empty().push(flag as u8, crate::bit_of(value));
+        let queue = Queue::empty().push(flag as u8, crate::answers::bit_of(value));
         self.settle(Work { st, queue })
     }
 }

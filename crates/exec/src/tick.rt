@@ -18,7 +18,7 @@ impl Exec {
         let rig = self.rig;
         let cycles = self.cycles;
         let w = self.st.ticked(cycles);
-        let d = crate::settled(w, rig);
+        let d = crate::answers::settled(w, rig);
         let st = d.st;
         let rows = rig.row;
         let words = compool::bus_words(rows, rig.rows as usize, rig.master, st.count, out);

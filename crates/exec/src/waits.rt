@@ -50,7 +50,7 @@ impl Exec {
             return self.refuse(n);
         }
         let now = self.st;
-        let v = crate::bit_of(value);
+        let v = crate::answers::bit_of(value);
         if crate::refusals::look(&now.value, flag) == v {
             return self.unchanged(0);
         }
@@ -67,7 +67,7 @@ impl Exec {
         if n != 0 {
             return self.refuse(n);
         }
-        let v = crate::bit_of(value);
+        let v = crate::answers::bit_of(value);
         let st = self.st.wait_on(flag as usize, v as usize);
         let queue = Queue::empty();
         self.settle(Work { st, queue })

@@ -22,9 +22,9 @@ module _ {A B : Type 0} (f : A → B) (d : A) (l : List A) where
       record {
         long = length-set out k (f (getD l k d)) ∙ m .long;
         done = λ i g.
-        by-eqb i k (λ b. getD (set out k (f (getD l k d))) i (f d) ≡ f (getD l i d))
-        (λ e. rw e (getD-set-same out k (f (getD l k d)) (f d) (omega (arith, m .long))))
-        (λ n. getD-set-other out k i (f (getD l k d)) (f d) n ∙ m .done i (omega arith));
+            by-eqb i k (λ b. getD (set out k (f (getD l k d))) i (f d) ≡ f (getD l i d))
+            (λ e. rw e (getD-set-same out k (f (getD l k d)) (f d) (omega (arith, m .long))))
+            (λ n. getD-set-other out k i (f (getD l k d)) (f d) n ∙ m .done i (omega arith));
       }
 
   pub mapped-all : (k : ℕ) (out : List B) → length l ≤ k → Mapped k out → out ≡ map f l

@@ -83,9 +83,9 @@ module _ (key : ℕ → ℕ) (l : List ℕ) (f : ℕ) where
   marked-by n =
       iter-ind (λ k r. getD r f 0 ≢ 0 → (getD l f 0 ≢ 0) ⊎ ((i : ℕ) × (i < k) × (key i ≡ f))) (markOne key) l (λ h. inl h)
       (λ k r h z.
-        ⊎-elim (λ w. inr (k, omega arith, sym (w .0)))
-        (λ e. ⊎-elim (λ y. inl y) (λ w. inr (w .0, omega (arith, w .1), w .2)) (h (λ q. z (sym e ∙ q))))
-        (set-cases r (key k) f 1 (getD (set r (key k) 1) f 0) refl))
+      ⊎-elim (λ w. inr (k, omega arith, sym (w .0)))
+      (λ e. ⊎-elim (λ y. inl y) (λ w. inr (w .0, omega (arith, w .1), w .2)) (h (λ q. z (sym e ∙ q))))
+      (set-cases r (key k) f 1 (getD (set r (key k) 1) f 0) refl))
       n
 
   pub marks-it : (n : ℕ) → f < length l → (getD l f 0 ≢ 0) ⊎ ((i : ℕ) × (i < n) × (key i ≡ f)) → getD (marks n key l) f 0 ≢ 0
@@ -93,15 +93,17 @@ module _ (key : ℕ → ℕ) (l : List ℕ) (f : ℕ) where
   marks-it n b =
       iter-ind (λ k r. (length r ≡ length l) × ((getD l f 0 ≢ 0) ⊎ ((i : ℕ) × (i < k) × (key i ≡ f)) → getD r f 0 ≢ 0)) (markOne key) l
       (refl, (λ w. ⊎-elim (λ y. y) (λ v. absurd (omega (arith, v .1))) w))
-      (λ k r h.
-        (length-set r (key k) 1 ∙ h .0, (λ w.
-          by (eqb f (key k))
-          (λ e.
+      (λ k r h. (
+        length-set r (key k) 1 ∙ h .0,
+        (λ w.
+            by (eqb f (key k))
+            (λ e.
             let q = eqb-true f (key k) e in
             let y : getD (set r (key k) 1) (key k) 0 ≡ 1 = getD-set-same r (key k) 1 0 (omega arith) in
             rw q (λ z. omega (arith, y, z)))
-          (λ e.
+            (λ e.
             let u = eqb-false f (key k) e in
             rw (getD-set-other r (key k) f 1 0 u)
-            (h .1 (⊎-elim (λ y. inl y) (λ v. inr (v .0, below-but (v .0) k (v .1) (λ q. u (sym (v .2) ∙ ap key q)), v .2)) w))))))
+            (h .1 (⊎-elim (λ y. inl y) (λ v. inr (v .0, below-but (v .0) k (v .1) (λ q. u (sym (v .2) ∙ ap key q)), v .2)) w)))),
+      ))
       n .1

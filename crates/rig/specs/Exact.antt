@@ -40,8 +40,8 @@ listed-is p =
 
 sizes-is : (b : Row) → Is (allOf (rowTests b)) (RowSizes b)
 unfolding rowTests
-sizes-is b =
-    ((λ e.
+sizes-is b = (
+  (λ e.
       let k = allOf-at (rowTests b) e in
       record {
         sender = leb-true (b .sender) 31 (k 0);
@@ -51,35 +51,39 @@ sizes-is b =
         words = within-is 1 (b .words) 32 .0 (k 4);
         period = listed-is (b .period) .0 (k 5);
         phase = ltb-true (b .phase) (b .period) (k 6);
-      }), (λ r.
+      }),
+  (λ r.
       allOf-cons _ _ (le-leb (b .sender) 31 (r .sender))
-          (allOf-cons _ _ (within-is 1 (b .sendersub) 30 .1 (r .sendersub))
-          (allOf-cons _ _ (le-leb (b .receiver) 31 (r .receiver))
-          (allOf-cons _ _ (within-is 1 (b .receiversub) 30 .1 (r .receiversub))
-          (allOf-cons _ _ (within-is 1 (b .words) 32 .1 (r .words))
-          (allOf-cons _ _ (listed-is (b .period) .1 (r .period))
-          (allOf-cons _ _ (lt-ltb (b .phase) (b .period) (r .phase)) allOf-nil))))))))
+      (allOf-cons _ _ (within-is 1 (b .sendersub) 30 .1 (r .sendersub))
+      (allOf-cons _ _ (le-leb (b .receiver) 31 (r .receiver))
+      (allOf-cons _ _ (within-is 1 (b .receiversub) 30 .1 (r .receiversub))
+      (allOf-cons _ _ (within-is 1 (b .words) 32 .1 (r .words))
+      (allOf-cons _ _ (listed-is (b .period) .1 (r .period))
+      (allOf-cons _ _ (lt-ltb (b .phase) (b .period) (r .phase)) allOf-nil))))))),
+)
 
 row-zero-is : (b : Row) → Is (rowZero b) (b ≡ noRow)
 unfolding rowZero rowZeros
-row-zero-is b =
-    ((λ e.
+row-zero-is b = (
+  (λ e.
       let k = allOf-at (rowZeros b) e in
       same b (eqb-true (b .sender) 0 (k 0)) (eqb-true (b .sendersub) 0 (k 1)) (eqb-true (b .receiver) 0 (k 2)) (eqb-true (b .receiversub) 0 (k 3))
-      (eqb-true (b .words) 0 (k 4)) (eqb-true (b .period) 0 (k 5)) (eqb-true (b .phase) 0 (k 6))), (λ e.
+      (eqb-true (b .words) 0 (k 4)) (eqb-true (b .period) 0 (k 5)) (eqb-true (b .phase) 0 (k 6))),
+  (λ e.
       allOf-cons _ _ (eq-eqb (b .sender) 0 (ap (λ (x : Row). x .sender) e))
-          (allOf-cons _ _ (eq-eqb (b .sendersub) 0 (ap (λ (x : Row). x .sendersub) e))
-          (allOf-cons _ _ (eq-eqb (b .receiver) 0 (ap (λ (x : Row). x .receiver) e))
-          (allOf-cons _ _ (eq-eqb (b .receiversub) 0 (ap (λ (x : Row). x .receiversub) e))
-          (allOf-cons _ _ (eq-eqb (b .words) 0 (ap (λ (x : Row). x .words) e))
-          (allOf-cons _ _ (eq-eqb (b .period) 0 (ap (λ (x : Row). x .period) e))
-          (allOf-cons _ _ (eq-eqb (b .phase) 0 (ap (λ (x : Row). x .phase) e)) allOf-nil))))))))
+      (allOf-cons _ _ (eq-eqb (b .sendersub) 0 (ap (λ (x : Row). x .sendersub) e))
+      (allOf-cons _ _ (eq-eqb (b .receiver) 0 (ap (λ (x : Row). x .receiver) e))
+      (allOf-cons _ _ (eq-eqb (b .receiversub) 0 (ap (λ (x : Row). x .receiversub) e))
+      (allOf-cons _ _ (eq-eqb (b .words) 0 (ap (λ (x : Row). x .words) e))
+      (allOf-cons _ _ (eq-eqb (b .period) 0 (ap (λ (x : Row). x .period) e))
+      (allOf-cons _ _ (eq-eqb (b .phase) 0 (ap (λ (x : Row). x .phase) e)) allOf-nil))))))),
+)
   where
     same : (b : Row) → b .sender ≡ 0 → b .sendersub ≡ 0 → b .receiver ≡ 0 → b .receiversub ≡ 0 → b .words ≡ 0 → b .period ≡ 0 → b .phase ≡ 0 → b ≡ noRow
     same b p q r s t u v =
         ap
         (λ (x : ℕ).
-          record { sender = x; sendersub = b .sendersub; receiver = b .receiver; receiversub = b .receiversub; words = b .words; period = b .period; phase = b .phase })
+        record { sender = x; sendersub = b .sendersub; receiver = b .receiver; receiversub = b .receiversub; words = b .words; period = b .period; phase = b .phase })
         p
         ∙ rw (q, r, s, t, u, v)
 
@@ -89,17 +93,19 @@ rises-is : (t p f u q h : ℕ) → Is (risesTest t p f u q h) (Rises t p f u q h
 rises-is t p f u q h =
     is-said (is-if (is-eqb t u) (is-if (is-eqb p q) (is-ltb f h) (is-ltb p q)) (is-ltb t u))
     (λ w.
-      by (eqb t u)
-      (λ e.
-        let a = eqb-true t u e in
-        let v = w .0 a in
-        inr (a, by (eqb p q) (λ d. let c = eqb-true p q d in inr (c, v .0 c)) (λ d. inl (v .1 (eqb-false p q d)))))
-      (λ e. inl (w .1 (eqb-false t u e))))
-    (λ w.
-      ((λ a.
-        ⊎-elim (λ l. absurd (omega (arith, l)))
-            (λ v. ((λ c. ⊎-elim (λ l. absurd (omega (arith, l))) (λ y. y .1) (v .1)), (λ c. ⊎-elim (λ l. l) (λ y. absurd (c (y .0))) (v .1))))
-            w), (λ a. ⊎-elim (λ l. l) (λ v. absurd (a (v .0))) w)))
+    by (eqb t u)
+    (λ e.
+    let a = eqb-true t u e in
+    let v = w .0 a in
+    inr (a, by (eqb p q) (λ d. let c = eqb-true p q d in inr (c, v .0 c)) (λ d. inl (v .1 (eqb-false p q d)))))
+    (λ e. inl (w .1 (eqb-false t u e))))
+    (λ w. (
+      (λ a.
+          ⊎-elim (λ l. absurd (omega (arith, l)))
+          (λ v. ((λ c. ⊎-elim (λ l. absurd (omega (arith, l))) (λ y. y .1) (v .1)), (λ c. ⊎-elim (λ l. l) (λ y. absurd (c (y .0))) (v .1))))
+          w),
+      (λ a. ⊎-elim (λ l. l) (λ v. absurd (a (v .0))) w),
+    ))
 
 cycle-is : (flags : List ℕ) → Is (cycleRises flags)
     ((length flags ≡ 15) × ((i : ℕ) → i < 14 → at flags (i + 1) ≢ 0 → (at flags i ≢ 0) × (at flags i < at flags (i + 1))))
@@ -115,11 +121,11 @@ module _ (g : Rig) (cycles : List Cycle) where
   unfolding conditionsB
   conditions-is =
       is-all 1040 (λ p h.
-        is-said
-            (is-and (is-leb (at (g .present) p) 1)
-            (is-and (is-leb (at (g .latched) p) (at (g .present) p)) (is-leb (at (g .desired) p) (at (g .present) p))))
-            (λ w. record { present = w .0; latched = w .1 .0; desired = w .1 .1 })
-            (λ r. (r .present, (r .latched, r .desired))))
+      is-said
+      (is-and (is-leb (at (g .present) p) 1)
+      (is-and (is-leb (at (g .latched) p) (at (g .present) p)) (is-leb (at (g .desired) p) (at (g .present) p))))
+      (λ w. record { present = w .0; latched = w .1 .0; desired = w .1 .1 })
+      (λ r. (r .present, (r .latched, r .desired))))
 
   pub rows-is : Is (rowsB (g .rows) (g .row)) ((length (g .row) ≡ 64) × Rows g)
   unfolding rowsB
@@ -130,7 +136,7 @@ module _ (g : Rig) (cycles : List Cycle) where
   line-order-is =
       is-said
       (is-all (g .alines - 1) (λ k h.
-        rises-is (at (g .atask) k) (at (g .apos) k) (at (g .aflag) k) (at (g .atask) (k + 1)) (at (g .apos) (k + 1)) (at (g .aflag) (k + 1))))
+      rises-is (at (g .atask) k) (at (g .apos) k) (at (g .aflag) k) (at (g .atask) (k + 1)) (at (g .apos) (k + 1)) (at (g .aflag) (k + 1))))
       (λ f k h. f k (omega arith))
       (λ f k h. f k (omega arith))
 
@@ -151,11 +157,11 @@ module _ (g : Rig) (cycles : List Cycle) where
   unfolding linesB
   lines-is =
       is-all (g .alines) (λ k h.
-        is-said
-            (is-and (within-is 1 (at (g .atask) k) (g .tasks))
-            (is-and (is-leb (at (g .apos) k) 15) (within-is 1 (at (g .aflag) k) (g .flags))))
-            (λ w. record { task = w .0; position = w .1 .0; flag = w .1 .1 })
-            (λ r. (r .task, (r .position, r .flag))))
+      is-said
+      (is-and (within-is 1 (at (g .atask) k) (g .tasks))
+      (is-and (is-leb (at (g .apos) k) 15) (within-is 1 (at (g .aflag) k) (g .flags))))
+      (λ w. record { task = w .0; position = w .1 .0; flag = w .1 .1 })
+      (λ r. (r .task, (r .position, r .flag))))
 
   pub cycle-numbers-is : Is (cyclesSmallB (g .flags) cycles) (CycleNumbers g cycles)
   unfolding cyclesSmallB cycleSmall
@@ -184,12 +190,12 @@ module _ (g : Rig) (cycles : List Cycle) where
   unfolding minorConditionsB
   minor-conditions-is =
       is-all (g .alines) (λ k h.
-        is-then (minor-is cycles (at (g .aflag) k))
-            (is-said
-            (is-and (is-all (g .alines) (λ j b. is-then (is-eqb (linePlace g j) (linePlace g k)) (is-eqb j k)))
-            (is-and (is-eqb (at (g .latched) (linePlace g k)) 0) (is-eqb (at (g .desired) (linePlace g k)) 1)))
-            (λ w. record { alone = w .0; unlatched = w .1 .0; desires = w .1 .1 })
-            (λ r. (r .alone, (r .unlatched, r .desires)))))
+      is-then (minor-is cycles (at (g .aflag) k))
+      (is-said
+      (is-and (is-all (g .alines) (λ j b. is-then (is-eqb (linePlace g j) (linePlace g k)) (is-eqb j k)))
+      (is-and (is-eqb (at (g .latched) (linePlace g k)) 0) (is-eqb (at (g .desired) (linePlace g k)) 1)))
+      (λ w. record { alone = w .0; unlatched = w .1 .0; desires = w .1 .1 })
+      (λ r. (r .alone, (r .unlatched, r .desires)))))
 
   pub sender-differs-is : Is (differB (g .rows) (g .row)) (SenderDiffers g)
   unfolding differB
@@ -199,25 +205,25 @@ module _ (g : Rig) (cycles : List Cycle) where
   unfolding taskZerosB
   task-zeros-is =
       is-all 65 (λ t h.
-        is-else (within-is 1 t (g .tasks))
-            (is-said
-            (is-and (is-eqb (at (g .controller) t) 0)
-            (is-and (is-eqb (at (g .priority) t) 0) (is-and (is-eqb (at (g .privileged) t) 0) (is-eqb (at (g .activation) t) 0))))
-            (λ w. record { controller = w .0; priority = w .1 .0; privileged = w .1 .1 .0; activation = w .1 .1 .1 })
-            (λ r. (r .controller, (r .priority, (r .privileged, r .activation))))))
+      is-else (within-is 1 t (g .tasks))
+      (is-said
+      (is-and (is-eqb (at (g .controller) t) 0)
+      (is-and (is-eqb (at (g .priority) t) 0) (is-and (is-eqb (at (g .privileged) t) 0) (is-eqb (at (g .activation) t) 0))))
+      (λ w. record { controller = w .0; priority = w .1 .0; privileged = w .1 .1 .0; activation = w .1 .1 .1 })
+      (λ r. (r .controller, (r .priority, (r .privileged, r .activation))))))
 
   pub line-zeros-is : Is (lineZerosB (g .alines) (g .atask) (g .apos) (g .aflag)) (LineZeros g)
   unfolding lineZerosB
   line-zeros-is =
       is-all 1024 (λ k h.
-        is-said
-            (is-else (is-ltb k (g .alines))
-            (is-and (is-eqb (at (g .atask) k) 0) (is-and (is-eqb (at (g .apos) k) 0) (is-eqb (at (g .aflag) k) 0))))
-            (λ f b. let w = f (λ y. omega arith) in record { task = w .0; position = w .1 .0; flag = w .1 .1 })
-            (λ f n. let r = f (omega (arith, n)) in (r .task, (r .position, r .flag))))
+      is-said
+      (is-else (is-ltb k (g .alines))
+      (is-and (is-eqb (at (g .atask) k) 0) (is-and (is-eqb (at (g .apos) k) 0) (is-eqb (at (g .aflag) k) 0))))
+      (λ f b. let w = f (λ y. omega arith) in record { task = w .0; position = w .1 .0; flag = w .1 .1 })
+      (λ f n. let r = f (omega (arith, n)) in (r .task, (r .position, r .flag))))
 
   pub row-zeros-is : Is (rowZerosB (g .rows) (g .row)) (RowZeros g)
   unfolding rowZerosB
   row-zeros-is =
       is-all 64 (λ k h.
-        is-said (is-else (is-ltb k (g .rows)) (row-zero-is (rowAt g k))) (λ f b. f (λ y. omega arith)) (λ f n. f (omega (arith, n))))
+      is-said (is-else (is-ltb k (g .rows)) (row-zero-is (rowAt g k))) (λ f b. f (λ y. omega arith)) (λ f n. f (omega (arith, n))))

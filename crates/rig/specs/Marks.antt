@@ -67,9 +67,9 @@ module _ (cycles : List Cycle) (f : ℕ) where
       there z =
           by (eqb f 0) (λ e. absurd (z (ap (at (minorMarks cycles)) (eqb-true f 0 e) ∙ set-zero (iter 64 (markCycle cycles) (replicate 129 0)) 0)))
           (λ e.
-            let n = eqb-false f 0 e in
-            let w = table-is b 64 .1 .0 (λ y. z (getD-set-other (iter 64 (markCycle cycles) (replicate 129 0)) 0 f 0 0 n ∙ y)) in
-            (n, w .0, w .2, w .1, w .3, w .4))
+          let n = eqb-false f 0 e in
+          let w = table-is b 64 .1 .0 (λ y. z (getD-set-other (iter 64 (markCycle cycles) (replicate 129 0)) 0 f 0 0 n ∙ y)) in
+          (n, w .0, w .2, w .1, w .3, w .4))
 
       back : Minor cycles f → at (minorMarks cycles) f ≢ 0
       back w z =
@@ -91,6 +91,6 @@ minor-conditions-law n latched desired atask apos aflag cycles small =
     all-same n (minorConditionOne n latched desired atask apos aflag (marked (minorMarks cycles)))
     (minorConditionOne n latched desired atask apos aflag (minorB cycles))
     (λ k h.
-      ap
-      (λ (b : Bool). minorConditionTest b (all n (onlyOne atask apos k)) (at latched (placeOf atask apos k)) (at desired (placeOf atask apos k)))
-      (marks-law cycles (at aflag k) (small k h)))
+    ap
+    (λ (b : Bool). minorConditionTest b (all n (onlyOne atask apos k)) (at latched (placeOf atask apos k)) (at desired (placeOf atask apos k)))
+    (marks-law cycles (at aflag k) (small k h)))

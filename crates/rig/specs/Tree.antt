@@ -45,8 +45,8 @@ module _ (controller : List ℕ) where
   climb-found c n (suc k) x =
       by (ltb c x)
       (λ q. rw q (λ e.
-        ⊎-elim (λ r. inr (nearest (sym r) n)) (λ h. inr (further (λ z. n (sym e ∙ climb-stop controller c k (at controller x) (omega arith) ∙ z)) h))
-        (climb-found c n k (at controller x) e)))
+      ⊎-elim (λ r. inr (nearest (sym r) n)) (λ h. inr (further (λ z. n (sym e ∙ climb-stop controller c k (at controller x) (omega arith) ∙ z)) h))
+      (climb-found c n k (at controller x) e)))
       (λ q. rw q (λ e. inl (sym e)))
 
 -- "the previous task or one of that task's ancestors"
@@ -67,9 +67,9 @@ module _ (controller : List ℕ) (tasks : ℕ) (few : tasks ≤ 64) (z : at cont
       top l g =
           by-eqb n 1 (λ b. at controller n < n) (λ q. rw q (omega (arith, z)))
           (λ d.
-            ⊎-elim (λ e. omega arith)
-            (λ a. omega (arith, ancestor-low controller a (omega arith) (λ u x y. l u x (omega arith))))
-            (others n (omega arith) (omega arith)))
+          ⊎-elim (λ e. omega arith)
+          (λ a. omega (arith, ancestor-low controller a (omega arith) (λ u x y. l u x (omega arith))))
+          (others n (omega arith) (omega arith)))
 
   led-some : (t : ℕ) → 1 < t → t ≤ tasks → at controller t ≢ 0
   led-some t h g = ⊎-elim (λ e y. omega arith) (λ a. ancestor-some controller a) (others t h g)
@@ -86,20 +86,22 @@ controllers-is g few =
     is-said
     (is-and (is-eqb (at (g .controller) 1) 0)
     (is-all (g .tasks + 1) (λ t h.
-      is-else (is-leb t 1)
-          (is-and (is-not (is-eqb (at (g .controller) t) 0))
-          (is-eqb (climb (at (g .controller)) (at (g .controller) t) 64 (t - 1)) (at (g .controller) t))))))
+    is-else (is-leb t 1)
+    (is-and (is-not (is-eqb (at (g .controller) t) 0))
+    (is-eqb (climb (at (g .controller)) (at (g .controller) t) 64 (t - 1)) (at (g .controller) t))))))
     (λ w.
-      record {
-        first = w .0;
-        others = λ t h b.
-        let v = w .1 t (omega arith) (λ y. omega arith) in
-        climb-found (g .controller) (at (g .controller) t) (v .0) 64 (t - 1) (v .1);
-      })
-    (λ r.
-      (r .first, (λ t h y.
-        let i : 1 < t = omega arith in
-        (led-some (g .controller) (g .tasks) few (r .first) (r .others) t i (omega arith), led-climb (g .controller) (g .tasks) few (r .first) (r .others) t i (omega arith)))))
+    record {
+      first = w .0;
+      others = λ t h b.
+          let v = w .1 t (omega arith) (λ y. omega arith) in
+          climb-found (g .controller) (at (g .controller) t) (v .0) 64 (t - 1) (v .1);
+    })
+    (λ r. (
+      r .first,
+      (λ t h y.
+          let i : 1 < t = omega arith in
+          (led-some (g .controller) (g .tasks) few (r .first) (r .others) t i (omega arith), led-climb (g .controller) (g .tasks) few (r .first) (r .others) t i (omega arith))),
+    ))
 
 -- every controller has a lower number, and only task 1 has none
 pub controllers-low : (g : Rig) → g .tasks ≤ 64 → Controllers g → Low (g .controller) (g .tasks + 1)

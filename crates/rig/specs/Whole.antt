@@ -11,14 +11,31 @@ use borrow.Author.Tests.{eqb-true, eq-eqb, leb-true, le-leb}
 use Rattle.laws.specs.All.{all, allOf, allOf-at, allOf-cons, allOf-nil}
 use Rattle.laws.specs.First.{firstFalse, first-all, all-first, first-fails}
 use Rattle.laws.specs.Decides.{Is, is-eqb, is-leb, is-said}
-use Rattle.rigtests.specs.Tables.{Placed, LinesFit}
+use Rattle.rigtests.specs.Tests.{controllersB, servesOneB, namedB, usedB}
+use Rattle.rigtests.specs.Tables.{Placed, LinesFit, marked}
 use Rattle.rig.specs.declared.Row.{Row}
 use Rattle.rig.specs.declared.Cycle.{Cycle}
 use Rattle.rig.specs.declared.Rig.{Rig}
 use Rattle.rig.specs.Rules.{at, place, flagAt, Shaped, Right}
-use Rattle.rig.specs.Tests.{shapedTests, countTests, numberTests, tests, firstBroken, rightB}
+use Rattle.rig.specs.Tests.{minorMarks, shapedTests, countTests, numberTests, taskTests, lineTests, taskGroup, lineGroup, tests, firstBroken, rightB}
+use Rattle.rig.specs.Marks.{not-minor-law, minor-conditions-law}
 use Rattle.rig.specs.Tree.{controllers-is}
 use Rattle.rig.specs.Exact.{within-is, small-is, conditions-is, rows-is, line-order-is, cycle-order-is, condition-numbers-is, lines-is, cycle-numbers-is, serves-one-is, not-minor-is, line-has-condition-is, condition-has-line-is, minor-conditions-is, sender-differs-is, task-zeros-is, line-zeros-is, row-zeros-is}
+
+pub lengths-hold : (g : Rig) → length (g .controller) ≡ 65 → length (g .priority) ≡ 65 → length (g .privileged) ≡ 65 → length (g .activation) ≡ 65
+    → length (g .present) ≡ 1040 → length (g .latched) ≡ 1040 → length (g .desired) ≡ 1040 → length (g .atask) ≡ 1024 → length (g .apos) ≡ 1024
+    → length (g .aflag) ≡ 1024 → allOf (shapedTests g) ≡ true
+unfolding shapedTests
+lengths-hold g a b c d e f h i j k =
+    allOf-cons _ _ (eq-eqb (length (g .controller)) 65 a)
+    (allOf-cons _ _ (eq-eqb (length (g .priority)) 65 b)
+    (allOf-cons _ _ (eq-eqb (length (g .privileged)) 65 c)
+    (allOf-cons _ _ (eq-eqb (length (g .activation)) 65 d)
+    (allOf-cons _ _ (eq-eqb (length (g .present)) 1040 e)
+    (allOf-cons _ _ (eq-eqb (length (g .latched)) 1040 f)
+    (allOf-cons _ _ (eq-eqb (length (g .desired)) 1040 h)
+    (allOf-cons _ _ (eq-eqb (length (g .atask)) 1024 i)
+    (allOf-cons _ _ (eq-eqb (length (g .apos)) 1024 j) (allOf-cons _ _ (eq-eqb (length (g .aflag)) 1024 k) allOf-nil)))))))))
 
 module _ (g : Rig) (cycles : List Cycle) where
   -- what the tests say, test by test
@@ -75,18 +92,8 @@ module _ (g : Rig) (cycles : List Cycle) where
       }
 
   shaped-back : Shaped g cycles → allOf (shapedTests g) ≡ true
-  unfolding shapedTests
   shaped-back s =
-      allOf-cons _ _ (eq-eqb (length (g .controller)) 65 (s .controller))
-      (allOf-cons _ _ (eq-eqb (length (g .priority)) 65 (s .priority))
-      (allOf-cons _ _ (eq-eqb (length (g .privileged)) 65 (s .privileged))
-      (allOf-cons _ _ (eq-eqb (length (g .activation)) 65 (s .activation))
-      (allOf-cons _ _ (eq-eqb (length (g .present)) 1040 (s .present))
-      (allOf-cons _ _ (eq-eqb (length (g .latched)) 1040 (s .latched))
-      (allOf-cons _ _ (eq-eqb (length (g .desired)) 1040 (s .desired))
-      (allOf-cons _ _ (eq-eqb (length (g .atask)) 1024 (s .atask))
-      (allOf-cons _ _ (eq-eqb (length (g .apos)) 1024 (s .apos))
-      (allOf-cons _ _ (eq-eqb (length (g .aflag)) 1024 (s .aflag)) allOf-nil)))))))))
+      lengths-hold g (s .controller) (s .priority) (s .privileged) (s .activation) (s .present) (s .latched) (s .desired) (s .atask) (s .apos) (s .aflag)
 
   tests-back : Right g cycles → allOf (tests g cycles) ≡ true
   unfolding tests
@@ -177,3 +184,20 @@ numbered g cycles r n e z =
           };
       minor = λ c h i b. omega (arith, cycle-numbers-is g cycles .0 (k 3) c h i b, n .flags-le);
     }
+
+-- the answers of the two groups that go by the table of minor-cycle flags
+module _ (g : Rig) (cycles : List Cycle) (n : Numbered g cycles) (table : List ℕ) (e : table ≡ minorMarks cycles) (r : ℕ) where
+  pub task-answer : r ≡ firstFalse 16 (taskTests (g .tasks) (g .controller) (g .activation) (marked table)) → r ≡ firstFalse 16 (taskGroup g cycles)
+  task-answer q =
+      q
+      ∙ ap (λ (l : List ℕ). firstFalse 16 (taskTests (g .tasks) (g .controller) (g .activation) (marked l))) e
+      ∙ ap (λ (b : Bool). firstFalse 16 (controllersB (g .tasks) (g .controller) ∷ servesOneB (g .activation) ∷ b ∷ []))
+      (not-minor-law (g .activation) cycles (n .activation))
+
+  pub line-answer : r ≡ firstFalse 19 (lineTests (g .alines) (g .present) (g .latched) (g .desired) (g .atask) (g .apos) (g .aflag) (marked table))
+      → r ≡ firstFalse 19 (lineGroup g cycles)
+  line-answer q =
+      q
+      ∙ ap (λ (l : List ℕ). firstFalse 19 (lineTests (g .alines) (g .present) (g .latched) (g .desired) (g .atask) (g .apos) (g .aflag) (marked l))) e
+      ∙ ap (λ (b : Bool). firstFalse 19 (namedB (g .alines) (g .present) (g .atask) (g .apos) ∷ usedB (g .alines) (g .present) (g .atask) (g .apos) ∷ b ∷ []))
+      (minor-conditions-law (g .alines) (g .latched) (g .desired) (g .atask) (g .apos) (g .aflag) cycles (n .fit .flags))

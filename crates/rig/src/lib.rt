@@ -446,7 +446,7 @@ fn rest_rules<'a>(
     aflag: &'a [u8; 1024],
     row: [Row; 64],
 ) -> u8
-    requires { ⌜ rows ≤ 64 ⌝ }
+    requires { ⌜ (alines ≤ 1024) × (rows ≤ 64) ⌝ }
     ensures { λ r.
         ⌜
         r

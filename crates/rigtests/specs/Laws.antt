@@ -34,9 +34,9 @@ pub serves-is : (activation : List ℕ) (t : ℕ) → Is (servesOne activation t
 serves-is activation t =
     is-else (is-eqb (at activation t) 0)
     (is-all 65 (λ u h.
-      is-said (is-or (is-eqb u t) (is-not (is-eqb (at activation u) (at activation t))))
-          (λ w e. ⊎-elim (λ q. q) (λ n. absurd (n e)) w)
-          (λ f. by (eqb u t) (λ e. inl (eqb-true u t e)) (λ e. inr (λ q. eqb-false u t e (f q))))))
+    is-said (is-or (is-eqb u t) (is-not (is-eqb (at activation u) (at activation t))))
+    (λ w e. ⊎-elim (λ q. q) (λ n. absurd (n e)) w)
+    (λ f. by (eqb u t) (λ e. inl (eqb-true u t e)) (λ e. inr (λ q. eqb-false u t e (f q))))))
 
 -- it is owned by its task exactly where it serves no other
 module _ (activation : List ℕ) (small : (t : ℕ) → t < 65 → at activation t ≤ 128) where

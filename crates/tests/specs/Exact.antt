@@ -6,11 +6,11 @@ use mathlib.Core.List.{List}
 use Prim.Native.Nat.{ℕ, _≤_, _<_}
 use native.Mathlib.Omega.{arith}
 use lib.Dec.{eqb, leb, ltb}
-use lib.ListN.{length, getD}
+use lib.ListN.{length, getD, List·getD-eq-default}
 use borrow.Author.Tests.{leb-true, le-leb, ltb-true, ltb-false, le-ltb, eqb-true, eqb-false, eq-eqb, ne-eqb}
 use Rattle.laws.specs.Cases.{by, by-eqb}
 use Rattle.laws.specs.All.{all, all-at, all-all}
-use Rattle.laws.specs.Tables.{beyond, has-place}
+use Rattle.laws.specs.Tables.{has-place}
 use Rattle.rules.specs.State.{active}
 use Rattle.rules.specs.Calls.{noSuch}
 use Rattle.rules.specs.Soundness.{Within, Tree}
@@ -25,7 +25,7 @@ no-such many n e h = true≢false (sym e ∙ rw (ne-eqb n 0 (λ q. omega (arith,
 -- every place of a table, in range or not
 everywhere : (l : List ℕ) (P : ℕ → ℕ → Type 0) → ((i : ℕ) → P i 0) → ((i : ℕ) → i < length l → P i (getD l i 0)) → (i : ℕ) → P i (getD l i 0)
 everywhere l P z h i =
-    by (ltb i (length l)) (λ e. h i (ltb-true i (length l) e)) (λ e. rw (beyond l i (ltb-false i (length l) e)) (z i))
+    by (ltb i (length l)) (λ e. h i (ltb-true i (length l) e)) (λ e. rw (List·getD-eq-default l 0 (ltb-false i (length l) e)) (z i))
 
 not-true : (b : Bool) → not b ≡ true → b ≡ false
 not-true true e = absurd (false≢true e)

@@ -1,9 +1,11 @@
 use borrow.Author.Needs.{needs}
 use mathlib.Core.Path.{_≡_, refl, sym, _∙_, ap}
-use mathlib.Core.Bool.{true, false, not}
-use borrow.Author.Tests.{not-true, not-false, lt-leb, le-leb, ne-eqb, eq-eqb}
+use mathlib.Core.Bool.{true, false}
+use borrow.Author.Tests.{not-true, not-false, eq-eqb}
 use Prim.Native.Nat.{ℕ, _≤_, _-_, _+_}
 use native.Mathlib.Omega.{arith}
+use lib.ListN.{length}
+use Rattle.laws.specs.Cases.{and-go}
 use Rattle.laws.specs.All.{all, all-zero, all-next, all-not}
 use Rattle.rig.specs.Tests.{cycleRisesOne, cyclesRiseB}
 use Rattle.rig.proofs.cycles_rise.Statement.{statement}
@@ -13,7 +15,7 @@ use Rattle.rig.proofs.cycles_rise.Lts as lts
 use Rattle.rigtests.proofs.cycle_rises.Reads as cycle-rises-reads
 
 abbrev Inv-loop : tie.InvT-loop
-Inv-loop cycles c₀ c = (all c (cycleRisesOne cycles) ≡ true) × (c ≤ 64)
+Inv-loop cycles c₀ c = (all c (cycleRisesOne cycles) ≡ true) × ((length cycles ≡ 64) × (c ≤ 64))
 
 abbrev μ-loop : tie.MeasureT-loop
 μ-loop cycles c₀ c = 64 - c
@@ -30,16 +32,16 @@ mul-cycle c = search needs
 array-copy-out-cycle : tie.Need-array-copy-out-cycle Inv-loop μ-loop
 array-copy-out-cycle c = search needs
 
--- src/lib.rt:180:13
+-- src/lib.rt:181:13
 cycle-rises-requires : tie.Need-cycle-rises-requires Inv-loop μ-loop
 cycle-rises-requires c κs = search needs
 
--- src/lib.rt:181:13
+-- src/lib.rt:182:13
 returns : tie.Need-returns Inv-loop μ-loop
 unfolding cyclesRiseB
-returns c = sym (all-not _ _ (c .before .before .before .before .before .before .loop .c) (c .before .before .before .before .before .loop-test .taken) (sym (c .before .cycle-rises .ensures) ∙ not-true _ (c .if1 .taken)))
+returns c = sym (and-go (eq-eqb _ _ (c .before .before .before .before .before .loop .inv .1 .0)) (all-not 64 (cycleRisesOne (c .before .before .before .before .before .before .args .t1)) (c .before .before .before .before .before .loop .c) (c .before .before .before .before .loop-test .taken) (sym (c .before .cycle-rises .ensures) ∙ not-true _ (c .if1 .taken))))
 
--- src/lib.rt:183:13
+-- src/lib.rt:184:13
 add-c : tie.Need-add-c Inv-loop μ-loop
 add-c c = search needs
 
@@ -49,14 +51,14 @@ loop-less c = search needs
 
 -- src/lib.rt:178:5
 loop-again : tie.Need-loop-again Inv-loop μ-loop
-loop-again c = (all-next _ _ (c .before .before .before .before .before .before .loop .inv .0) (sym (c .before .cycle-rises .ensures) ∙ not-false _ (c .if1 .left)), search needs)
+loop-again c = (all-next _ _ (c .before .before .before .before .before .loop .inv .0) (sym (c .before .cycle-rises .ensures) ∙ not-false _ (c .if1 .left)), search needs)
 
 -- src/lib.rt:174:1
 returns-2 : tie.Need-returns-2 Inv-loop μ-loop
 unfolding cyclesRiseB
 returns-2 c =
     let e : c .before .loop .c ≡ 64 = omega arith in
-    sym (rw e at (c .before .loop .inv .0))
+    sym (and-go (eq-eqb _ _ (c .before .loop .inv .1 .0)) (rw e at (c .before .loop .inv .0)))
 
 pub cycles-rise-spec : {M : Type 1} → statement M
 cycles-rise-spec =

@@ -4,6 +4,7 @@ use Prim.Native.Nat.{ℕ, _≤_, _-_, _+_}
 use native.Mathlib.Omega.{arith}
 use lib.ListN.{set, replicate}
 use Rattle.laws.specs.Iter.{iter, iter-zero, iter-step}
+use mathlib.Core.List.{List}
 use Rattle.rig.specs.Tests.{markCycle, minorMarks}
 use Rattle.rig.proofs.minor_marks.Statement.{statement}
 use Rattle.rig.proofs.minor_marks.Tie as tie
@@ -31,7 +32,7 @@ array-copy-out-cycle c = search needs
 
 -- src/lib.rt:211:9
 mark-cycle-requires : tie.Need-mark-cycle-requires Inv-loop μ-loop
-mark-cycle-requires c κs = ?
+mark-cycle-requires c κs = λ i h. c .before .before .before .before .before .before .pre (c .before .before .before .before .before .loop .c) (c .before .before .before .before .loop-test .taken) i h
 
 -- src/lib.rt:212:13
 add-c : tie.Need-add-c Inv-loop μ-loop
@@ -43,7 +44,9 @@ loop-less c = search needs
 
 -- src/lib.rt:209:5
 loop-again : tie.Need-loop-again Inv-loop μ-loop
-loop-again c = ?
+loop-again c =
+    let d = c .before .before .before .before .before .before in
+    (c .mark-cycle .ensures ∙ iter-step (d .loop .c) (markCycle (d .before .args .t1)) (replicate 129 0) (d .loop .table) (d .loop .inv .0), search needs)
 
 -- src/lib.rt:214:5
 array-write-table : tie.Need-array-write-table Inv-loop μ-loop
@@ -51,7 +54,10 @@ array-write-table c = search needs
 
 -- src/lib.rt:203:1
 returns : tie.Need-returns Inv-loop μ-loop
-returns c = ?
+unfolding minorMarks
+returns c =
+    let e : c .before .loop .c ≡ 64 = omega arith in
+    ap (λ (l : List ℕ). set l 0 0) (rw e at (c .before .loop .inv .0))
 
 pub minor-marks-spec : {M : Type 1} → statement M
 minor-marks-spec =

@@ -1,9 +1,11 @@
 use borrow.Author.Needs.{needs}
 use mathlib.Core.Path.{_≡_, refl, sym, _∙_, ap}
-use mathlib.Core.Bool.{true, false, not}
-use borrow.Author.Tests.{not-true, not-false, lt-leb, le-leb, ne-eqb, eq-eqb}
+use mathlib.Core.Bool.{true, false}
+use borrow.Author.Tests.{not-true, not-false, eq-eqb}
 use Prim.Native.Nat.{ℕ, _≤_, _-_, _+_}
 use native.Mathlib.Omega.{arith}
+use lib.ListN.{length}
+use Rattle.laws.specs.Cases.{and-go}
 use Rattle.laws.specs.All.{all, all-zero, all-next, all-not}
 use Rattle.rig.specs.Tests.{rowOne, rowsB}
 use Rattle.rig.proofs.rows_ok.Statement.{statement}
@@ -13,7 +15,7 @@ use Rattle.rig.proofs.rows_ok.Lts as lts
 use Rattle.rig.proofs.row_ok.Reads as row-ok-reads
 
 abbrev Inv-loop : tie.InvT-loop
-Inv-loop n row k₀ k = (all k (rowOne row) ≡ true) × (k ≤ n)
+Inv-loop n row k₀ k = (all k (rowOne row) ≡ true) × ((length row ≡ 64) × (k ≤ n))
 
 abbrev μ-loop : tie.MeasureT-loop
 μ-loop n row k₀ k = n - k
@@ -37,7 +39,7 @@ row-ok-requires c κs = search needs
 -- src/lib.rt:167:13
 returns : tie.Need-returns Inv-loop μ-loop
 unfolding rowsB
-returns c = sym (all-not _ _ (c .before .before .before .before .loop .k) (c .before .before .before .loop-test .taken) (sym (c .before .row-ok .ensures) ∙ not-true _ (c .if1 .taken)))
+returns c = sym (and-go (eq-eqb _ _ (c .before .before .before .before .loop .inv .1 .0)) (all-not (c .before .before .before .before .before .args .n) (rowOne (c .before .before .before .before .before .args .t2)) (c .before .before .before .before .loop .k) (c .before .before .before .loop-test .taken) (sym (c .before .row-ok .ensures) ∙ not-true _ (c .if1 .taken))))
 
 -- src/lib.rt:169:13
 add-k : tie.Need-add-k Inv-loop μ-loop
@@ -56,7 +58,7 @@ returns-2 : tie.Need-returns-2 Inv-loop μ-loop
 unfolding rowsB
 returns-2 c =
     let e : c .before .loop .k ≡ c .before .before .args .n = omega arith in
-    sym (rw e at (c .before .loop .inv .0))
+    sym (and-go (eq-eqb _ _ (c .before .loop .inv .1 .0)) (rw e at (c .before .loop .inv .0)))
 
 pub rows-ok-spec : {M : Type 1} → statement M
 rows-ok-spec =

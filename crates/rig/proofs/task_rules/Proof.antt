@@ -1,3 +1,8 @@
+use mathlib.Core.Path.{_≡_, refl, sym, _∙_, ap}
+use borrow.Author.Tests.{ne-eqb, eq-eqb, lt-leb, le-leb, not-true, not-false}
+use Rattle.laws.specs.First.{firstFalse, first-none, first-skip, first-here}
+use Rattle.rigtests.specs.Tables.{servedB}
+use Rattle.rigtests.specs.Laws.{served-law}
 use borrow.Author.Needs.{needs}
 use Rattle.rig.proofs.task_rules.Statement.{statement}
 use Rattle.rig.proofs.task_rules.Tie as tie
@@ -14,7 +19,7 @@ controllers-requires c κs = search needs
 
 -- src/lib.rt:390:9
 returns : tie.Need-returns
-returns c = ?
+returns c = sym (first-here 16 _ _ (sym (c .before .controllers .ensures) ∙ not-true _ (c .if1 .taken)))
 
 -- src/lib.rt:392:17
 flag-owners-requires : tie.Need-flag-owners-requires
@@ -26,7 +31,7 @@ served-requires c κs = search needs
 
 -- src/lib.rt:394:9
 returns-2 : tie.Need-returns-2
-returns-2 c = ?
+returns-2 c = sym (first-skip 16 _ _ (sym (c .before .before .before .before .before .controllers .ensures) ∙ not-false _ (c .before .before .before .before .if1 .left)) ∙ first-here 17 _ _ (sym (served-law (c .before .before .before .before .before .before .args .activation .now) (c .before .before .before .before .before .before .pre .1 .1)) ∙ ap (servedB (c .before .before .before .before .before .before .args .activation .now)) (sym (c .before .before .before .flag-owners .ensures)) ∙ sym (c .before .served .ensures) ∙ not-true _ (c .if2 .taken)))
 
 -- src/lib.rt:396:9
 unmarked-requires : tie.Need-unmarked-requires
@@ -34,11 +39,11 @@ unmarked-requires c κs = search needs
 
 -- src/lib.rt:397:9
 returns-3 : tie.Need-returns-3
-returns-3 c = ?
+returns-3 c = sym (first-skip 16 _ _ (sym (c .before .before .before .before .before .before .before .controllers .ensures) ∙ not-false _ (c .before .before .before .before .before .before .if1 .left)) ∙ first-skip 17 _ _ (sym (served-law (c .before .before .before .before .before .before .before .before .args .activation .now) (c .before .before .before .before .before .before .before .before .pre .1 .1)) ∙ ap (servedB (c .before .before .before .before .before .before .before .before .args .activation .now)) (sym (c .before .before .before .before .before .flag-owners .ensures)) ∙ sym (c .before .before .before .served .ensures) ∙ not-false _ (c .before .before .if2 .left)) ∙ first-here 18 _ _ (sym (c .before .unmarked .ensures) ∙ not-true _ (c .if3 .taken)))
 
 -- src/lib.rt:380:1
 returns-4 : tie.Need-returns-4
-returns-4 c = ?
+returns-4 c = sym (first-skip 16 _ _ (sym (c .before .before .before .before .before .before .before .controllers .ensures) ∙ not-false _ (c .before .before .before .before .before .before .if1 .left)) ∙ first-skip 17 _ _ (sym (served-law (c .before .before .before .before .before .before .before .before .args .activation .now) (c .before .before .before .before .before .before .before .before .pre .1 .1)) ∙ ap (servedB (c .before .before .before .before .before .before .before .before .args .activation .now)) (sym (c .before .before .before .before .before .flag-owners .ensures)) ∙ sym (c .before .before .before .served .ensures) ∙ not-false _ (c .before .before .if2 .left)) ∙ first-skip 18 _ _ (sym (c .before .unmarked .ensures) ∙ not-false _ (c .if3 .left)) ∙ first-none 19)
 
 pub task-rules-spec : {M : Type 1} → statement M
 task-rules-spec =

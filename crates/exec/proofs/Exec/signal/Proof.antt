@@ -20,7 +20,7 @@ use Rattle.exec.proofs.Exec.signal.Lts as lts
 use Rattle.exec.proofs.Exec.refuse.Reads as refuse-reads
 use Rattle.exec.proofs.Exec.settle.Reads as settle-reads
 use Rattle.exec.proofs.Exec.signal_refusal.Reads as signal-refusal-reads
-use Rattle.exec.proofs.bit_of.Reads as bit-of-reads
+use Rattle.exec.proofs.answers.bit_of.Reads as bit-of-reads
 use Rattle.steps.proofs.Queue.empty.Reads as empty-reads
 use Rattle.steps.proofs.Queue.push.Reads as push-reads
 

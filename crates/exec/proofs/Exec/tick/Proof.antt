@@ -18,7 +18,7 @@ use Rattle.compool.proofs.bus_words.Reads as bus-words-reads
 use Rattle.exec.proofs.Exec.accept.Reads as accept-reads
 use Rattle.exec.proofs.Exec.refuse.Reads as refuse-reads
 use Rattle.exec.proofs.Exec.tick_refusal.Reads as tick-refusal-reads
-use Rattle.exec.proofs.settled.Reads as settled-reads
+use Rattle.exec.proofs.answers.settled.Reads as settled-reads
 use Rattle.state.proofs.State.ticked.Reads as ticked-reads
 
 -- src/tick.rt:14:13

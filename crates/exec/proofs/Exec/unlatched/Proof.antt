@@ -22,7 +22,7 @@ use Rattle.exec.proofs.Exec.unlatched.Lts as lts
 use Rattle.exec.proofs.Exec.flag_refusal.Reads as flag-refusal-reads
 use Rattle.exec.proofs.Exec.refuse.Reads as refuse-reads
 use Rattle.exec.proofs.Exec.settle.Reads as settle-reads
-use Rattle.exec.proofs.bit_of.Reads as bit-of-reads
+use Rattle.exec.proofs.answers.bit_of.Reads as bit-of-reads
 use Rattle.state.proofs.State.wait_on.Reads as wait-on-reads
 use Rattle.steps.proofs.Queue.empty.Reads as empty-reads
 

@@ -1,6 +1,6 @@
 use mathlib.Core.Path.{_≡_, refl, sym, _∙_, ap}
 use native.Mathlib.Omega.{arith}
-use Rattle.laws.specs.Tables.{beyond}
+use lib.ListN.{List·getD-eq-default}
 use lib.ListN.{length}
 use borrow.Author.Needs.{needs}
 use Rattle.exec.proofs.refusals.look.Statement.{statement}
@@ -18,7 +18,7 @@ returns c = search needs
 
 -- src/refusals.rt:10:1
 returns-2 : tie.Need-returns-2
-returns-2 c = sym (beyond (c .before .args .table .now) (c .before .args .i) (omega (arith, c .if1 .left)))
+returns-2 c = sym (List·getD-eq-default (c .before .args .table .now) 0 (omega (arith, c .if1 .left)))
 
 pub look-spec : {M : Type 1} → statement M
 look-spec = tie.close (tie.spec shared-slice-read-result returns returns-2)

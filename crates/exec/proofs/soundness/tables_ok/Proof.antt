@@ -5,10 +5,10 @@ use borrow.Author.Tests.{not-true, not-false, lt-leb, le-leb}
 use Rattle.laws.specs.All.{allOf, allOf-not}
 use Rattle.exec.specs.Check.{tableTests, last-test}
 use borrow.Author.Needs.{needs}
-use Rattle.exec.proofs.tables_ok.Statement.{statement}
-use Rattle.exec.proofs.tables_ok.Tie as tie
-use Rattle.exec.proofs.tables_ok.Reads as reads
-use Rattle.exec.proofs.tables_ok.Lts as lts
+use Rattle.exec.proofs.soundness.tables_ok.Statement.{statement}
+use Rattle.exec.proofs.soundness.tables_ok.Tie as tie
+use Rattle.exec.proofs.soundness.tables_ok.Reads as reads
+use Rattle.exec.proofs.soundness.tables_ok.Lts as lts
 use Rattle.steps.proofs.chosen.Reads as chosen-reads
 use Rattle.tests.proofs.conds.Reads as conds-reads
 use Rattle.tests.proofs.empty.Reads as empty-reads

@@ -6,10 +6,10 @@ use Rattle.exec.specs.Check.{ChainsSound, order-facts, order-back}
 use Rattle.chains.specs.Held.{Sound}
 use Rattle.chains.specs.Held.{Sized}
 use borrow.Author.Needs.{needs}
-use Rattle.exec.proofs.chains_ok.Statement.{statement}
-use Rattle.exec.proofs.chains_ok.Tie as tie
-use Rattle.exec.proofs.chains_ok.Reads as reads
-use Rattle.exec.proofs.chains_ok.Lts as lts
+use Rattle.exec.proofs.soundness.chains_ok.Statement.{statement}
+use Rattle.exec.proofs.soundness.chains_ok.Tie as tie
+use Rattle.exec.proofs.soundness.chains_ok.Reads as reads
+use Rattle.exec.proofs.soundness.chains_ok.Lts as lts
 use Rattle.rings.proofs.in_order.Reads as in-order-reads
 use Rattle.rings.proofs.sound.Reads as sound-reads
 

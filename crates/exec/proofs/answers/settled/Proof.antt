@@ -1,10 +1,10 @@
 use mathlib.Core.Path.{_≡_, refl, sym, _∙_, ap}
 use Rattle.exec.specs.Settling.{settled-low, settled-is}
 use borrow.Author.Needs.{needs}
-use Rattle.exec.proofs.settled.Statement.{statement}
-use Rattle.exec.proofs.settled.Tie as tie
-use Rattle.exec.proofs.settled.Reads as reads
-use Rattle.exec.proofs.settled.Lts as lts
+use Rattle.exec.proofs.answers.settled.Statement.{statement}
+use Rattle.exec.proofs.answers.settled.Tie as tie
+use Rattle.exec.proofs.answers.settled.Reads as reads
+use Rattle.exec.proofs.answers.settled.Lts as lts
 use Rattle.state.proofs.State.dispatched.Reads as dispatched-reads
 use Rattle.state.proofs.serve.Reads as serve-reads
 
