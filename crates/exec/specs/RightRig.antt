@@ -22,7 +22,7 @@ use Rattle.state.specs.View.{rigOf}
 -- a bound on the entries that are there bounds them all
 pub bounded : (l : List ℕ) (n m : ℕ) → length l ≡ n → ((t : ℕ) → t < n → at l t ≤ m) → (t : ℕ) → at l t ≤ m
 bounded l n m z h t =
-    by (ltb t n) (λ e. h t (ltb-true t n e)) (λ e. omega (arith, List·getD-eq-default l 0 (omega (arith, ltb-false t n e))))
+    by (ltb t n) (λ e. h t (ltb-true t n e)) (λ e. let q : at l t ≡ 0 = List·getD-eq-default l 0 (omega (arith, ltb-false t n e)) in omega arith)
 
 module _ (g : Rig) (cycles : List Cycle) (h : Right g cycles) where
   -- a task's entries are 0 but for tasks 1 to the rig's number of tasks
