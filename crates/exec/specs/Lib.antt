@@ -6,13 +6,10 @@ pub mod Check
 pub mod Meeting
 pub mod Refusing
 pub mod Settling
-pub mod Starting
 pub mod Signal
 pub mod Reading
 pub mod Waits
 pub mod Tasks
 pub mod Tick
 pub mod Blocks
-pub mod Runs
-pub mod Demands
-pub mod RunLaws
+pub mod Starting

@@ -29,15 +29,15 @@ use Rattle.rules.specs.Waking.{Struck, Spared}
 use Rattle.rules.specs.Waking as W
 use Rattle.rules.specs.WakingLaws as WL
 use Rattle.state.specs.View.{rigOf}
 use Rattle.exec.specs.Sound.{rigIn, view, Sound}
 use Rattle.exec.specs.Call.{Follows, Meets, answerOf, refuse}
 use Rattle.exec.specs.Unique.{record-same}
 use Rattle.exec.specs.RightRig.{rig-ok}
 use Rattle.exec.specs.Starting.{Started, noExec}
-use Rattle.exec.specs.Runs.{Made, MadeOn, Ran, callsOf, codeOf, servedOf, AcceptedStart, noting, historyIn, SparedIn}
-use Rattle.exec.specs.Demands.{Anchor, Stands, Chained, Activated, Bounded, Demand, Wakes, forwardIn, stateIn}
+use Rattle.runs.specs.Runs.{Made, MadeOn, Ran, callsOf, codeOf, servedOf, AcceptedStart, noting, historyIn, SparedIn}
+use Rattle.runs.specs.Demands.{Anchor, Stands, Chained, Activated, Bounded, Demand, Wakes, forwardIn, stateIn}
 use Rattle.exec.specs.declared.Exec.{Exec}
 use Rattle.exec.specs.declared.Step.{Step}
 
 -- ---- the table gives no number above 10
 

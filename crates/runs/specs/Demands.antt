@@ -13,9 +13,9 @@ use Rattle.chains.specs.Read.{chainAt, backAt}
 use Rattle.rules.specs.State.{timeChain, waiting, dispatchable, on}
 use Rattle.rules.specs.Calls.{tick, run, start}
 use Rattle.rules.specs.History.{Earlier, Sooner}
 use Rattle.exec.specs.Sound.{rigIn, view, Sound}
-use Rattle.exec.specs.Runs.{Made, MadeOn, callsOf, codeOf, servedOf, historyIn}
+use Rattle.runs.specs.Runs.{Made, MadeOn, callsOf, codeOf, servedOf, historyIn}
 use Rattle.exec.specs.declared.Exec.{Exec}
 
 -- the state of a task, and its waking count; who waits in a chain, read forward and backward
 abbrev pub stateIn : Exec → ℕ → ℕ
@@ -43,7 +43,7 @@ pub record Stands (x : Exec) (ms : List Made) (y : Exec) : Type 0 where
   pub cycles : y .cycles ≡ x .cycles
   pub shows : view y ≡ run (rigIn x) (start (rigIn x)) (callsOf ms)
 
--- "each chain lists exactly who waits there, once, in order", forward, "and backward the reverse"
+-- "each wait chain read forward lists exactly the tasks that wait there, once each, in order, and backward the reverse"
 pub record Chained (x : Exec) (ms : List Made) (y : Exec) : Type 0 where
   pub forward : (c : ℕ) → Anchor c → forwardIn y c ≡ run (rigIn x) (start (rigIn x)) (callsOf ms) .chains c
   pub backward : (c : ℕ) → Anchor c → backwardIn y c ≡ reverse (forwardIn y c)
