@@ -1,14 +1,13 @@
 -- Blocks: what reading and writing ask, and what they owe.
-use mathlib.Core.Path.{_≡_, refl, sym, _∙_, ap}
-use mathlib.Core.Bool.{Bool, true, false, not, _||_}
+use mathlib.Core.Path.{_≡_, refl, sym}
+use mathlib.Core.Bool.{false, not}
 use mathlib.Core.List.{List, []}
 use Prim.Native.Nat.{ℕ, _+_, _-_, _*_, _<_, _≤_}
 use native.Mathlib.Omega.{arith}
 use lib.Dec.{eqb}
-use lib.ListN.{length}
 use borrow.Author.Tests.{eqb-true, not-false}
 use Rattle.laws.specs.Cases.{or-false}
-use Rattle.rules.specs.Bus.{blockAt, areaWords, blockWords, copied, written}
+use Rattle.rules.specs.Bus.{blockAt, blockWords, copied, written}
 use Rattle.rules.specs.Calls as R
 use Rattle.rules.specs.Acceptance.{passed, there-is}
 use Rattle.exec.specs.Sound.{rigIn, view, Sound}

@@ -1,7 +1,7 @@
 -- The soundness check: the tests that the code makes, and that they all hold exactly when the record is sound.
-use mathlib.Core.Path.{_≡_, refl, sym, _∙_, ap, subst}
-use mathlib.Core.Logic.{_≢_, _⊎_, inl, inr, ⊎-elim, _↔_}
-use mathlib.Core.Bool.{Bool, true, false, cond}
+use mathlib.Core.Path.{_≡_, sym, _∙_, ap, subst}
+use mathlib.Core.Logic.{_≢_, _⊎_, ⊎-elim, _↔_}
+use mathlib.Core.Bool.{Bool, true, cond}
 use mathlib.Core.List.{List, [], _∷_}
 use Prim.Native.Nat.{ℕ, zero, suc, _+_, _<_, _≤_}
 use native.Mathlib.Omega.{arith}
@@ -27,9 +27,8 @@ use Rattle.rules.specs.Ranks.{chosen-runs, runs-chosen}
 use Rattle.rules.specs.Soundness as R
 use Rattle.tests.specs.Tests.{withinB, emptyB, condsB, treeB, waitsB, flagsB}
 use Rattle.tests.specs.Exact.{within-facts, within-back, empty-facts, empty-back, conds-facts, conds-back, tree-facts, tree-back, waits-facts, waits-back, flags-facts, flags-back}
-use Rattle.state.specs.View.{rigOf, viewOf}
 use Rattle.state.specs.declared.State.{State}
-use Rattle.exec.specs.Sound.{rigIn, view, Sound}
+use Rattle.exec.specs.Sound.{Sound}
 use Rattle.exec.specs.RightRig.{rig-ok}
 use Rattle.exec.specs.declared.Exec.{Exec}
 

@@ -13,3 +13,4 @@ pub mod Tasks
 pub mod Tick
 pub mod Blocks
 pub mod Starting
+pub mod Promises

@@ -1,6 +1,6 @@
 -- How a call meets what it owes: refused by 12, refused by its table, or accepted.
 use mathlib.Core.Path.{_≡_, refl, sym, _∙_, ap, subst}
-use mathlib.Core.Logic.{_≢_, _⊎_, inl, inr}
+use mathlib.Core.Logic.{_≢_, inl, inr}
 use mathlib.Core.List.{List, []}
 use Prim.Native.Nat.{ℕ, zero, suc}
 use native.Mathlib.Omega.{arith}
@@ -23,7 +23,7 @@ use Rattle.exec.specs.RightRig.{rig-ok}
 use Rattle.exec.specs.declared.Exec.{Exec}
 use Rattle.exec.specs.declared.Report.{Report}
 use Rattle.exec.specs.declared.Step.{Step}
-use Rattle.exec.specs.declared.Answer.the-variants.{Accepted, Refused}
+use Rattle.exec.specs.declared.Answer.the-variants.{Accepted}
 
 -- the record with another state
 abbrev pub withState : Exec → State → Exec

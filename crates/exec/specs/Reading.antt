@@ -1,6 +1,6 @@
 -- Reading a flag: what it puts out.
 use mathlib.Core.Path.{_≡_, refl, sym}
-use mathlib.Core.List.{List, []}
+use mathlib.Core.List.{[]}
 use Prim.Native.Nat.{ℕ}
 use Rattle.rules.specs.Rig as G
 use Rattle.rules.specs.State as S

@@ -3,7 +3,7 @@ use mathlib.Core.Path.{_≡_, refl, sym, _∙_, ap}
 use mathlib.Core.Logic.{_≢_, _⊎_, inl, inr, ⊎-elim}
 use mathlib.Core.Bool.{Bool, true, false, not, cond, _||_}
 use mathlib.Core.List.{List, [], _∷_}
-use Prim.Native.Nat.{ℕ, zero, suc, _+_, _≤_}
+use Prim.Native.Nat.{ℕ, _+_, _≤_}
 use lib.Dec.{eqb, leb, ltb}
 use lib.ListN.{length}
 use native.Mathlib.Omega.{arith}
@@ -14,6 +14,7 @@ use Rattle.rules.specs.Calls.{Call, schedule, cancel, terminate, finish, tick, 
 use Rattle.rules.specs.Calls.{Refusal, row, decide, refusals, refusal, lent, nobodyRuns, noSuch, notController, isInvoked, isUninvoked, notActive, isMinor, notPlain, lastCount, wrongBlock}
 use borrow.Author.Tests.{ltb-false}
 use Rattle.rules.specs.Acceptance.{passed, flagged-is}
+use Rattle.rules.specs.Refusals.{decide-here, decide-next}
 use Rattle.exec.specs.Sound.{rigIn, view, Sound}
 use Rattle.exec.specs.Call.{Meets, refuse}
 use Rattle.exec.specs.Meeting.{unsound, refused}
@@ -53,12 +54,10 @@ unfolding decide
 none = refl
 
 pub here : (n : ℕ) (b : Bool) (xs : List Refusal) → b ≡ true → n ≡ decide (row n b ∷ xs)
-unfolding decide
-here n b xs e = rw e
+here n b xs e = sym (decide-here n b xs e)
 
 pub past : (m n : ℕ) (b : Bool) (xs : List Refusal) → b ≡ false → m ≡ decide xs → m ≡ decide (row n b ∷ xs)
-unfolding decide
-past m n b xs e f = f ∙ rw e
+past m n b xs e f = f ∙ sym (decide-next n b xs e)
 
 -- where another test joins the last row of a table of flags
 module _ (r : Rig) (s : State) (f : ℕ) (a b : Bool) where

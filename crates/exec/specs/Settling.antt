@@ -1,19 +1,17 @@
 -- What an accepted call has queued is served, and then it is decided who runs: what this asks holds of every call, and what
 -- it gives is what the call owes.
-use mathlib.Core.Path.{_≡_, refl, sym, _∙_, ap, subst}
-use mathlib.Core.Logic.{_≢_}
+use mathlib.Core.Path.{_≡_, sym, _∙_, ap, subst}
 use mathlib.Core.Bool.{Bool, true, false, cond}
 use mathlib.Core.List.{List, [], _∷_}
-use Prim.Native.Nat.{ℕ, zero, suc, _+_, _<_, _≤_}
+use Prim.Native.Nat.{ℕ, _+_, _≤_}
 use native.Mathlib.Omega.{arith}
 use lib.Dec.{eqb, leb}
 use lib.ListN.{set}
-use Rattle.chains.specs.Held.{at, Sized}
+use Rattle.chains.specs.Held.{Sized}
 use Rattle.chains.specs.Held as L
 use Rattle.rig.specs.Rules.{Right}
 use Rattle.rig.specs.declared.Cycle.{Cycle}
 use Rattle.rig.specs.declared.Rig.{Rig}
-use Rattle.rules.specs.RigOk.{RigOk}
 use Rattle.rules.specs.Rig as G
 use Rattle.rules.specs.State as S
 use Rattle.rules.specs.Conditions.{relax, met}
@@ -27,9 +25,8 @@ use Rattle.rules.specs.Serve.{load}
 use Rattle.rules.specs.Good.{serve-running}
 use Rattle.rules.specs.Bound.{effect-load}
 use Rattle.rules.specs.Steps.{effect-ready}
-use Rattle.steps.specs.Post.{Lines}
-use Rattle.state.specs.View.{rigOf, viewOf, workOf, doneOf}
-use Rattle.state.specs.Post.{Fits, FlagOk, Servable, Begins, Emptied, Dispatched}
+use Rattle.state.specs.View.{rigOf, viewOf, workOf}
+use Rattle.state.specs.Post.{Fits, Servable, Begins, Emptied, Dispatched}
 use Rattle.state.specs.declared.State.{State}
 use Rattle.state.specs.declared.Work.{Work}
 use Rattle.state.specs.declared.Done.{Done}

@@ -1,7 +1,6 @@
 -- A SOUND RECORD.
 -- "A record is sound when its rig obeys the rules, .., waiting tasks and links agree as demand 3 says (..; a task in no
 -- chain has links 0), .."
-use mathlib.Core.Path.{_≡_}
 use Rattle.chains.specs.Held.{Sized}
 use Rattle.chains.specs.Held as Links
 use Rattle.rig.specs.Rules.{Right}

@@ -1,10 +1,10 @@
 -- THE START, and the record of all zeros that a refused start returns.
 use mathlib.Core.Path.{_≡_, refl, sym, _∙_, ap, subst}
-use mathlib.Core.Logic.{_≢_, _⊎_, inl, inr, ⊎-elim}
-use mathlib.Core.List.{List, []}
-use Prim.Native.Nat.{ℕ, _<_, _≤_}
+use mathlib.Core.Logic.{_⊎_, ⊎-elim}
+use mathlib.Core.List.{List}
+use Prim.Native.Nat.{ℕ, _≤_}
 use native.Mathlib.Omega.{arith}
-use lib.ListN.{length, replicate, length-replicate}
+use lib.ListN.{replicate, length-replicate}
 use Rattle.chains.specs.Held as L
 use Rattle.rig.specs.Rules.{Right}
 use Rattle.rig.specs.Forms.{cyclesOf, noRig, noCycles}
@@ -24,7 +24,7 @@ use Rattle.state.specs.declared.State.{State}
 use Rattle.state.specs.declared.Work.{Work}
 use Rattle.state.specs.declared.Done.{Done}
 use Rattle.exec.specs.Sound.{view, Sound}
-use Rattle.exec.specs.Call.{Meets, Proper, answerOf, reportOf, refuse}
+use Rattle.exec.specs.Call.{Meets, refuse}
 use Rattle.exec.specs.Unique.{record-same}
 use Rattle.exec.specs.RightRig.{rig-ok}
 use Rattle.exec.specs.Meeting.{servedOnly}

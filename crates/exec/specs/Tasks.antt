@@ -1,20 +1,19 @@
 -- Calls that name a task, and the finish: what the state's methods ask and give.
-use mathlib.Core.Path.{_≡_, refl, sym, _∙_, ap, subst}
-use mathlib.Core.Logic.{_≢_}
-use mathlib.Core.Bool.{Bool, true, false, not, cond}
-use mathlib.Core.List.{List, []}
+use mathlib.Core.Path.{_≡_, refl, sym, subst}
+use mathlib.Core.Bool.{Bool}
+use mathlib.Core.List.{List}
 use Prim.Native.Nat.{ℕ, zero, suc, _<_, _≤_}
 use native.Mathlib.Omega.{arith}
-use lib.Dec.{eqb, leb, ltb}
+use lib.Dec.{eqb, ltb}
 use borrow.Author.Tests.{le-ltb}
 use Rattle.chains.specs.Held as L
-use Rattle.rig.specs.Rules.{at, Right}
+use Rattle.rig.specs.Rules.{Right}
 use Rattle.rig.specs.declared.Cycle.{Cycle}
 use Rattle.rig.specs.declared.Rig.{Rig}
 use Rattle.rules.specs.State as S
 use Rattle.rules.specs.Calls as R
 use Rattle.rules.specs.Acceptance.{named-is}
-use Rattle.state.specs.View.{rigOf, viewOf, workOf}
+use Rattle.state.specs.View.{workOf}
 use Rattle.state.specs.Post.{CancelOk, Finished, Terminated, Cancelled, Scheduled}
 use Rattle.state.specs.declared.Work.{Work}
 use Rattle.exec.specs.Sound.{rigIn, view, Sound}

@@ -1,9 +1,9 @@
 -- The tick: what its parts ask, and what it owes.
-use mathlib.Core.Path.{_≡_, refl, sym, _∙_, ap}
-use mathlib.Core.Logic.{_≢_, _⊎_, inl, inr, ⊎-elim}
+use mathlib.Core.Path.{_≡_, sym, _∙_, ap}
+use mathlib.Core.Logic.{inl, inr}
 use mathlib.Core.Bool.{Bool, true, false, cond}
-use mathlib.Core.List.{List, [], _∷_, _++_}
-use Prim.Native.Nat.{ℕ, zero, suc, _+_, _<_, _≤_}
+use mathlib.Core.List.{List, [], _++_}
+use Prim.Native.Nat.{ℕ, suc, _+_, _<_, _≤_}
 use native.Mathlib.Omega.{arith}
 use lib.Dec.{leb, ltb}
 use lib.ListN.{length, length-append}
@@ -11,7 +11,7 @@ use borrow.Author.Tests.{leb-false, ltb-false}
 use Rattle.laws.specs.Members.{In}
 use Rattle.laws.specs.Iter.{iter-ind}
 use Rattle.laws.specs.Put.{put}
-use Rattle.rig.specs.Rules.{Right, RowSizes, periods}
+use Rattle.rig.specs.Rules.{Right, periods}
 use Rattle.rig.specs.declared.Cycle.{Cycle}
 use Rattle.rig.specs.declared.Rig.{Rig}
 use Rattle.rules.specs.Rig as G

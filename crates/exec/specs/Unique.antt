@@ -1,6 +1,6 @@
 -- THE STATEMENT FIXES THE RESULT: two results that meet what a call owes are equal.
-use mathlib.Core.Path.{_≡_, refl, sym, _∙_, ap, subst}
-use mathlib.Core.Logic.{_≢_, _⊎_, inl, inr, ⊎-elim}
+use mathlib.Core.Path.{_≡_, sym, _∙_, ap, subst}
+use mathlib.Core.Logic.{_⊎_, ⊎-elim}
 use mathlib.Core.List.{List}
 use Prim.Native.Nat.{ℕ}
 use Rattle.chains.specs.Held.{Held, Sized}
@@ -11,8 +11,8 @@ use Rattle.rules.specs.State as S
 use Rattle.rules.specs.Calls as R
 use Rattle.state.specs.View.{viewOf}
 use Rattle.state.specs.declared.State.{State}
-use Rattle.exec.specs.Sound.{rigIn, view, Sound}
-use Rattle.exec.specs.Call.{Follows, Meets, Proper, answerOf, refuse}
+use Rattle.exec.specs.Sound.{view, Sound}
+use Rattle.exec.specs.Call.{Follows, Meets, Proper, answerOf}
 use Rattle.exec.specs.declared.Exec.{Exec}
 use Rattle.exec.specs.declared.Report.{Report}
 use Rattle.exec.specs.declared.Step.{Step}

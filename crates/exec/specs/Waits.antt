@@ -1,20 +1,20 @@
 -- The running task begins to wait.
-use mathlib.Core.Path.{_≡_, refl, sym, _∙_, ap}
+use mathlib.Core.Path.{_≡_, sym, _∙_, ap}
 use mathlib.Core.Logic.{_≢_}
-use mathlib.Core.Bool.{Bool, true, false, cond}
-use mathlib.Core.List.{List, [], _∷_}
+use mathlib.Core.Bool.{Bool, cond}
+use mathlib.Core.List.{[]}
 use Prim.Native.Nat.{ℕ, _+_, _<_, _≤_}
 use native.Mathlib.Omega.{arith}
-use lib.Dec.{eqb, leb}
+use lib.Dec.{eqb}
 use lib.ListN.{getD}
 use borrow.Author.Tests.{eqb-true, eqb-false, eq-eqb, ne-eqb, le-leb, lt-leb}
-use Rattle.laws.specs.Cases.{by, if-yes, if-no}
+use Rattle.laws.specs.Cases.{by}
 use Rattle.chains.specs.Held.{at}
-use Rattle.chains.specs.Read.{chainsOf, sound-chains}
+use Rattle.chains.specs.Read.{sound-chains}
 use Rattle.rules.specs.State as S
 use Rattle.rules.specs.Waiting.{waitOn, waitUntilCount}
 use Rattle.rules.specs.Calls as R
-use Rattle.rules.specs.Acceptance.{somebody-runs, flagged-is}
+use Rattle.rules.specs.Acceptance.{flagged-is}
 use Rattle.steps.specs.View.{entriesOf}
 use Rattle.steps.specs.declared.Queue.{Queue}
 use Rattle.state.specs.View.{viewOf, workOf}

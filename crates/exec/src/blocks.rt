@@ -18,7 +18,7 @@ impl Exec {
     }
 
     // "Write stores the data and the count modulo 65,536 as tag and touches no other word"
-    pub fn write_block(self, k: u32, words: &[u16], area: &mut [u16]) -> Step
+    pub fn write_block(self, k: u32, area: &mut [u16], words: &[u16]) -> Step
         ensures { λ r. ⌜ Meets self (writeBlock k (now (area .entry)) (now (words .entry))) r (now (area .exit)) ⌝ }
     {
         let n = self.block_refusal(k, area.len(), words.len());

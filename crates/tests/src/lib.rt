@@ -1,9 +1,9 @@
 // The loops of the soundness check: each over single tables, with the test that it computes as its contract.
 ghost use mathlib.Core.Path.{_≡_};
 ghost use mathlib.Core.Bool.{not, cond, _||_};
-ghost use Prim.Native.Nat.{ℕ, _<_, _≤_};
+ghost use Prim.Native.Nat.{ℕ, _<_};
 ghost use lib.Dec.{eqb, leb};
-ghost use lib.ListN.{length, getD};
+ghost use lib.ListN.{getD};
 ghost use Rattle.rules.specs.State.{active};
 ghost use Rattle.rules.specs.Calls.{noSuch};
 ghost use Rattle.tests.specs.Tests.{withinB, emptyB, condsB, treeB, waitsB, flagsB};

@@ -1,6 +1,6 @@
-use mathlib.Core.Path.{_≡_, refl, sym, _∙_, ap, subst}
+use mathlib.Core.Path.{sym, _∙_, ap, subst}
 use mathlib.Core.Logic.{inl, inr}
-use mathlib.Core.Bool.{true, false, false≢true}
+use mathlib.Core.Bool.{false≢true}
 use mathlib.Core.List.{List}
 use borrow.Author.Tests.{not-true, not-false}
 use Rattle.rig.specs.Rules.{Right}
@@ -14,38 +14,24 @@ use Rattle.exec.specs.declared.Answer.the-variants.{Accepted}
 use borrow.Author.Needs.{needs}
 use Rattle.exec.proofs.start.Statement.{statement}
 use Rattle.exec.proofs.start.Tie as tie
-use Rattle.exec.proofs.start.Reads as reads
-use Rattle.exec.proofs.start.Lts as lts
-use Rattle.exec.proofs.Exec.refuse.Reads as refuse-reads
-use Rattle.exec.proofs.answers.settled.Reads as settled-reads
-use Rattle.exec.proofs.none.Reads as none-reads
-use Rattle.rig.proofs.cycles_of.Reads as cycles-of-reads
-use Rattle.rig.proofs.right.Reads as right-reads
-use Rattle.state.proofs.State.blank.Reads as blank-reads
-use Rattle.state.proofs.State.scheduled.Reads as scheduled-reads
 
 -- past the test the rig obeys its rules
 rig : (c : tie.Else1) → Right (c .before .before .before .args .rig) (c .before .before .cycles-of .result)
 rig c =
     right-is (c .before .before .before .args .rig) (c .before .before .cycles-of .result) .0 (sym (c .before .right .ensures) ∙ not-false (c .before .right .result) (c .if1 .left))
 
--- src/lib.rt:71:9
 cycles-of-requires : tie.Need-cycles-of-requires
 cycles-of-requires c κs = search needs
 
--- src/lib.rt:72:9
 right-requires : tie.Need-right-requires
 right-requires c κs = search needs
 
--- src/lib.rt:73:16
 none-requires : tie.Need-none-requires
 none-requires c κs = search needs
 
--- src/lib.rt:73:9
 refuse-requires : tie.Need-refuse-requires
 refuse-requires c κs = search needs
 
--- src/lib.rt:73:9
 returns : tie.Need-returns
 returns c =
     let a = c .before .before .before .before .before .args in
@@ -57,21 +43,17 @@ returns c =
       );
     }
 
--- src/lib.rt:75:13
 blank-requires : tie.Need-blank-requires
 blank-requires c κs = search needs
 
--- src/lib.rt:75:9
 scheduled-requires : tie.Need-scheduled-requires
 scheduled-requires c κs = search needs
 
--- src/lib.rt:76:9
 settled-requires : tie.Need-settled-requires
 settled-requires c κs =
     let a = c .before .before .before .before .before .args in
     start-settles (a .rig) (c .before .before .before .before .cycles-of .result) (rig (c .before .before)) (c .before .blank .result) (c .before .blank .ensures) (c .scheduled .result) (c .scheduled .ensures)
 
--- src/lib.rt:68:1
 returns-2 : tie.Need-returns-2
 returns-2 c =
     let a = c .before .before .before .before .before .before .before .args in

@@ -1,17 +1,12 @@
-use borrow.Author.Needs.{needs}
-use mathlib.Core.Path.{_≡_, refl, sym, _∙_, ap}
+use mathlib.Core.Path.{_∙_}
 use borrow.Author.Tests.{eq-eqb, ne-eqb}
 use Rattle.tests.specs.Laws.{none-is, cap-yes, cap-no}
 use Rattle.tests.proofs.cond_ok.Statement.{statement}
 use Rattle.tests.proofs.cond_ok.Tie as tie
-use Rattle.tests.proofs.cond_ok.Reads as reads
-use Rattle.tests.proofs.cond_ok.Lts as lts
 
--- src/lib.rt:71:9
 returns : tie.Need-returns
 returns c = cap-yes _ 1 0 _ (eq-eqb _ _ (c .if1 .taken))
 
--- src/lib.rt:67:1
 returns-2 : tie.Need-returns-2
 returns-2 c = none-is (c .before .args .value) ∙ cap-no _ 1 0 _ (ne-eqb _ _ (c .if1 .left))
 

@@ -1,4 +1,4 @@
-use mathlib.Core.Path.{_≡_, refl, sym, _∙_, ap}
+use mathlib.Core.Path.{_∙_, ap}
 use Prim.Native.Nat.{ℕ}
 use lib.Dec.{eqb}
 use borrow.Author.Tests.{eq-eqb, ne-eqb}
@@ -6,19 +6,13 @@ use Rattle.laws.specs.Cases.{or-yes, or-skip}
 use borrow.Author.Needs.{needs}
 use Rattle.tests.proofs.flag_ok.Statement.{statement}
 use Rattle.tests.proofs.flag_ok.Tie as tie
-use Rattle.tests.proofs.flag_ok.Reads as reads
-use Rattle.tests.proofs.flag_ok.Lts as lts
-use Rattle.tests.proofs.active_of.Reads as active-of-reads
 
--- src/lib.rt:148:9
 returns : tie.Need-returns
 returns c = or-yes _ _ (eq-eqb _ _ (c .if1 .taken))
 
--- src/lib.rt:150:14
 active-of-requires : tie.Need-active-of-requires
 active-of-requires c κs = search needs
 
--- src/lib.rt:144:1
 returns-2 : tie.Need-returns-2
 returns-2 c = ap (λ (x : ℕ). eqb (c .before .before .args .value) x) (c .active-of .ensures) ∙ or-skip _ _ (ne-eqb _ _ (c .before .if1 .left))
 

@@ -1,16 +1,13 @@
 use borrow.Author.Needs.{needs}
-use mathlib.Core.Path.{_≡_, refl, sym, _∙_, ap}
-use mathlib.Core.Bool.{true, false}
-use borrow.Author.Tests.{not-true, not-false, lt-leb, le-leb}
-use Prim.Native.Nat.{ℕ, _≤_, _-_}
+use mathlib.Core.Path.{_≡_, sym, _∙_}
+use mathlib.Core.Bool.{true}
+use borrow.Author.Tests.{not-true, not-false}
+use Prim.Native.Nat.{_≤_, _-_}
 use native.Mathlib.Omega.{arith}
 use Rattle.laws.specs.All.{all, all-zero, all-next, all-not}
 use Rattle.tests.specs.Tests.{flagOne}
 use Rattle.tests.proofs.flags.Statement.{statement}
 use Rattle.tests.proofs.flags.Tie as tie
-use Rattle.tests.proofs.flags.Reads as reads
-use Rattle.tests.proofs.flags.Lts as lts
-use Rattle.tests.proofs.flag_ok.Reads as flag-ok-reads
 
 abbrev Inv-loop : tie.InvT-loop
 Inv-loop activation states values t₀ t = (all t (flagOne activation states values) ≡ true) × (t ≤ 65)
@@ -18,51 +15,39 @@ Inv-loop activation states values t₀ t = (all t (flagOne activation states val
 abbrev μ-loop : tie.MeasureT-loop
 μ-loop activation states values t₀ t = 65 - t
 
--- src/lib.rt:159:5
 loop-holds : tie.Need-loop-holds Inv-loop μ-loop
 loop-holds c = (all-zero _, search needs)
 
--- src/lib.rt:160:17
 element-copy-out-f : tie.Need-element-copy-out-f Inv-loop μ-loop
 element-copy-out-f c = search needs
 
--- src/lib.rt:160:17
 cast-f : tie.Need-cast-f Inv-loop μ-loop
 cast-f c = omega (arith, c .before .before .before .pre (c .before .before .loop .t) (c .before .loop-test .taken))
 
--- src/lib.rt:161:21
 element-copy-out-flag-ok : tie.Need-element-copy-out-flag-ok Inv-loop μ-loop
 element-copy-out-flag-ok c = search needs
 
--- src/lib.rt:161:36
 element-copy-out-flag-ok-2 : tie.Need-element-copy-out-flag-ok-2 Inv-loop μ-loop
 element-copy-out-flag-ok-2 c = omega (arith, c .before .before .before .before .pre (c .before .before .before .loop .t) (c .before .before .loop-test .taken))
 
--- src/lib.rt:161:47
 element-copy-out-flag-ok-3 : tie.Need-element-copy-out-flag-ok-3 Inv-loop μ-loop
 element-copy-out-flag-ok-3 c = search needs
 
--- src/lib.rt:161:13
 flag-ok-requires : tie.Need-flag-ok-requires Inv-loop μ-loop
 flag-ok-requires c κs = search needs
 
--- src/lib.rt:162:13
 returns : tie.Need-returns Inv-loop μ-loop
 returns c = sym (all-not _ _ (c .before .before .before .before .before .before .before .loop .t) (c .before .before .before .before .before .before .loop-test .taken) (sym (c .before .flag-ok .ensures) ∙ not-true _ (c .if1 .taken)))
 
--- src/lib.rt:164:13
 add-t : tie.Need-add-t Inv-loop μ-loop
 add-t c = search needs
 
--- src/lib.rt:159:5
 loop-less : tie.Need-loop-less Inv-loop μ-loop
 loop-less c = search needs
 
--- src/lib.rt:159:5
 loop-again : tie.Need-loop-again Inv-loop μ-loop
 loop-again c = (all-next _ _ (c .before .before .before .before .before .before .before .loop .inv .0) (sym (c .before .flag-ok .ensures) ∙ not-false _ (c .if1 .left)), search needs)
 
--- src/lib.rt:154:1
 returns-2 : tie.Need-returns-2 Inv-loop μ-loop
 returns-2 c =
     let e : c .before .loop .t ≡ 65 = omega arith in

@@ -1,19 +1,13 @@
-use borrow.Author.Needs.{needs}
-use mathlib.Core.Path.{_≡_, refl, sym, _∙_, ap}
 use borrow.Author.Tests.{eq-eqb, ne-eqb}
 use Rattle.laws.specs.Cases.{or-yes, or-skip}
 use Rattle.rules.specs.Calls.{noSuch}
 use Rattle.tests.proofs.no_such.Statement.{statement}
 use Rattle.tests.proofs.no_such.Tie as tie
-use Rattle.tests.proofs.no_such.Reads as reads
-use Rattle.tests.proofs.no_such.Lts as lts
 
--- src/lib.rt:16:9
 returns : tie.Need-returns
 unfolding noSuch
 returns c = or-yes _ _ (eq-eqb _ _ (c .if1 .taken))
 
--- src/lib.rt:12:1
 returns-2 : tie.Need-returns-2
 unfolding noSuch
 returns-2 c = or-skip _ _ (ne-eqb _ _ (c .if1 .left))

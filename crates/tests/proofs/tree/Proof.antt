@@ -1,16 +1,13 @@
 use borrow.Author.Needs.{needs}
-use mathlib.Core.Path.{_≡_, refl, sym, _∙_, ap}
-use mathlib.Core.Bool.{true, false}
-use borrow.Author.Tests.{not-true, not-false, lt-leb, le-leb}
-use Prim.Native.Nat.{ℕ, _≤_, _-_}
+use mathlib.Core.Path.{_≡_, sym, _∙_}
+use mathlib.Core.Bool.{true}
+use borrow.Author.Tests.{not-true, not-false}
+use Prim.Native.Nat.{_≤_, _-_}
 use native.Mathlib.Omega.{arith}
 use Rattle.laws.specs.All.{all, all-zero, all-next, all-not}
 use Rattle.tests.specs.Tests.{treeOne}
 use Rattle.tests.proofs.tree.Statement.{statement}
 use Rattle.tests.proofs.tree.Tie as tie
-use Rattle.tests.proofs.tree.Reads as reads
-use Rattle.tests.proofs.tree.Lts as lts
-use Rattle.tests.proofs.tree_ok.Reads as tree-ok-reads
 
 abbrev Inv-loop : tie.InvT-loop
 Inv-loop controller states t₀ t = (all t (treeOne controller states) ≡ true) × (t ≤ 65)
@@ -18,47 +15,36 @@ Inv-loop controller states t₀ t = (all t (treeOne controller states) ≡ true)
 abbrev μ-loop : tie.MeasureT-loop
 μ-loop controller states t₀ t = 65 - t
 
--- src/lib.rt:108:5
 loop-holds : tie.Need-loop-holds Inv-loop μ-loop
 loop-holds c = (all-zero _, search needs)
 
--- src/lib.rt:109:17
 element-copy-out-c : tie.Need-element-copy-out-c Inv-loop μ-loop
 element-copy-out-c c = search needs
 
--- src/lib.rt:109:17
 cast-c : tie.Need-cast-c Inv-loop μ-loop
 cast-c c = omega (arith, c .before .before .before .pre (c .before .before .loop .t) (c .before .loop-test .taken))
 
--- src/lib.rt:110:24
 element-copy-out-tree-ok : tie.Need-element-copy-out-tree-ok Inv-loop μ-loop
 element-copy-out-tree-ok c = search needs
 
--- src/lib.rt:110:35
 element-copy-out-tree-ok-2 : tie.Need-element-copy-out-tree-ok-2 Inv-loop μ-loop
 element-copy-out-tree-ok-2 c = omega (arith, c .before .before .before .before .pre (c .before .before .before .loop .t) (c .before .before .loop-test .taken))
 
--- src/lib.rt:110:13
 tree-ok-requires : tie.Need-tree-ok-requires Inv-loop μ-loop
 tree-ok-requires c κs = search needs
 
--- src/lib.rt:111:13
 returns : tie.Need-returns Inv-loop μ-loop
 returns c = sym (all-not _ _ (c .before .before .before .before .before .before .loop .t) (c .before .before .before .before .before .loop-test .taken) (sym (c .before .tree-ok .ensures) ∙ not-true _ (c .if1 .taken)))
 
--- src/lib.rt:113:13
 add-t : tie.Need-add-t Inv-loop μ-loop
 add-t c = search needs
 
--- src/lib.rt:108:5
 loop-less : tie.Need-loop-less Inv-loop μ-loop
 loop-less c = search needs
 
--- src/lib.rt:108:5
 loop-again : tie.Need-loop-again Inv-loop μ-loop
 loop-again c = (all-next _ _ (c .before .before .before .before .before .before .loop .inv .0) (sym (c .before .tree-ok .ensures) ∙ not-false _ (c .if1 .left)), search needs)
 
--- src/lib.rt:103:1
 returns-2 : tie.Need-returns-2 Inv-loop μ-loop
 returns-2 c =
     let e : c .before .loop .t ≡ 65 = omega arith in

@@ -1,15 +1,10 @@
-use borrow.Author.Needs.{needs}
 use borrow.Author.Tests.{eq-eqb, ne-eqb}
 use Rattle.tests.proofs.wait_ok.Statement.{statement}
 use Rattle.tests.proofs.wait_ok.Tie as tie
-use Rattle.tests.proofs.wait_ok.Reads as reads
-use Rattle.tests.proofs.wait_ok.Lts as lts
 
--- src/lib.rt:118:1
 returns : tie.Need-returns
 returns c = simp (eq-eqb _ _ (c .if1 .taken))
 
--- src/lib.rt:118:1
 returns-2 : tie.Need-returns-2
 returns-2 c = simp (ne-eqb _ _ (c .if1 .left))
 

@@ -1,16 +1,13 @@
 use borrow.Author.Needs.{needs}
-use mathlib.Core.Path.{_≡_, refl, sym, _∙_, ap}
-use mathlib.Core.Bool.{true, false}
-use borrow.Author.Tests.{not-true, not-false, lt-leb, le-leb}
-use Prim.Native.Nat.{ℕ, _≤_, _-_}
+use mathlib.Core.Path.{_≡_, sym, _∙_}
+use mathlib.Core.Bool.{true}
+use borrow.Author.Tests.{not-true, not-false}
+use Prim.Native.Nat.{_≤_, _-_}
 use native.Mathlib.Omega.{arith}
 use Rattle.laws.specs.All.{all, all-zero, all-next, all-not}
 use Rattle.tests.specs.Tests.{waitOne}
 use Rattle.tests.proofs.waits.Statement.{statement}
 use Rattle.tests.proofs.waits.Tie as tie
-use Rattle.tests.proofs.waits.Reads as reads
-use Rattle.tests.proofs.waits.Lts as lts
-use Rattle.tests.proofs.wait_ok.Reads as wait-ok-reads
 
 abbrev Inv-loop : tie.InvT-loop
 Inv-loop states on t₀ t = (all t (waitOne states on) ≡ true) × (t ≤ 65)
@@ -18,43 +15,33 @@ Inv-loop states on t₀ t = (all t (waitOne states on) ≡ true) × (t ≤ 65)
 abbrev μ-loop : tie.MeasureT-loop
 μ-loop states on t₀ t = 65 - t
 
--- src/lib.rt:129:5
 loop-holds : tie.Need-loop-holds Inv-loop μ-loop
 loop-holds c = (all-zero _, search needs)
 
--- src/lib.rt:130:21
 element-copy-out-wait-ok : tie.Need-element-copy-out-wait-ok Inv-loop μ-loop
 element-copy-out-wait-ok c = search needs
 
--- src/lib.rt:130:32
 mul-wait-ok : tie.Need-mul-wait-ok Inv-loop μ-loop
 mul-wait-ok c = search needs
 
--- src/lib.rt:130:32
 element-copy-out-wait-ok-2 : tie.Need-element-copy-out-wait-ok-2 Inv-loop μ-loop
 element-copy-out-wait-ok-2 c = search needs
 
--- src/lib.rt:130:13
 wait-ok-requires : tie.Need-wait-ok-requires Inv-loop μ-loop
 wait-ok-requires c κs = search needs
 
--- src/lib.rt:131:13
 returns : tie.Need-returns Inv-loop μ-loop
 returns c = sym (all-not _ _ (c .before .before .before .before .before .loop .t) (c .before .before .before .before .loop-test .taken) (sym (c .before .wait-ok .ensures) ∙ not-true _ (c .if1 .taken)))
 
--- src/lib.rt:133:13
 add-t : tie.Need-add-t Inv-loop μ-loop
 add-t c = search needs
 
--- src/lib.rt:129:5
 loop-less : tie.Need-loop-less Inv-loop μ-loop
 loop-less c = search needs
 
--- src/lib.rt:129:5
 loop-again : tie.Need-loop-again Inv-loop μ-loop
 loop-again c = (all-next _ _ (c .before .before .before .before .before .loop .inv .0) (sym (c .before .wait-ok .ensures) ∙ not-false _ (c .if1 .left)), search needs)
 
--- src/lib.rt:125:1
 returns-2 : tie.Need-returns-2 Inv-loop μ-loop
 returns-2 c =
     let e : c .before .loop .t ≡ 65 = omega arith in

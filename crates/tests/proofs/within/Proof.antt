@@ -1,17 +1,14 @@
 use borrow.Author.Needs.{needs}
-use mathlib.Core.Path.{_≡_, refl, sym, _∙_, ap}
-use mathlib.Core.Bool.{true, false}
-use borrow.Author.Tests.{not-true, not-false, lt-leb, le-leb}
-use Prim.Native.Nat.{ℕ, _≤_, _-_}
+use mathlib.Core.Path.{_≡_, sym, _∙_}
+use mathlib.Core.Bool.{true}
+use borrow.Author.Tests.{not-true, not-false}
+use Prim.Native.Nat.{_≤_, _-_}
 use native.Mathlib.Omega.{arith}
 use Rattle.laws.specs.All.{all, all-zero, all-next, all-not}
 use Rattle.tests.specs.Tests.{withinOne}
 use lib.ListN.{length}
 use Rattle.tests.proofs.within.Statement.{statement}
 use Rattle.tests.proofs.within.Tie as tie
-use Rattle.tests.proofs.within.Reads as reads
-use Rattle.tests.proofs.within.Lts as lts
-use Rattle.tests.proofs.within_ok.Reads as within-ok-reads
 
 abbrev Inv-loop : tie.InvT-loop
 Inv-loop table many top i₀ i = (all i (withinOne table many top) ≡ true) × (i ≤ length table)
@@ -19,35 +16,27 @@ Inv-loop table many top i₀ i = (all i (withinOne table many top) ≡ true) × 
 abbrev μ-loop : tie.MeasureT-loop
 μ-loop table many top i₀ i = length table - i
 
--- src/lib.rt:35:5
 loop-holds : tie.Need-loop-holds Inv-loop μ-loop
 loop-holds c = (all-zero _, search needs)
 
--- src/lib.rt:36:23
 shared-slice-read-within-ok : tie.Need-shared-slice-read-within-ok Inv-loop μ-loop
 shared-slice-read-within-ok c = search needs
 
--- src/lib.rt:36:13
 within-ok-requires : tie.Need-within-ok-requires Inv-loop μ-loop
 within-ok-requires c κs = search needs
 
--- src/lib.rt:37:13
 returns : tie.Need-returns Inv-loop μ-loop
 returns c = sym (all-not _ _ (c .before .before .before .before .loop .i) (c .before .before .before .loop-test .taken) (sym (c .before .within-ok .ensures) ∙ not-true _ (c .if1 .taken)))
 
--- src/lib.rt:39:13
 add-i : tie.Need-add-i Inv-loop μ-loop
 add-i c = search needs
 
--- src/lib.rt:35:5
 loop-less : tie.Need-loop-less Inv-loop μ-loop
 loop-less c = search needs
 
--- src/lib.rt:35:5
 loop-again : tie.Need-loop-again Inv-loop μ-loop
 loop-again c = (all-next _ _ (c .before .before .before .before .loop .inv .0) (sym (c .before .within-ok .ensures) ∙ not-false _ (c .if1 .left)), search needs)
 
--- src/lib.rt:31:1
 returns-2 : tie.Need-returns-2 Inv-loop μ-loop
 returns-2 c =
     let e : c .before .loop .i ≡ length (c .before .before .before .args .table .now) = omega arith in

@@ -1,7 +1,5 @@
-use mathlib.Core.Path.{_≡_, refl, sym, _∙_, ap}
-use mathlib.Core.Bool.{true, false, not, false≢true}
-use Prim.Native.Nat.{ℕ}
-use lib.Dec.{eqb}
+use mathlib.Core.Path.{sym, _∙_}
+use mathlib.Core.Bool.{false≢true}
 use native.Mathlib.Omega.{arith}
 use borrow.Author.Tests.{not-true, not-false, eq-eqb, ne-eqb}
 use Rattle.exec.specs.Blocks.{row-there}
@@ -10,77 +8,57 @@ use Rattle.exec.specs.Refusing.{none, here, past, twelve, by-table}
 use borrow.Author.Needs.{needs}
 use Rattle.exec.proofs.Exec.block_refusal.Statement.{statement}
 use Rattle.exec.proofs.Exec.block_refusal.Tie as tie
-use Rattle.exec.proofs.Exec.block_refusal.Reads as reads
-use Rattle.exec.proofs.Exec.block_refusal.Lts as lts
-use Rattle.exec.proofs.Exec.sound.Reads as sound-reads
-use Rattle.exec.proofs.refusals.differ.Reads as differ-reads
-use Rattle.tests.proofs.no_such.Reads as no-such-reads
 
 -- past the first test the record is sound
 ok : (c : tie.Else1) → Sound (c .before .before .args .self)
 ok c = c .before .sound .ensures .0 (not-false (c .before .sound .result) (c .if1 .left))
 
--- src/refusals.rt:127:13
 sound-requires : tie.Need-sound-requires
 sound-requires c κs = search needs
 
--- src/refusals.rt:128:13
 returns : tie.Need-returns
 returns c = twelve (c .before .before .args .self) _ (λ h. false≢true (sym (not-true (c .before .sound .result) (c .if1 .taken)) ∙ c .before .sound .ensures .1 h))
 
--- src/refusals.rt:131:13
 returns-2 : tie.Need-returns-2
 returns-2 c = by-table (c .before .before .before .before .args .self) _ (ok (c .before .before)) 5 (here 5 _ _ (eq-eqb _ _ (c .if2 .taken)))
 
--- src/refusals.rt:133:20
 cast-many : tie.Need-cast-many
 cast-many c = search needs
 
--- src/refusals.rt:134:12
 no-such-requires : tie.Need-no-such-requires
 no-such-requires c κs = search needs
 
--- src/refusals.rt:135:13
 returns-3 : tie.Need-returns-3
 returns-3 c = by-table (c .before .before .before .before .before .before .before .args .self) _ (ok (c .before .before .before .before .before)) 6 (past _ 5 _ _ (ne-eqb _ _ (c .before .before .before .if2 .left)) (here 6 _ _ (sym (c .before .no-such .ensures) ∙ c .if3 .taken)))
 
--- src/refusals.rt:138:25
 sub-row : tie.Need-sub-row
 sub-row c =
     let a = c .before .before .before .before .before .before .before .before .args in
     omega (arith, row-there (a .self) (ok (c .before .before .before .before .before .before)) (a .k) (sym (c .before .before .no-such .ensures) ∙ c .before .if3 .left))
 
--- src/refusals.rt:138:24
 cast-row : tie.Need-cast-row
 cast-row c = search needs
 
--- src/refusals.rt:138:19
 mul-row : tie.Need-mul-row
 mul-row c = search needs
 
--- src/refusals.rt:138:19
 array-copy-out-row : tie.Need-array-copy-out-row
 array-copy-out-row c =
     let a = c .before .before .before .before .before .before .before .before .args in
     omega (arith, row-there (a .self) (ok (c .before .before .before .before .before .before)) (a .k) (sym (c .before .before .no-such .ensures) ∙ c .before .if3 .left))
 
--- src/refusals.rt:139:25
 mul-differ : tie.Need-mul-differ
 mul-differ c = search needs
 
--- src/refusals.rt:139:44
 cast-differ : tie.Need-cast-differ
 cast-differ c = search needs
 
--- src/refusals.rt:139:12
 differ-requires : tie.Need-differ-requires
 differ-requires c κs = search needs
 
--- src/refusals.rt:140:13
 returns-4 : tie.Need-returns-4
 returns-4 c = by-table (c .before .before .before .before .before .before .before .before .before .before .before .before .args .self) _ (ok (c .before .before .before .before .before .before .before .before .before .before)) 10 (past _ 5 _ _ (ne-eqb _ _ (c .before .before .before .before .before .before .before .before .if2 .left)) (past _ 6 _ _ (sym (c .before .before .before .before .before .before .no-such .ensures) ∙ c .before .before .before .before .before .if3 .left) (here 10 _ _ (sym (c .before .differ .ensures) ∙ c .if4 .taken))))
 
--- src/refusals.rt:124:5
 returns-5 : tie.Need-returns-5
 returns-5 c = by-table (c .before .before .before .before .before .before .before .before .before .before .before .before .args .self) _ (ok (c .before .before .before .before .before .before .before .before .before .before)) 0 (past _ 5 _ _ (ne-eqb _ _ (c .before .before .before .before .before .before .before .before .if2 .left)) (past _ 6 _ _ (sym (c .before .before .before .before .before .before .no-such .ensures) ∙ c .before .before .before .before .before .if3 .left) (past _ 10 _ _ (sym (c .before .differ .ensures) ∙ c .if4 .left) (none))))
 

@@ -1,14 +1,8 @@
-use mathlib.Core.Path.{_≡_, refl, sym, _∙_, ap}
-use mathlib.Core.Bool.{Bool, true, false, not}
+use mathlib.Core.Path.{_∙_}
 use mathlib.Core.List.{[]}
-use Prim.Native.Nat.{ℕ, _+_, _<_, _≤_}
-use native.Mathlib.Omega.{arith}
-use lib.Dec.{eqb, leb, ltb}
 use Rattle.rules.specs.Calls as R
-use Rattle.rules.specs.Acceptance.{somebody-runs}
-use Rattle.exec.specs.Sound.{Sound, rigIn, view}
-use Rattle.exec.specs.Call.{bit}
-use Rattle.exec.specs.Meeting.{silent-lent, silent-output, untouched}
+use Rattle.exec.specs.Sound.{rigIn, view}
+use Rattle.exec.specs.Meeting.{silent-lent}
 use Rattle.exec.specs.Refusing.{judged-sound, judged-none, judged-meets, finish-table}
 use Rattle.exec.specs.Settling.{settles, settling-meets}
 use Rattle.exec.specs.Check.{running-low}
@@ -16,22 +10,13 @@ use Rattle.exec.specs.Tasks.{finished-work, finished-links}
 use borrow.Author.Needs.{needs}
 use Rattle.exec.proofs.Exec.finish.Statement.{statement}
 use Rattle.exec.proofs.Exec.finish.Tie as tie
-use Rattle.exec.proofs.Exec.finish.Reads as reads
-use Rattle.exec.proofs.Exec.finish.Lts as lts
-use Rattle.exec.proofs.Exec.refuse.Reads as refuse-reads
-use Rattle.exec.proofs.Exec.run_refusal.Reads as run-refusal-reads
-use Rattle.exec.proofs.Exec.settle.Reads as settle-reads
-use Rattle.state.proofs.State.finished.Reads as finished-reads
 
--- src/tasks.rt:55:13
 run-refusal-requires : tie.Need-run-refusal-requires
 run-refusal-requires c κs = search needs
 
--- src/tasks.rt:57:13
 refuse-requires : tie.Need-refuse-requires
 refuse-requires c κs = search needs
 
--- src/tasks.rt:57:13
 returns : tie.Need-returns
 returns c =
     let a = c .before .before .before .args in
@@ -39,7 +24,6 @@ returns c =
     judged-meets (a .self) _ (j .result) (j .ensures) (R.finish) (finish-table (rigIn (a .self)) (view (a .self))) (c .before .if1 .taken)
     (c .refuse .result) (c .refuse .ensures) [] (silent-lent (R.finish) tt)
 
--- src/tasks.rt:60:13
 finished-requires : tie.Need-finished-requires
 finished-requires c κs =
     let a = c .before .before .before .args in
@@ -49,7 +33,6 @@ finished-requires c κs =
     let n = judged-none (a .self) _ (j .result) (j .ensures) z in
     running-low (a .self) h
 
--- src/tasks.rt:61:9
 settle-requires : tie.Need-settle-requires
 settle-requires c κs =
     let a = c .before .before .before .before .args in
@@ -60,7 +43,6 @@ settle-requires c κs =
     let e = n ∙ finish-table (rigIn (a .self)) (view (a .self)) in
     settles (a .self) h (R.finish) tt e (c .finished .result) (finished-work (a .self) h (c .finished .result) (c .finished .ensures)) (finished-links (a .self) h (c .finished .result) (c .finished .ensures))
 
--- src/tasks.rt:52:5
 returns-2 : tie.Need-returns-2
 returns-2 c =
     let a = c .before .before .before .before .before .args in

@@ -1,12 +1,8 @@
-use mathlib.Core.Path.{_≡_, refl, sym, _∙_, ap}
-use mathlib.Core.Bool.{Bool, true, false, not}
+use mathlib.Core.Path.{sym, _∙_, ap}
 use mathlib.Core.List.{[]}
-use Prim.Native.Nat.{ℕ, _+_, _<_, _≤_}
-use native.Mathlib.Omega.{arith}
-use lib.Dec.{eqb, leb, ltb}
 use Rattle.rules.specs.Calls as R
 use Rattle.rules.specs.Acceptance.{somebody-runs}
-use Rattle.exec.specs.Sound.{Sound, rigIn, view}
+use Rattle.exec.specs.Sound.{rigIn, view}
 use Rattle.exec.specs.Call.{bit}
 use Rattle.exec.specs.Meeting.{silent-lent, silent-output, untouched}
 use Rattle.exec.specs.Refusing.{judged-sound, judged-none, judged-meets, latched-table}
@@ -17,26 +13,13 @@ use Rattle.exec.specs.Waits.{may-wait, flag-ok, latched-work, latched-st
 use borrow.Author.Needs.{needs}
 use Rattle.exec.proofs.Exec.latched.Statement.{statement}
 use Rattle.exec.proofs.Exec.latched.Tie as tie
-use Rattle.exec.proofs.Exec.latched.Reads as reads
-use Rattle.exec.proofs.Exec.latched.Lts as lts
-use Rattle.exec.proofs.Exec.flag_refusal.Reads as flag-refusal-reads
-use Rattle.exec.proofs.Exec.refuse.Reads as refuse-reads
-use Rattle.exec.proofs.Exec.settle.Reads as settle-reads
-use Rattle.exec.proofs.Exec.unchanged.Reads as unchanged-reads
-use Rattle.exec.proofs.answers.bit_of.Reads as bit-of-reads
-use Rattle.exec.proofs.refusals.look.Reads as look-reads
-use Rattle.state.proofs.State.wait_on.Reads as wait-on-reads
-use Rattle.steps.proofs.Queue.empty.Reads as empty-reads
 
--- src/waits.rt:48:13
 flag-refusal-requires : tie.Need-flag-refusal-requires
 flag-refusal-requires c κs = search needs
 
--- src/waits.rt:50:13
 refuse-requires : tie.Need-refuse-requires
 refuse-requires c κs = search needs
 
--- src/waits.rt:50:13
 returns : tie.Need-returns
 returns c =
     let a = c .before .before .before .args in
@@ -44,19 +27,15 @@ returns c =
     judged-meets (a .self) _ (j .result) (j .ensures) (R.latched (a .flag) (bit (a .value))) (latched-table (rigIn (a .self)) (view (a .self)) (a .flag) (bit (a .value))) (c .before .if1 .taken)
     (c .refuse .result) (c .refuse .ensures) [] (silent-lent (R.latched (a .flag) (bit (a .value))) tt)
 
--- src/waits.rt:53:13
 bit-of-requires : tie.Need-bit-of-requires
 bit-of-requires c κs = search needs
 
--- src/waits.rt:54:12
 look-requires : tie.Need-look-requires
 look-requires c κs = search needs
 
--- src/waits.rt:55:13
 unchanged-requires : tie.Need-unchanged-requires
 unchanged-requires c κs = search needs
 
--- src/waits.rt:55:13
 returns-2 : tie.Need-returns-2
 returns-2 c =
     let a = c .before .before .before .before .before .before .before .before .before .before .args in
@@ -70,11 +49,9 @@ returns-2 c =
     (latched-stays (a .self) h (a .flag) (bit (a .value)) (sym (c .before .before .look .ensures) ∙ c .before .if2 .taken ∙ c .before .before .before .before .before .before .bit-of .ensures)) (bit-le (a .value)) e 0 []
     (silent-output (rigIn (a .self)) (view (a .self)) (R.latched (a .flag) (bit (a .value))) tt))
 
--- src/waits.rt:57:45
 cast-wait-on : tie.Need-cast-wait-on
 cast-wait-on c = search needs
 
--- src/waits.rt:57:13
 wait-on-requires : tie.Need-wait-on-requires
 wait-on-requires c κs =
     let a = c .before .before .before .before .before .before .before .before .before .args in
@@ -84,11 +61,9 @@ wait-on-requires c κs =
     let n = judged-none (a .self) _ (j .result) (j .ensures) z in
     (may-wait (a .self) h (somebody-runs (view (a .self)) _ (sym n)), rw (c .before .before .before .before .before .bit-of .ensures) (flag-ok (a .self) h (a .flag) (a .value) _ n))
 
--- src/waits.rt:58:13
 empty-requires : tie.Need-empty-requires
 empty-requires c κs = search needs
 
--- src/waits.rt:59:9
 settle-requires : tie.Need-settle-requires
 settle-requires c κs =
     let a = c .before .before .before .before .before .before .before .before .before .before .before .args in
@@ -99,7 +74,6 @@ settle-requires c κs =
     let e = n ∙ latched-table (rigIn (a .self)) (view (a .self)) (a .flag) (bit (a .value)) in
     settles (a .self) h (R.latched (a .flag) (bit (a .value))) (bit-le (a .value)) e (record { st = c .before .wait-on .result; queue = c .empty .result }) (latched-work (a .self) h (c .before .wait-on .result) (c .empty .result) (c .empty .ensures .0) (a .flag) (bit (a .value)) (λ q. c .before .before .if2 .left (c .before .before .before .look .ensures ∙ q ∙ sym (c .before .before .before .before .before .before .before .bit-of .ensures))) (c .before .wait-on .ensures .is ∙ ap (waitOn (view (a .self)) (a .flag)) (c .before .before .before .before .before .before .before .bit-of .ensures))) (c .before .wait-on .ensures .sound)
 
--- src/waits.rt:45:5
 returns-3 : tie.Need-returns-3
 returns-3 c =
     let a = c .before .before .before .before .before .before .before .before .before .before .before .before .args in

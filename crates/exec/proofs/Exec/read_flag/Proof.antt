@@ -1,29 +1,20 @@
-use mathlib.Core.Path.{_≡_, refl, sym, _∙_, ap}
+use mathlib.Core.Path.{_∙_}
 use mathlib.Core.List.{[]}
 use Rattle.rules.specs.Calls as R
-use Rattle.exec.specs.Sound.{Sound, rigIn, view}
+use Rattle.exec.specs.Sound.{rigIn, view}
 use Rattle.exec.specs.Refusing.{judged-sound, judged-none, judged-meets, read-table}
 use Rattle.exec.specs.Meeting.{untouched}
 use Rattle.exec.specs.Reading.{read-lent, read-quiet, read-output}
 use borrow.Author.Needs.{needs}
 use Rattle.exec.proofs.Exec.read_flag.Statement.{statement}
 use Rattle.exec.proofs.Exec.read_flag.Tie as tie
-use Rattle.exec.proofs.Exec.read_flag.Reads as reads
-use Rattle.exec.proofs.Exec.read_flag.Lts as lts
-use Rattle.exec.proofs.Exec.flag_refusal.Reads as flag-refusal-reads
-use Rattle.exec.proofs.Exec.refuse.Reads as refuse-reads
-use Rattle.exec.proofs.Exec.unchanged.Reads as unchanged-reads
-use Rattle.exec.proofs.refusals.look.Reads as look-reads
 
--- src/flags.rt:13:13
 flag-refusal-requires : tie.Need-flag-refusal-requires
 flag-refusal-requires c κs = search needs
 
--- src/flags.rt:15:13
 refuse-requires : tie.Need-refuse-requires
 refuse-requires c κs = search needs
 
--- src/flags.rt:15:13
 returns : tie.Need-returns
 returns c =
     let a = c .before .before .before .args in
@@ -31,19 +22,15 @@ returns c =
     judged-meets (a .self) _ (j .result) (j .ensures) (R.readFlag (a .flag)) (read-table (rigIn (a .self)) (view (a .self)) (a .flag)) (c .before .if1 .taken)
     (c .refuse .result) (c .refuse .ensures) [] (read-lent (rigIn (a .self)) (view (a .self)) (a .flag))
 
--- src/flags.rt:18:13
 look-requires : tie.Need-look-requires
 look-requires c κs = search needs
 
--- src/flags.rt:19:24
 cast-unchanged : tie.Need-cast-unchanged
 cast-unchanged c = search needs
 
--- src/flags.rt:19:9
 unchanged-requires : tie.Need-unchanged-requires
 unchanged-requires c κs = search needs
 
--- src/flags.rt:10:5
 returns-2 : tie.Need-returns-2
 returns-2 c =
     let a = c .before .before .before .before .before .before .before .before .args in

@@ -1,38 +1,23 @@
-use mathlib.Core.Path.{_≡_, refl, sym, _∙_, ap}
-use mathlib.Core.Bool.{Bool, true, false, not}
+use mathlib.Core.Path.{_∙_}
 use mathlib.Core.List.{[]}
-use Prim.Native.Nat.{ℕ, _+_, _<_, _≤_}
 use native.Mathlib.Omega.{arith}
-use lib.Dec.{eqb, leb, ltb}
 use Rattle.rules.specs.Calls as R
-use Rattle.rules.specs.Acceptance.{somebody-runs}
-use Rattle.exec.specs.Sound.{Sound, rigIn, view}
+use Rattle.exec.specs.Sound.{rigIn, view}
 use Rattle.exec.specs.Call.{bit}
-use Rattle.exec.specs.Meeting.{silent-lent, silent-output, untouched}
+use Rattle.exec.specs.Meeting.{silent-lent}
 use Rattle.exec.specs.Refusing.{there-low, judged-sound, judged-none, judged-meets, signal-table}
 use Rattle.exec.specs.Settling.{settles, settling-meets}
 use Rattle.exec.specs.Signal.{bit-le, signal-work}
 use borrow.Author.Needs.{needs}
 use Rattle.exec.proofs.Exec.signal.Statement.{statement}
 use Rattle.exec.proofs.Exec.signal.Tie as tie
-use Rattle.exec.proofs.Exec.signal.Reads as reads
-use Rattle.exec.proofs.Exec.signal.Lts as lts
-use Rattle.exec.proofs.Exec.refuse.Reads as refuse-reads
-use Rattle.exec.proofs.Exec.settle.Reads as settle-reads
-use Rattle.exec.proofs.Exec.signal_refusal.Reads as signal-refusal-reads
-use Rattle.exec.proofs.answers.bit_of.Reads as bit-of-reads
-use Rattle.steps.proofs.Queue.empty.Reads as empty-reads
-use Rattle.steps.proofs.Queue.push.Reads as push-reads
 
--- src/signal.rt:14:13
 signal-refusal-requires : tie.Need-signal-refusal-requires
 signal-refusal-requires c κs = search needs
 
--- src/signal.rt:16:13
 refuse-requires : tie.Need-refuse-requires
 refuse-requires c κs = search needs
 
--- src/signal.rt:16:13
 returns : tie.Need-returns
 returns c =
     let a = c .before .before .before .args in
@@ -40,11 +25,9 @@ returns c =
     judged-meets (a .self) _ (j .result) (j .ensures) (R.signal (a .flag) (bit (a .value))) (signal-table (rigIn (a .self)) (view (a .self)) (a .flag) (bit (a .value))) (c .before .if1 .taken)
     (c .refuse .result) (c .refuse .ensures) [] (silent-lent (R.signal (a .flag) (bit (a .value))) tt)
 
--- src/signal.rt:19:21
 empty-requires : tie.Need-empty-requires
 empty-requires c κs = search needs
 
--- src/signal.rt:19:41
 cast-push : tie.Need-cast-push
 cast-push c =
     let a = c .before .before .before .before .args in
@@ -54,15 +37,12 @@ cast-push c =
     let n = judged-none (a .self) _ (j .result) (j .ensures) z in
     omega (arith, there-low (rigIn (a .self)) (view (a .self)) (a .flag) _ n)
 
--- src/signal.rt:19:53
 bit-of-requires : tie.Need-bit-of-requires
 bit-of-requires c κs = search needs
 
--- src/signal.rt:19:13
 push-requires : tie.Need-push-requires
 push-requires c κs = search needs
 
--- src/signal.rt:20:9
 settle-requires : tie.Need-settle-requires
 settle-requires c κs =
     let a = c .before .before .before .before .before .before .args in
@@ -73,7 +53,6 @@ settle-requires c κs =
     let e = n ∙ signal-table (rigIn (a .self)) (view (a .self)) (a .flag) (bit (a .value)) in
     settles (a .self) h (R.signal (a .flag) (bit (a .value))) (bit-le (a .value)) e (record { st = a .self .st; queue = c .push .result }) (signal-work (a .self) (a .flag) (a .value) (c .before .before .empty .result) (c .push .result) (c .before .bit-of .result) (c .before .before .empty .ensures .0) (c .before .bit-of .ensures) (c .push .ensures)) (h .links)
 
--- src/signal.rt:11:5
 returns-2 : tie.Need-returns-2
 returns-2 c =
     let a = c .before .before .before .before .before .before .before .args in

@@ -1,6 +1,6 @@
-use mathlib.Core.Path.{_≡_, refl, sym, _∙_, ap}
-use mathlib.Core.Bool.{Bool, true, false, cond}
-use Prim.Native.Nat.{ℕ, _≤_}
+use mathlib.Core.Path.{_≡_, sym, _∙_, ap}
+use mathlib.Core.Bool.{Bool, cond}
+use Prim.Native.Nat.{_≤_}
 use native.Mathlib.Omega.{arith}
 use Rattle.rules.specs.Calls.{decide, isMinor, isActivation, notPlain}
 use Rattle.exec.specs.Sound.{Sound, rigIn, view}
@@ -8,10 +8,6 @@ use Rattle.exec.specs.Refusing.{flagRows, joined-first, joined-rest, the
 use borrow.Author.Needs.{needs}
 use Rattle.exec.proofs.Exec.signal_refusal.Statement.{statement}
 use Rattle.exec.proofs.Exec.signal_refusal.Tie as tie
-use Rattle.exec.proofs.Exec.signal_refusal.Reads as reads
-use Rattle.exec.proofs.Exec.signal_refusal.Lts as lts
-use Rattle.exec.proofs.Exec.flag_refusal.Reads as flag-refusal-reads
-use Rattle.steps.proofs.is_activation.Reads as is-activation-reads
 
 -- past the first test the record is sound, and there is no number yet
 ok : (c : tie.Else1) → Sound (c .before .before .args .self)
@@ -23,26 +19,21 @@ free c = judged-none (c .before .before .args .self) _ (c .before .flag-refusal 
 low : (c : tie.Else1) → c .before .before .args .flag ≤ c .before .before .args .self .rig .flags
 low c = there-low (rigIn (c .before .before .args .self)) (view (c .before .before .args .self)) (c .before .before .args .flag) _ (free c)
 
--- src/refusals.rt:71:13
 flag-refusal-requires : tie.Need-flag-refusal-requires
 flag-refusal-requires c κs = search needs
 
--- src/refusals.rt:73:13
 returns : tie.Need-returns
 returns c =
     let a = c .before .before .args in
     judged-so (a .self) _ (c .before .flag-refusal .result) (c .before .flag-refusal .ensures) (flagRows (rigIn (a .self)) (view (a .self)) (a .flag) (notPlain (rigIn (a .self)) (a .flag)))
     (λ e. joined-first (rigIn (a .self)) (view (a .self)) (a .flag) _ (isActivation (rigIn (a .self) .activation) (a .flag)) (c .before .flag-refusal .result) e (c .if1 .taken))
 
--- src/refusals.rt:76:50
 cast-is-activation : tie.Need-cast-is-activation
 cast-is-activation c = omega (arith, low (c .before .before .before))
 
--- src/refusals.rt:76:12
 is-activation-requires : tie.Need-is-activation-requires
 is-activation-requires c κs = search needs
 
--- src/refusals.rt:77:13
 returns-2 : tie.Need-returns-2
 returns-2 c =
     let a = c .before .before .before .before .before .before .before .args in
@@ -50,7 +41,6 @@ returns-2 c =
     (joined-rest (rigIn (a .self)) (view (a .self)) (a .flag) _ (isActivation (rigIn (a .self) .activation) (a .flag)) 7 (free (c .before .before .before .before .before))
     (sym (ap (λ (b : Bool). cond b 7 0) (sym (c .before .is-activation .ensures) ∙ c .if2 .taken))))
 
--- src/refusals.rt:68:5
 returns-3 : tie.Need-returns-3
 returns-3 c =
     let a = c .before .before .before .before .before .before .before .args in

@@ -1,21 +1,14 @@
-use mathlib.Core.Path.{_≡_, refl, sym, _∙_, ap}
-use mathlib.Core.Bool.{true, false, false≢true}
+use mathlib.Core.Path.{_≡_, sym, _∙_}
+use mathlib.Core.Bool.{true, false≢true}
 use borrow.Author.Tests.{not-true, not-false}
 use Rattle.laws.specs.All.{allOf}
-use Rattle.chains.specs.Held.{Sized}
 use Rattle.rig.specs.Rules.{Right}
 use Rattle.rig.specs.Whole.{right-is}
-use Rattle.exec.specs.Sound.{Sound}
 use Rattle.exec.specs.Check.{Sizes, tableTests, tests-sound, sound-tests, sound-order}
 use Rattle.exec.specs.Check.{placed, count-low}
 use borrow.Author.Needs.{needs}
 use Rattle.exec.proofs.Exec.sound.Statement.{statement}
 use Rattle.exec.proofs.Exec.sound.Tie as tie
-use Rattle.exec.proofs.Exec.sound.Reads as reads
-use Rattle.exec.proofs.Exec.sound.Lts as lts
-use Rattle.exec.proofs.soundness.chains_ok.Reads as chains-ok-reads
-use Rattle.exec.proofs.soundness.tables_ok.Reads as tables-ok-reads
-use Rattle.rig.proofs.right.Reads as right-reads
 
 rig : (c : tie.Else1) → Right (c .before .before .before .before .args .self .rig) (c .before .before .before .before .args .self .cycles)
 rig c =
@@ -24,33 +17,27 @@ rig c =
 tables : (c : tie.Else2) → allOf (tableTests (c .before .before .before .before .before .before .before .args .self .rig) (c .before .before .before .before .before .before .before .args .self .st)) ≡ true
 tables c = sym (c .before .tables-ok .ensures) ∙ not-false _ (c .if2 .left)
 
--- src/soundness.rt:73:13
 right-requires : tie.Need-right-requires
 right-requires c κs = search needs
 
--- src/soundness.rt:74:13
 returns : tie.Need-returns
 returns c =
     let x = c .before .before .before .before .args .self in
     ((λ e. absurd (false≢true e)), (λ h. absurd (false≢true (sym (not-true _ (c .if1 .taken)) ∙ c .before .right .ensures ∙ right-is (x .rig) (x .cycles) .1 (h .rig)))))
 
--- src/soundness.rt:77:13
 tables-ok-requires : tie.Need-tables-ok-requires
 tables-ok-requires c κs = placed _ (c .before .before .before .before .before .args .self .cycles) (rig (c .before))
 
--- src/soundness.rt:78:13
 returns-2 : tie.Need-returns-2
 returns-2 c =
     let x = c .before .before .before .before .before .before .before .args .self in
     ((λ e. absurd (false≢true e)), (λ h. absurd (false≢true (sym (not-true _ (c .if2 .taken)) ∙ c .before .tables-ok .ensures ∙ sound-tests x h))))
 
--- src/soundness.rt:80:9
 chains-ok-requires : tie.Need-chains-ok-requires
 chains-ok-requires c κs =
     let x = c .before .before .before .before .before .before .before .args .self in
     count-low (x .rig) (x .st) (tables c)
 
--- src/soundness.rt:68:5
 returns-3 : tie.Need-returns-3
 returns-3 c =
     let x = c .before .before .before .before .before .before .before .before .args .self in

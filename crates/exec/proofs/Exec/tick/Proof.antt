@@ -1,9 +1,8 @@
-use mathlib.Core.Path.{_≡_, refl, sym, _∙_, ap}
-use mathlib.Core.List.{[]}
+use mathlib.Core.Path.{refl, _∙_}
 use native.Mathlib.Omega.{arith}
 use lib.ListN.{length}
 use Rattle.rules.specs.Calls as R
-use Rattle.exec.specs.Sound.{Sound, rigIn, view}
+use Rattle.exec.specs.Sound.{rigIn, view}
 use Rattle.exec.specs.Refusing.{judged-sound, judged-none, judged-meets, tick-table}
 use Rattle.compool.specs.View.{rowsOf}
 use Rattle.exec.specs.Settling.{settles}
@@ -12,24 +11,13 @@ use Rattle.rules.specs.Calls.{lent}
 use borrow.Author.Needs.{needs}
 use Rattle.exec.proofs.Exec.tick.Statement.{statement}
 use Rattle.exec.proofs.Exec.tick.Tie as tie
-use Rattle.exec.proofs.Exec.tick.Reads as reads
-use Rattle.exec.proofs.Exec.tick.Lts as lts
-use Rattle.compool.proofs.bus_words.Reads as bus-words-reads
-use Rattle.exec.proofs.Exec.accept.Reads as accept-reads
-use Rattle.exec.proofs.Exec.refuse.Reads as refuse-reads
-use Rattle.exec.proofs.Exec.tick_refusal.Reads as tick-refusal-reads
-use Rattle.exec.proofs.answers.settled.Reads as settled-reads
-use Rattle.state.proofs.State.ticked.Reads as ticked-reads
 
--- src/tick.rt:14:13
 tick-refusal-requires : tie.Need-tick-refusal-requires
 tick-refusal-requires c κs = search needs
 
--- src/tick.rt:16:13
 refuse-requires : tie.Need-refuse-requires
 refuse-requires c κs = search needs
 
--- src/tick.rt:16:13
 returns : tie.Need-returns
 unfolding lent
 returns c =
@@ -37,7 +25,6 @@ returns c =
     let j = c .before .before .tick-refusal in
     judged-meets (a .self) _ (j .result) (j .ensures) (R.tick (a .out .now)) (tick-table (rigIn (a .self)) (view (a .self)) (a .out .now)) (c .before .if1 .taken) (c .refuse .result) (c .refuse .ensures) (a .out .now) refl
 
--- src/tick.rt:20:13
 ticked-requires : tie.Need-ticked-requires
 ticked-requires c κs =
     let a = c .before .before .before .before .before .args in
@@ -47,7 +34,6 @@ ticked-requires c κs =
     let n = judged-none (a .self) _ (j .result) (j .ensures) z in
     (h .links, tick-ok (a .self) h (length (a .out .now)) n)
 
--- src/tick.rt:21:13
 settled-requires : tie.Need-settled-requires
 settled-requires c κs =
     let a = c .before .before .before .before .before .before .args in
@@ -57,11 +43,9 @@ settled-requires c κs =
     let n = judged-none (a .self) _ (j .result) (j .ensures) z in
     settles (a .self) h (R.tick (a .out .now)) tt (n ∙ tick-table (rigIn (a .self)) (view (a .self)) (a .out .now)) (c .ticked .result) (ticked-work (a .self) h (c .ticked .result) (c .ticked .ensures) (a .out .now)) (c .ticked .ensures .sound)
 
--- src/tick.rt:24:46
 cast-bus-words : tie.Need-cast-bus-words
 cast-bus-words c = search needs
 
--- src/tick.rt:24:13
 bus-words-requires : tie.Need-bus-words-requires
 bus-words-requires c κs =
     let a = c .before .before .before .before .before .before .before .before .before .before .before .args in
@@ -71,7 +55,6 @@ bus-words-requires c κs =
     let n = judged-none (a .self) _ (j .result) (j .ensures) z in
     (rows-fit (a .self .rig) (a .self .cycles) (h .rig), tick-room (a .self) h (length (a .out .now)) n)
 
--- src/tick.rt:29:24
 cast-t15 : tie.Need-cast-t15
 cast-t15 c =
     let a = c .before .before .before .before .before .before .before .before .before .before .before .before .before .before .args in
@@ -81,15 +64,12 @@ cast-t15 c =
     let n = judged-none (a .self) _ (j .result) (j .ensures) z in
     omega (arith, c .before .before .bus-words .ensures .0, bus-few (a .self .rig .rows) (a .self .rig .master) (rowsOf (a .self .rig .row)) (c .before .before .before .before .before .before .before .settled .result .st .count), h .rig .row-count)
 
--- src/tick.rt:25:9
 accept-requires : tie.Need-accept-requires
 accept-requires c κs = search needs
 
--- src/tick.rt:11:5
 same-length : tie.Need-same-length
 same-length c = search needs
 
--- src/tick.rt:11:5
 returns-2 : tie.Need-returns-2
 returns-2 c =
     let a = c .before .before .before .before .before .before .before .before .before .before .before .before .before .before .before .args in

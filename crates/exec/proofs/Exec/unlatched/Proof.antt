@@ -1,14 +1,10 @@
-use mathlib.Core.Path.{_≡_, refl, sym, _∙_, ap}
-use mathlib.Core.Bool.{Bool, true, false, not}
+use mathlib.Core.Path.{sym, _∙_, ap}
 use mathlib.Core.List.{[]}
-use Prim.Native.Nat.{ℕ, _+_, _<_, _≤_}
-use native.Mathlib.Omega.{arith}
-use lib.Dec.{eqb, leb, ltb}
 use Rattle.rules.specs.Calls as R
 use Rattle.rules.specs.Acceptance.{somebody-runs}
-use Rattle.exec.specs.Sound.{Sound, rigIn, view}
+use Rattle.exec.specs.Sound.{rigIn, view}
 use Rattle.exec.specs.Call.{bit}
-use Rattle.exec.specs.Meeting.{silent-lent, silent-output, untouched}
+use Rattle.exec.specs.Meeting.{silent-lent}
 use Rattle.exec.specs.Refusing.{judged-sound, judged-none, judged-meets, unlatched-table}
 use Rattle.exec.specs.Settling.{settles, settling-meets}
 use Rattle.rules.specs.Waiting.{waitOn}
@@ -17,24 +13,13 @@ use Rattle.exec.specs.Waits.{may-wait, flag-ok, unlatched-work}
 use borrow.Author.Needs.{needs}
 use Rattle.exec.proofs.Exec.unlatched.Statement.{statement}
 use Rattle.exec.proofs.Exec.unlatched.Tie as tie
-use Rattle.exec.proofs.Exec.unlatched.Reads as reads
-use Rattle.exec.proofs.Exec.unlatched.Lts as lts
-use Rattle.exec.proofs.Exec.flag_refusal.Reads as flag-refusal-reads
-use Rattle.exec.proofs.Exec.refuse.Reads as refuse-reads
-use Rattle.exec.proofs.Exec.settle.Reads as settle-reads
-use Rattle.exec.proofs.answers.bit_of.Reads as bit-of-reads
-use Rattle.state.proofs.State.wait_on.Reads as wait-on-reads
-use Rattle.steps.proofs.Queue.empty.Reads as empty-reads
 
--- src/waits.rt:66:13
 flag-refusal-requires : tie.Need-flag-refusal-requires
 flag-refusal-requires c κs = search needs
 
--- src/waits.rt:68:13
 refuse-requires : tie.Need-refuse-requires
 refuse-requires c κs = search needs
 
--- src/waits.rt:68:13
 returns : tie.Need-returns
 returns c =
     let a = c .before .before .before .args in
@@ -42,15 +27,12 @@ returns c =
     judged-meets (a .self) _ (j .result) (j .ensures) (R.unlatched (a .flag) (bit (a .value))) (unlatched-table (rigIn (a .self)) (view (a .self)) (a .flag) (bit (a .value))) (c .before .if1 .taken)
     (c .refuse .result) (c .refuse .ensures) [] (silent-lent (R.unlatched (a .flag) (bit (a .value))) tt)
 
--- src/waits.rt:70:13
 bit-of-requires : tie.Need-bit-of-requires
 bit-of-requires c κs = search needs
 
--- src/waits.rt:71:49
 cast-wait-on : tie.Need-cast-wait-on
 cast-wait-on c = search needs
 
--- src/waits.rt:71:13
 wait-on-requires : tie.Need-wait-on-requires
 wait-on-requires c κs =
     let a = c .before .before .before .args in
@@ -60,11 +42,9 @@ wait-on-requires c κs =
     let n = judged-none (a .self) _ (j .result) (j .ensures) z in
     (may-wait (a .self) h (somebody-runs (view (a .self)) _ (sym n)), rw (c .bit-of .ensures) (flag-ok (a .self) h (a .flag) (a .value) _ n))
 
--- src/waits.rt:72:13
 empty-requires : tie.Need-empty-requires
 empty-requires c κs = search needs
 
--- src/waits.rt:73:9
 settle-requires : tie.Need-settle-requires
 settle-requires c κs =
     let a = c .before .before .before .before .before .args in
@@ -75,7 +55,6 @@ settle-requires c κs =
     let e = n ∙ unlatched-table (rigIn (a .self)) (view (a .self)) (a .flag) (bit (a .value)) in
     settles (a .self) h (R.unlatched (a .flag) (bit (a .value))) (bit-le (a .value)) e (record { st = c .before .wait-on .result; queue = c .empty .result }) (unlatched-work (a .self) h (c .before .wait-on .result) (c .empty .result) (c .empty .ensures .0) (a .flag) (bit (a .value)) (c .before .wait-on .ensures .is ∙ ap (waitOn (view (a .self)) (a .flag)) (c .before .before .bit-of .ensures))) (c .before .wait-on .ensures .sound)
 
--- src/waits.rt:63:5
 returns-2 : tie.Need-returns-2
 returns-2 c =
     let a = c .before .before .before .before .before .before .args in

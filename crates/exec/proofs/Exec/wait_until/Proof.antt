@@ -1,13 +1,8 @@
-use mathlib.Core.Path.{_≡_, refl, sym, _∙_, ap}
-use mathlib.Core.Bool.{Bool, true, false, not}
+use mathlib.Core.Path.{sym, _∙_}
 use mathlib.Core.List.{[]}
-use Prim.Native.Nat.{ℕ, _+_, _<_, _≤_}
-use native.Mathlib.Omega.{arith}
-use lib.Dec.{eqb, leb, ltb}
 use Rattle.rules.specs.Calls as R
 use Rattle.rules.specs.Acceptance.{somebody-runs}
-use Rattle.exec.specs.Sound.{Sound, rigIn, view}
-use Rattle.exec.specs.Call.{bit}
+use Rattle.exec.specs.Sound.{rigIn, view}
 use Rattle.exec.specs.Meeting.{silent-lent, silent-output, untouched}
 use Rattle.exec.specs.Refusing.{judged-sound, judged-none, judged-meets, until-table}
 use Rattle.exec.specs.Settling.{settles, settling-meets}
@@ -15,24 +10,13 @@ use Rattle.exec.specs.Waits.{may-wait, until-work, until-stays}
 use borrow.Author.Needs.{needs}
 use Rattle.exec.proofs.Exec.wait_until.Statement.{statement}
 use Rattle.exec.proofs.Exec.wait_until.Tie as tie
-use Rattle.exec.proofs.Exec.wait_until.Reads as reads
-use Rattle.exec.proofs.Exec.wait_until.Lts as lts
-use Rattle.exec.proofs.Exec.count_refusal.Reads as count-refusal-reads
-use Rattle.exec.proofs.Exec.refuse.Reads as refuse-reads
-use Rattle.exec.proofs.Exec.settle.Reads as settle-reads
-use Rattle.exec.proofs.Exec.unchanged.Reads as unchanged-reads
-use Rattle.state.proofs.State.wait_until.Reads as wait-until-reads
-use Rattle.steps.proofs.Queue.empty.Reads as empty-reads
 
--- src/waits.rt:15:13
 count-refusal-requires : tie.Need-count-refusal-requires
 count-refusal-requires c κs = search needs
 
--- src/waits.rt:17:13
 refuse-requires : tie.Need-refuse-requires
 refuse-requires c κs = search needs
 
--- src/waits.rt:17:13
 returns : tie.Need-returns
 returns c =
     let a = c .before .before .before .args in
@@ -40,11 +24,9 @@ returns c =
     judged-meets (a .self) _ (j .result) (j .ensures) (R.waitUntil (a .count)) (until-table (rigIn (a .self)) (view (a .self)) (a .count)) (c .before .if1 .taken)
     (c .refuse .result) (c .refuse .ensures) [] (silent-lent (R.waitUntil (a .count)) tt)
 
--- src/waits.rt:20:13
 unchanged-requires : tie.Need-unchanged-requires
 unchanged-requires c κs = search needs
 
--- src/waits.rt:20:13
 returns-2 : tie.Need-returns-2
 returns-2 c =
     let a = c .before .before .before .before .before .args in
@@ -56,7 +38,6 @@ returns-2 c =
     rw (c .unchanged .ensures)
     (untouched (a .self) (R.waitUntil (a .count)) h (until-stays (a .self) h (a .count) (c .before .if2 .taken)) tt e 0 [] (silent-output (rigIn (a .self)) (view (a .self)) (R.waitUntil (a .count)) tt))
 
--- src/waits.rt:22:13
 wait-until-requires : tie.Need-wait-until-requires
 wait-until-requires c κs =
     let a = c .before .before .before .before .args in
@@ -66,11 +47,9 @@ wait-until-requires c κs =
     let n = judged-none (a .self) _ (j .result) (j .ensures) z in
     may-wait (a .self) h (somebody-runs (view (a .self)) _ (sym n))
 
--- src/waits.rt:23:13
 empty-requires : tie.Need-empty-requires
 empty-requires c κs = search needs
 
--- src/waits.rt:24:9
 settle-requires : tie.Need-settle-requires
 settle-requires c κs =
     let a = c .before .before .before .before .before .before .args in
@@ -81,7 +60,6 @@ settle-requires c κs =
     let e = n ∙ until-table (rigIn (a .self)) (view (a .self)) (a .count) in
     settles (a .self) h (R.waitUntil (a .count)) tt e (record { st = c .before .wait-until .result; queue = c .empty .result }) (until-work (a .self) h (c .before .wait-until .result) (c .empty .result) (c .empty .ensures .0) (a .count) (c .before .before .if2 .left) (c .before .wait-until .ensures .is)) (c .before .wait-until .ensures .sound)
 
--- src/waits.rt:12:5
 returns-3 : tie.Need-returns-3
 returns-3 c =
     let a = c .before .before .before .before .before .before .before .args in

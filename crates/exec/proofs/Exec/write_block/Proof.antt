@@ -1,31 +1,20 @@
-use mathlib.Core.Path.{_≡_, refl, sym, _∙_, ap}
-use mathlib.Core.List.{[]}
-use native.Mathlib.Omega.{arith}
+use mathlib.Core.Path.{refl, _∙_}
 use lib.ListN.{length}
 use Rattle.rules.specs.Calls as R
-use Rattle.exec.specs.Sound.{Sound, rigIn, view}
+use Rattle.exec.specs.Sound.{rigIn, view}
 use Rattle.exec.specs.Refusing.{judged-sound, judged-none, judged-meets, write-block-table}
 use Rattle.exec.specs.Blocks.{Fit, fit, write-block-meets}
 use Rattle.rules.specs.Calls.{lent}
 use borrow.Author.Needs.{needs}
 use Rattle.exec.proofs.Exec.write_block.Statement.{statement}
 use Rattle.exec.proofs.Exec.write_block.Tie as tie
-use Rattle.exec.proofs.Exec.write_block.Reads as reads
-use Rattle.exec.proofs.Exec.write_block.Lts as lts
-use Rattle.compool.proofs.write_block.Reads as write-block-reads
-use Rattle.exec.proofs.Exec.block_refusal.Reads as block-refusal-reads
-use Rattle.exec.proofs.Exec.refuse.Reads as refuse-reads
-use Rattle.exec.proofs.Exec.unchanged.Reads as unchanged-reads
 
--- src/blocks.rt:24:13
 block-refusal-requires : tie.Need-block-refusal-requires
 block-refusal-requires c κs = search needs
 
--- src/blocks.rt:26:13
 refuse-requires : tie.Need-refuse-requires
 refuse-requires c κs = search needs
 
--- src/blocks.rt:26:13
 returns : tie.Need-returns
 unfolding lent
 returns c =
@@ -33,7 +22,6 @@ returns c =
     let j = c .before .before .block-refusal in
     judged-meets (a .self) _ (j .result) (j .ensures) (R.writeBlock (a .k) (a .area .now) (a .words .now)) (write-block-table (rigIn (a .self)) (view (a .self)) (a .k) (a .area .now) (a .words .now)) (c .before .if1 .taken) (c .refuse .result) (c .refuse .ensures) (a .area .now) refl
 
--- src/blocks.rt:28:9
 write-block-requires : tie.Need-write-block-requires
 write-block-requires c κs =
     let a = c .before .before .before .before .before .args in
@@ -44,15 +32,12 @@ write-block-requires c κs =
     let f : Fit (a .k) (length (a .area .now)) (length (a .words .now)) = fit (a .self) h (a .k) (length (a .area .now)) (length (a .words .now)) n in
     (f .some, f .low, f .room)
 
--- src/blocks.rt:29:9
 unchanged-requires : tie.Need-unchanged-requires
 unchanged-requires c κs = search needs
 
--- src/blocks.rt:21:5
 same-length : tie.Need-same-length
 same-length c = search needs
 
--- src/blocks.rt:21:5
 returns-2 : tie.Need-returns-2
 returns-2 c =
     let a = c .before .before .before .before .before .before .before .before .before .args in

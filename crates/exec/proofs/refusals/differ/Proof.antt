@@ -1,18 +1,13 @@
-use borrow.Author.Needs.{needs}
-use mathlib.Core.Path.{_≡_, refl, sym, _∙_, ap}
+use mathlib.Core.Path.{ap}
 use mathlib.Core.Bool.{not}
 use borrow.Author.Tests.{eq-eqb, ne-eqb}
 use Rattle.laws.specs.Cases.{or-yes, or-skip}
 use Rattle.exec.proofs.refusals.differ.Statement.{statement}
 use Rattle.exec.proofs.refusals.differ.Tie as tie
-use Rattle.exec.proofs.refusals.differ.Reads as reads
-use Rattle.exec.proofs.refusals.differ.Lts as lts
 
--- src/refusals.rt:151:9
 returns : tie.Need-returns
 returns c = or-yes _ _ (ap not (ne-eqb _ _ (c .if1 .taken)))
 
--- src/refusals.rt:147:1
 returns-2 : tie.Need-returns-2
 returns-2 c = or-skip _ _ (ap not (eq-eqb _ _ (c .if1 .left)))
 

@@ -1,22 +1,16 @@
-use mathlib.Core.Path.{_≡_, refl, sym, _∙_, ap}
+use mathlib.Core.Path.{sym}
 use native.Mathlib.Omega.{arith}
 use lib.ListN.{List·getD-eq-default}
-use lib.ListN.{length}
 use borrow.Author.Needs.{needs}
 use Rattle.exec.proofs.refusals.look.Statement.{statement}
 use Rattle.exec.proofs.refusals.look.Tie as tie
-use Rattle.exec.proofs.refusals.look.Reads as reads
-use Rattle.exec.proofs.refusals.look.Lts as lts
 
--- src/refusals.rt:14:26
 shared-slice-read-result : tie.Need-shared-slice-read-result
 shared-slice-read-result c = search needs
 
--- src/refusals.rt:10:1
 returns : tie.Need-returns
 returns c = search needs
 
--- src/refusals.rt:10:1
 returns-2 : tie.Need-returns-2
 returns-2 c = sym (List·getD-eq-default (c .before .args .table .now) 0 (omega (arith, c .if1 .left)))
 

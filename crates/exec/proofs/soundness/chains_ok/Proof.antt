@@ -1,38 +1,29 @@
-use mathlib.Core.Path.{_≡_, refl, sym, _∙_, ap}
-use mathlib.Core.Bool.{true, false, false≢true}
+use mathlib.Core.Path.{sym, _∙_}
+use mathlib.Core.Bool.{false≢true}
 use borrow.Author.Tests.{not-true, not-false}
 use native.Mathlib.Omega.{arith}
-use Rattle.exec.specs.Check.{ChainsSound, order-facts, order-back}
+use Rattle.exec.specs.Check.{order-facts, order-back}
 use Rattle.chains.specs.Held.{Sound}
 use Rattle.chains.specs.Held.{Sized}
 use borrow.Author.Needs.{needs}
 use Rattle.exec.proofs.soundness.chains_ok.Statement.{statement}
 use Rattle.exec.proofs.soundness.chains_ok.Tie as tie
-use Rattle.exec.proofs.soundness.chains_ok.Reads as reads
-use Rattle.exec.proofs.soundness.chains_ok.Lts as lts
-use Rattle.rings.proofs.in_order.Reads as in-order-reads
-use Rattle.rings.proofs.sound.Reads as sound-reads
 
 held : (c : tie.Else1) → Sound (c .before .before .before .args .st .links)
 held c = c .before .sound .ensures .0 (not-false (c .before .sound .result) (c .if1 .left))
 
--- src/lib.rt:81:9
 sound-requires : tie.Need-sound-requires
 sound-requires c κs = search needs
 
--- src/lib.rt:82:9
 returns : tie.Need-returns
 returns c = ((λ e. absurd (false≢true e)), (λ h. absurd (false≢true (sym (not-true (c .before .sound .result) (c .if1 .taken)) ∙ c .before .sound .ensures .1 (h .links)))))
 
--- src/lib.rt:85:14
 add-lo : tie.Need-add-lo
 add-lo c = search needs
 
--- src/lib.rt:86:5
 in-order-requires : tie.Need-in-order-requires
 in-order-requires c κs = (held (c .before .before), (omega arith, omega arith))
 
--- src/lib.rt:76:1
 returns-2 : tie.Need-returns-2
 returns-2 c =
     let s = c .before .before .before .before .before .before .args .st in

@@ -1,130 +1,98 @@
-use mathlib.Core.Path.{_≡_, refl, sym, _∙_, ap}
-use mathlib.Core.Bool.{true, false}
-use native.Mathlib.Omega.{arith}
+use mathlib.Core.Path.{sym, _∙_}
 use borrow.Author.Tests.{not-true, not-false, lt-leb, le-leb}
-use Rattle.laws.specs.All.{allOf, allOf-not}
+use Rattle.laws.specs.All.{allOf-not}
 use Rattle.exec.specs.Check.{tableTests, last-test}
 use borrow.Author.Needs.{needs}
 use Rattle.exec.proofs.soundness.tables_ok.Statement.{statement}
 use Rattle.exec.proofs.soundness.tables_ok.Tie as tie
-use Rattle.exec.proofs.soundness.tables_ok.Reads as reads
-use Rattle.exec.proofs.soundness.tables_ok.Lts as lts
-use Rattle.steps.proofs.chosen.Reads as chosen-reads
-use Rattle.tests.proofs.conds.Reads as conds-reads
-use Rattle.tests.proofs.empty.Reads as empty-reads
-use Rattle.tests.proofs.flags.Reads as flags-reads
-use Rattle.tests.proofs.tree.Reads as tree-reads
-use Rattle.tests.proofs.waits.Reads as waits-reads
-use Rattle.tests.proofs.within.Reads as within-reads
 
--- src/lib.rt:41:17
 cast-tasks : tie.Need-cast-tasks
 cast-tasks c = search needs
 
--- src/lib.rt:42:17
 cast-flags : tie.Need-cast-flags
 cast-flags c = search needs
 
--- src/lib.rt:43:13
 cast-n : tie.Need-cast-n
 cast-n c = search needs
 
--- src/lib.rt:46:9
 returns : tie.Need-returns
 unfolding tableTests
 returns c =
     let a = c .before .before .args in
     sym (allOf-not (tableTests (a .t1) (a .t2)) 0 (lt-leb _ _ (c .if1 .taken)))
 
--- src/lib.rt:48:9
 within-requires : tie.Need-within-requires
 within-requires c κs = search needs
 
--- src/lib.rt:49:9
 returns-2 : tie.Need-returns-2
 unfolding tableTests
 returns-2 c =
     let a = c .before .before .before .before .before .before .before .args in
     sym (allOf-not (tableTests (a .t1) (a .t2)) 1 (sym (c .before .within .ensures) ∙ not-true _ (c .if2 .taken)))
 
--- src/lib.rt:51:9
 tree-requires : tie.Need-tree-requires
 tree-requires c κs = search needs
 
--- src/lib.rt:52:9
 returns-3 : tie.Need-returns-3
 unfolding tableTests
 returns-3 c =
     let a = c .before .before .before .before .before .before .before .before .before .before .before .before .before .args in
     sym (allOf-not (tableTests (a .t1) (a .t2)) 2 (sym (c .before .tree .ensures) ∙ not-true _ (c .if3 .taken)))
 
--- src/lib.rt:54:9
 within-requires-2 : tie.Need-within-requires-2
 within-requires-2 c κs = search needs
 
--- src/lib.rt:55:9
 returns-4 : tie.Need-returns-4
 unfolding tableTests
 returns-4 c =
     let a = c .before .before .before .before .before .before .before .before .before .before .before .before .before .before .before .before .before .before .args in
     sym (allOf-not (tableTests (a .t1) (a .t2)) 3 (sym (c .before .within2 .ensures) ∙ not-true _ (c .if4 .taken)))
 
--- src/lib.rt:57:9
 conds-requires : tie.Need-conds-requires
 conds-requires c κs = search needs
 
--- src/lib.rt:58:9
 returns-5 : tie.Need-returns-5
 unfolding tableTests
 returns-5 c =
     let a = c .before .before .before .before .before .before .before .before .before .before .before .before .before .before .before .before .before .before .before .before .before .before .before .before .args in
     sym (allOf-not (tableTests (a .t1) (a .t2)) 4 (sym (c .before .conds .ensures) ∙ not-true _ (c .if5 .taken)))
 
--- src/lib.rt:60:9
 empty-requires : tie.Need-empty-requires
 empty-requires c κs = search needs
 
--- src/lib.rt:61:9
 returns-6 : tie.Need-returns-6
 unfolding tableTests
 returns-6 c =
     let a = c .before .before .before .before .before .before .before .before .before .before .before .before .before .before .before .before .before .before .before .before .before .before .before .before .before .before .before .before .args in
     sym (allOf-not (tableTests (a .t1) (a .t2)) 5 (sym (c .before .empty .ensures) ∙ not-true _ (c .if6 .taken)))
 
--- src/lib.rt:63:9
 flags-requires : tie.Need-flags-requires
 flags-requires c κs = search needs
 
--- src/lib.rt:64:9
 returns-7 : tie.Need-returns-7
 unfolding tableTests
 returns-7 c =
     let a = c .before .before .before .before .before .before .before .before .before .before .before .before .before .before .before .before .before .before .before .before .before .before .before .before .before .before .before .before .before .before .before .before .before .before .before .args in
     sym (allOf-not (tableTests (a .t1) (a .t2)) 6 (sym (c .before .flags .ensures) ∙ not-true _ (c .if7 .taken)))
 
--- src/lib.rt:66:9
 waits-requires : tie.Need-waits-requires
 waits-requires c κs = search needs
 
--- src/lib.rt:67:9
 returns-8 : tie.Need-returns-8
 unfolding tableTests
 returns-8 c =
     let a = c .before .before .before .before .before .before .before .before .before .before .before .before .before .before .before .before .before .before .before .before .before .before .before .before .before .before .before .before .before .before .before .before .before .before .before .before .before .before .before .before .before .args in
     sym (allOf-not (tableTests (a .t1) (a .t2)) 7 (sym (c .before .waits .ensures) ∙ not-true _ (c .if8 .taken)))
 
--- src/lib.rt:70:9
 returns-9 : tie.Need-returns-9
 unfolding tableTests
 returns-9 c =
     let a = c .before .before .before .before .before .before .before .before .before .before .before .before .before .before .before .before .before .before .before .before .before .before .before .before .before .before .before .before .before .before .before .before .before .before .before .before .before .before .before .before .before .before .args in
     sym (allOf-not (tableTests (a .t1) (a .t2)) 8 (lt-leb _ _ (c .if9 .taken)))
 
--- src/lib.rt:72:10
 chosen-requires : tie.Need-chosen-requires
 chosen-requires c κs = search needs
 
--- src/lib.rt:37:1
 returns-10 : tie.Need-returns-10
 returns-10 c =
     let a = c .before .before .before .before .before .before .before .before .before .before .before .before .before .before .before .before .before .before .before .before .before .before .before .before .before .before .before .before .before .before .before .before .before .before .before .before .before .before .before .before .before .before .before .before .before .before .before .before .args in

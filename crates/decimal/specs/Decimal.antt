@@ -1,0 +1,43 @@
+-- Decimal numbers without spare zeros.
+--     number     what a text says: its value below `cap`, `cap` for every larger one, `bad` or `start` where it is no decimal
+--     dec        the decimal of a number
+-- The reading goes byte after byte, by `step`, so that a loop's invariant is one equation on what is left.
+use Prim.Native.Nat.{ℕ, zero, suc, _+_, _-_, _*_, _/_, _%_, min}
+use mathlib.Core.Bool.{Bool, cond, _&&_}
+use mathlib.Core.List.{List, [], _∷_, _++_}
+use lib.Dec.{leb, ltb, eqb}
+
+-- the least number that is read as `cap`; no decimal; nothing read yet
+abbrev pub cap : ℕ
+cap = 4294967296
+
+abbrev pub bad : ℕ
+bad = 4294967297
+
+abbrev pub start : ℕ
+start = 4294967298
+
+abbrev pub digit : ℕ → Bool
+digit b = leb 48 b && leb b 57
+
+-- one byte more: after nothing the digit's value, after a number its next value, after 0 (a spare zero) and after `bad` nothing good
+unfoldable pub step : ℕ → ℕ → ℕ
+step m b =
+    cond (digit b)
+    (cond (eqb m start) (b - 48) (cond (eqb m 0) bad (cond (ltb cap m) bad (min cap (m * 10 + (b - 48))))))
+    bad
+
+unfoldable pub run : ℕ → List ℕ → ℕ
+run m [] = m
+run m (b ∷ bs) = run (step m b) bs
+
+abbrev pub number : List ℕ → ℕ
+number l = run start l
+
+-- the decimal of n, for n below 10 ^ (k + 1)
+unfoldable pub decBy : ℕ → ℕ → List ℕ
+decBy zero n = (48 + n) ∷ []
+decBy (suc k) n = cond (ltb n 10) ((48 + n) ∷ []) (decBy k (n / 10) ++ ((48 + n % 10) ∷ []))
+
+unfoldable pub dec : ℕ → List ℕ
+dec n = decBy 9 n

@@ -1,0 +1,70 @@
+// Decimal numbers without spare zeros: a field is read, a number is written.
+ghost use mathlib.Core.Path.{_≡_};
+ghost use mathlib.Core.List.{List, _++_};
+ghost use Prim.Native.Nat.{ℕ, _+_, _≤_, _<_};
+ghost use lib.ListN.{length};
+ghost use Rattle.decimal.specs.Decimal.{cap, step, number, dec};
+ghost use Rattle.laws.specs.Put.{put};
+
+pub const CAP: u64 = 4294967296;
+
+const BAD: u64 = 4294967297;
+
+const START: u64 = 4294967298;
+
+// One byte more of a number: the next value, CAP where that is larger, BAD where the byte does not belong there.
+fn step_on(m: u64, b: u8) -> u64
+    ensures { λ r. ⌜ r ≡ step m b ⌝ }
+{
+    if b < 48 {
+        return BAD;
+    }
+    if 57 < b {
+        return BAD;
+    }
+    let d = wide(b) - 48;
+    if m == START {
+        return d;
+    }
+    if m == 0 {
+        return BAD;
+    }
+    if CAP < m {
+        return BAD;
+    }
+    let n = m * 10 + d;
+    if n < CAP { n } else { CAP }
+}
+
+fn wide(b: u8) -> u64
+    ensures { λ r. ⌜ r ≡ b ⌝ }
+{
+    b as u64
+}
+
+// What the field says: its value below CAP, CAP for every larger number, and above CAP where it is no decimal.
+pub fn number_in(f: &[u8]) -> u64
+    ensures { λ r. ⌜ r ≡ number (now (f .entry)) ⌝ }
+{
+    let mut m = START;
+    let mut i = 0;
+    while i < f.len() {
+        m = step_on(m, f[i]);
+        i += 1;
+    }
+    m
+}
+
+// Writes the decimal of `n` at `at`, and answers the place after it. It goes by the last digit, as the decimal is defined.
+pub fn put_number(buf: &mut [u8], at: usize, n: u64) -> usize
+    requires { ⌜ (n < cap) × (at + length (dec n) ≤ length (now buf)) ⌝ }
+    ensures { λ r. ⌜ (r ≡ at + length (dec n)) × (now (buf .exit) ≡ put (now (buf .entry)) at (dec n)) ⌝ }
+{
+    if n < 10 {
+        buf[at] = 48 + (n as u8);
+        return at + 1;
+    }
+    let p = put_number(&mut *buf, at, n / 10);
+    buf[p] = 48 + ((n % 10) as u8);
+    p + 1
+}

@@ -1,0 +1,24 @@
+use mathlib.Core.Path.{refl}
+use Rattle.rigrows.specs.Kinds.{counts, countOf}
+use Rattle.rigrows.specs.KindLaws.{count-small}
+use borrow.Author.Needs.{needs}
+use Rattle.rigrows.proofs.count.Statement.{statement}
+use Rattle.rigrows.proofs.count.Tie as tie
+use Rattle.rigrows.proofs.count.Reads as reads
+use Rattle.rigrows.proofs.count.Lts as lts
+
+-- src/lib.rt:66:5
+mul-result : tie.Need-mul-result
+mul-result c = search needs
+
+-- src/lib.rt:66:5
+array-read-result : tie.Need-array-read-result
+array-read-result c = search needs
+
+-- src/lib.rt:62:1
+returns : tie.Need-returns
+unfolding countOf counts
+returns c = (refl, count-small (c .args .k))
+
+pub count-spec : {M : Type 1} → statement M
+count-spec = tie.close (tie.spec mul-result array-read-result returns)

@@ -1,0 +1,113 @@
+-- The kinds of a rig file's lines: "RIG, edition (always 1), tasks, flags, master's bus address; T, task, controller (0 for none), priority,
+-- privileged 0/1, activation flag (0 for none); C, task, position, latched 0/1, desired 0/1; A, task, position, flag; M, cycle 0 to 63, flag;
+-- B, sender, its sub-address, receiver, its sub-address, words, period, phase".
+-- Kinds: 0 none, 1 RIG, 2 T, 3 C, 4 A, 5 M, 6 B. What an edition of the file fixes is in these tables alone: a kind's row of a table
+-- starts at 9 times the kind, since the widest line of any edition has nine numbers.
+use Prim.Native.Nat.{ℕ, _+_, _*_}
+use mathlib.Core.Bool.{Bool, true, false, cond, _&&_}
+use mathlib.Core.List.{List, [], _∷_}
+use lib.Dec.{leb, ltb, eqb}
+use lib.ListN.{getD}
+
+-- how many numbers a line of each kind has
+unfoldable pub counts : List ℕ
+counts = 0 ∷ 4 ∷ 5 ∷ 4 ∷ 3 ∷ 2 ∷ 7 ∷ []
+
+-- "each kind rising strictly by its leading numbers (T task; C task and position; A and M all; B lines in row order, free)": how many of them
+unfoldable pub keys : List ℕ
+keys = 0 ∷ 0 ∷ 1 ∷ 2 ∷ 3 ∷ 2 ∷ 0 ∷ []
+
+-- the least and the greatest value of each number
+unfoldable pub lows : List ℕ
+lows =
+    0 ∷ 0 ∷ 0 ∷ 0 ∷ 0 ∷ 0 ∷ 0 ∷ 0 ∷ 0 ∷
+    1 ∷ 1 ∷ 1 ∷ 0 ∷ 0 ∷ 0 ∷ 0 ∷ 0 ∷ 0 ∷
+    1 ∷ 0 ∷ 0 ∷ 0 ∷ 0 ∷ 0 ∷ 0 ∷ 0 ∷ 0 ∷
+    1 ∷ 0 ∷ 0 ∷ 0 ∷ 0 ∷ 0 ∷ 0 ∷ 0 ∷ 0 ∷
+    1 ∷ 0 ∷ 1 ∷ 0 ∷ 0 ∷ 0 ∷ 0 ∷ 0 ∷ 0 ∷
+    0 ∷ 1 ∷ 0 ∷ 0 ∷ 0 ∷ 0 ∷ 0 ∷ 0 ∷ 0 ∷
+    0 ∷ 1 ∷ 0 ∷ 1 ∷ 1 ∷ 1 ∷ 0 ∷ 0 ∷ 0 ∷ []
+
+unfoldable pub highs : List ℕ
+highs =
+    0 ∷ 0 ∷ 0 ∷ 0 ∷ 0 ∷ 0 ∷ 0 ∷ 0 ∷ 0 ∷
+    1 ∷ 64 ∷ 128 ∷ 31 ∷ 0 ∷ 0 ∷ 0 ∷ 0 ∷ 0 ∷
+    64 ∷ 64 ∷ 255 ∷ 1 ∷ 128 ∷ 0 ∷ 0 ∷ 0 ∷ 0 ∷
+    64 ∷ 15 ∷ 1 ∷ 1 ∷ 0 ∷ 0 ∷ 0 ∷ 0 ∷ 0 ∷
+    64 ∷ 15 ∷ 128 ∷ 0 ∷ 0 ∷ 0 ∷ 0 ∷ 0 ∷ 0 ∷
+    63 ∷ 128 ∷ 0 ∷ 0 ∷ 0 ∷ 0 ∷ 0 ∷ 0 ∷ 0 ∷
+    31 ∷ 30 ∷ 31 ∷ 30 ∷ 32 ∷ 64 ∷ 63 ∷ 0 ∷ 0 ∷ []
+
+-- what each number names: 1 a task, 2 a flag, 0 something else
+unfoldable pub sorts : List ℕ
+sorts =
+    0 ∷ 0 ∷ 0 ∷ 0 ∷ 0 ∷ 0 ∷ 0 ∷ 0 ∷ 0 ∷
+    0 ∷ 0 ∷ 0 ∷ 0 ∷ 0 ∷ 0 ∷ 0 ∷ 0 ∷ 0 ∷
+    1 ∷ 1 ∷ 0 ∷ 0 ∷ 2 ∷ 0 ∷ 0 ∷ 0 ∷ 0 ∷
+    1 ∷ 0 ∷ 0 ∷ 0 ∷ 0 ∷ 0 ∷ 0 ∷ 0 ∷ 0 ∷
+    1 ∷ 0 ∷ 2 ∷ 0 ∷ 0 ∷ 0 ∷ 0 ∷ 0 ∷ 0 ∷
+    0 ∷ 2 ∷ 0 ∷ 0 ∷ 0 ∷ 0 ∷ 0 ∷ 0 ∷ 0 ∷
+    0 ∷ 0 ∷ 0 ∷ 0 ∷ 0 ∷ 0 ∷ 0 ∷ 0 ∷ 0 ∷ []
+
+unfoldable pub countOf : ℕ → ℕ
+countOf k = getD counts k 0
+
+unfoldable pub keysOf : ℕ → ℕ
+keysOf k = getD keys k 0
+
+unfoldable pub lowOf : ℕ → ℕ → ℕ
+lowOf k f = getD lows (k * 9 + f) 0
+
+unfoldable pub highOf : ℕ → ℕ → ℕ
+highOf k f = getD highs (k * 9 + f) 0
+
+unfoldable pub sortOf : ℕ → ℕ → ℕ
+sortOf k f = getD sorts (k * 9 + f) 0
+
+-- "no task or flag number is above the RIG line's": of number f of a line of kind k, n, in a rig of so many tasks and flags
+unfoldable pub under : ℕ → ℕ → ℕ → ℕ → ℕ → Bool
+under tasks flags k f n = cond (eqb (sortOf k f) 1) (leb n tasks) (cond (eqb (sortOf k f) 2) (leb n flags) true)
+
+-- number f of a line of kind k is within its size
+unfoldable pub within : ℕ → ℕ → ℕ → Bool
+within k f n = leb (lowOf k f) n && leb n (highOf k f)
+
+-- "periods 1, 2, 4, 8, 16, 32, 64"
+unfoldable pub listed : ℕ → Bool
+listed p =
+    cond (eqb p 1) true (cond (eqb p 2) true (cond (eqb p 4) true (cond (eqb p 8) true (cond (eqb p 16) true (cond (eqb p 32) true (eqb p 64))))))
+
+-- "phase below the period": of a B line's numbers
+unfoldable pub timed : ℕ → List ℕ → Bool
+timed k v = cond (eqb k 6) (listed (getD v 5 0) && ltb (getD v 6 0) (getD v 5 0)) true
+
+-- a kind's name, and the kind of a name, 0 where there is none
+unfoldable pub nameOf : ℕ → List ℕ
+nameOf k =
+    cond (eqb k 1) (82 ∷ 73 ∷ 71 ∷ [])
+    (cond (eqb k 2) (84 ∷ [])
+    (cond (eqb k 3) (67 ∷ [])
+    (cond (eqb k 4) (65 ∷ [])
+    (cond (eqb k 5) (77 ∷ []) (66 ∷ [])))))
+
+unfoldable pub letterOf : ℕ → ℕ
+letterOf a =
+    cond (eqb a 84) 2 (cond (eqb a 67) 3 (cond (eqb a 65) 4 (cond (eqb a 77) 5 (cond (eqb a 66) 6 0))))
+
+unfoldable pub kindOf : List ℕ → ℕ
+kindOf [] = 0
+kindOf (a ∷ []) = letterOf a
+kindOf (a ∷ b ∷ []) = 0
+kindOf (a ∷ b ∷ c ∷ []) = cond (eqb a 82 && (eqb b 73 && eqb c 71)) 1 0
+kindOf (a ∷ b ∷ c ∷ d ∷ l) = 0
+
+-- a line's place in the order: its kind, then the numbers that the kind rises by. Each is below 256
+unfoldable pub keyed : ℕ → List ℕ → ℕ → ℕ
+keyed k v j = cond (ltb j (keysOf k)) (getD v j 0) 0
+
+unfoldable pub rank : ℕ → List ℕ → ℕ
+rank k v = ((k * 256 + keyed k v 0) * 256 + keyed k v 1) * 256 + keyed k v 2
+
+-- "Records in this order, each kind rising strictly": the first line is RIG, and each other one comes after the line before it; B lines are free
+unfoldable pub follows : ℕ → ℕ → ℕ → Bool
+follows p k r = cond (eqb p 0) (eqb k 1) (cond (eqb k 6) (leb p r) (ltb p r))

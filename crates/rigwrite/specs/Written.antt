@@ -1,0 +1,34 @@
+-- WHAT WRITING A RIG ANSWERS, and the lent buffer after it.
+use Prim.Native.Nat.{ℕ}
+use mathlib.Core.Bool.{Bool, true, false, cond}
+use mathlib.Core.List.{List}
+use lib.Dec.{ltb}
+use lib.ListN.{length}
+use Rattle.laws.specs.Put.{put}
+use Rattle.rig.specs.declared.Cycle.{Cycle}
+use Rattle.rig.specs.declared.Rig.{Rig}
+use Rattle.rig.specs.Forms.{tableOf}
+use Rattle.rig.specs.Tests.{rightB}
+use Rattle.rigwrite.specs.File.{fileOf}
+use Rattle.rigwrite.specs.declared.Written.{Written}
+use Rattle.rigwrite.specs.declared.Written.the-variants.{Done, Refused}
+
+-- the paper's number of an answer, and the length of the file
+unfoldable pub numberOf : Written → ℕ
+numberOf (Done n) = 0
+numberOf (Refused r) = r
+
+unfoldable pub lengthOf : Written → ℕ
+lengthOf (Done n) = n
+lengthOf (Refused r) = 0
+
+-- "4: .. an entry that takes a rig (start, writer) is given one that breaks any rule", then "10: a lent buffer has not the length that this
+-- paper states for it": "The writer's buffer holds at least the file"
+unfoldable pub writtenOf : Rig → List Cycle → ℕ → Written
+writtenOf g cycles room =
+    cond (rightB g cycles) (cond (ltb room (length (fileOf g (tableOf cycles)))) (Refused 10) (Done (length (fileOf g (tableOf cycles))))) (Refused 4)
+
+-- a refused write writes nothing; else the file stands at the start, and "bytes past it stay"
+unfoldable pub bufferOf : Rig → List Cycle → List ℕ → List ℕ
+bufferOf g cycles b =
+    cond (rightB g cycles) (cond (ltb (length b) (length (fileOf g (tableOf cycles)))) b (put b 0 (fileOf g (tableOf cycles)))) b
