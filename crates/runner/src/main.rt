@@ -1,6 +1,7 @@
 // The bench runner: a rig, the line RUN and a script come in on standard input, a line for each goes out.
 use exec::Answer;
 use exec::Exec;
+use exec::Step;
 ghost use Prim.Native.Nat.{_≤_};
 
 // The record, the place in the output, and whether a line longer than the input's room is being passed over.
@@ -160,35 +161,48 @@ fn finish(t: Taken, out: &mut [u8]) {
     flush(&*out, d.at);
 }
 
+// The first line of an accepted rig, and the script behind the line RUN.
+fn run(s: Step, input: &mut [u8], out: &mut [u8], end: usize, got: usize) {
+    let answer = s.answer;
+    let Answer::Accepted(report) = answer else {
+        let n = script::put_refused(&mut *out, 4, 0);
+        flush(&*out, n);
+        return;
+    };
+    let exec = s.exec;
+    let at = script::put_started(&mut *out, exec.st.count, exec.st.running as u32);
+    let from = behind_run(end, got);
+    let d = Desk {
+        exec,
+        at,
+        long: false,
+    };
+    let t = run_script(d, input, &mut *out, from, got);
+    finish(t, out);
+}
+
+// The rig at the front of the input's first `got` bytes is read; a refused one ends the morning.
+fn morning(input: &mut [u8], out: &mut [u8], got: usize) {
+    if input.len() < got {
+        return;
+    }
+    let end = script::rig_end(&input[..got]);
+    let r = rigfile::read(&input[..end]);
+    if r.no != 0 {
+        let n = script::put_refused(&mut *out, r.no as u32, line_number(r.line));
+        flush(&*out, n);
+        return;
+    }
+    let g = r.rig;
+    let cycles = r.cycles;
+    run(exec::start(g, rig::table_of(cycles)), input, out, end, got);
+}
+
 fn main() {
     let mut input = [0u8; 65536];
     let mut out = [0u8; 65536];
     let got = io::read_full(0, &mut input);
-    let end = script::rig_end(&input[..got]);
-    let r = rigfile::read(&input[..end]);
-    if r.no != 0 {
-        let n = script::put_refused(&mut out, r.no as u32, line_number(r.line));
-        flush(&out, n);
-        return;
-    }
-    let cycles = r.cycles;
-    let s = exec::start(r.rig, rig::table_of(cycles));
-    let answer = s.answer;
-    let Answer::Accepted(report) = answer else {
-        let n = script::put_refused(&mut out, 4, 0);
-        flush(&out, n);
-        return;
-    };
-    let x = s.exec;
-    let at = script::put_started(&mut out, x.st.count, x.st.running as u32);
-    let from = behind_run(end, got);
-    let d = Desk {
-        exec: x,
-        at,
-        long: false,
-    };
-    let t = run_script(d, &mut input, &mut out, from, got);
-    finish(t, &mut out);
+    morning(&mut input, &mut out, got);
 }
 
 // A file of at most 40,960 bytes has fewer lines than that.
