@@ -1,7 +1,7 @@
 -- Runs of the code keep to the rules; demand 3 of the code, and the waking clause.
 use mathlib.Core.Path.{_≡_, refl, sym, _∙_, ap, subst}
 use mathlib.Core.Logic.{_≢_, ⊎-elim, _↔_}
-use mathlib.Core.Bool.{Bool, true, false, cond}
+use mathlib.Core.Bool.{Bool, cond}
 use mathlib.Core.List.{List, [], _∷_, _++_, reverse}
 use Prim.Native.Nat.{ℕ, suc, _+_, _≤_, _<_}
 use native.Mathlib.Omega.{arith}
@@ -17,7 +17,7 @@ use Rattle.rules.specs.RigOk.{RigOk}
 use Rattle.rules.specs.State as S
 use Rattle.rules.specs.State.{timeChain}
 use Rattle.rules.specs.Calls as R
-use Rattle.rules.specs.Calls.{tick, waitUntil, waitFor, refusal, refusals, decide, Refusal}
+use Rattle.rules.specs.Calls.{tick, waitUntil, waitFor, refusal}
 use Rattle.rules.specs.Proper.{ProperRun}
 use Rattle.rules.specs.Refusals.{code-is, refused-unchanged}
 use Rattle.rules.specs.Bound.{served-79, start-served}
@@ -33,46 +33,12 @@ use Rattle.exec.specs.Sound.{rigIn, view, Sound}
 use Rattle.exec.specs.Call.{Follows, Meets, answerOf, refuse}
 use Rattle.exec.specs.Unique.{record-same}
 use Rattle.exec.specs.RightRig.{rig-ok}
+use Rattle.exec.specs.Promises.{twelve-exactly}
 use Rattle.exec.specs.Starting.{Started, noExec}
 use Rattle.runs.specs.Runs.{Made, MadeOn, Ran, callsOf, codeOf, servedOf, AcceptedStart, noting, historyIn, SparedIn}
 use Rattle.runs.specs.Demands.{Anchor, Stands, Chained, Activated, Bounded, Demand, Wakes, forwardIn, stateIn}
 use Rattle.exec.specs.declared.Exec.{Exec}
 use Rattle.exec.specs.declared.Step.{Step}
-
--- ---- the table gives no number above 10
-
-abbrev Low : List Refusal → Type 0
-Low [] = Unit {0}
-Low (x ∷ xs) = (x .number ≤ 10) × Low xs
-
-decide-low : (xs : List Refusal) → Low xs → decide xs ≤ 10
-unfolding decide
-decide-low [] h = omega arith
-decide-low (x ∷ xs) h = go (x .given) (decide-low xs (h .1))
-  where
-    go : (b : Bool) → decide xs ≤ 10 → cond b (x .number) (decide xs) ≤ 10
-    go true l = h .0
-    go false l = l
-
-refusals-low : (r : G.Rig) (s : S.State) (k : R.Call) → Low (refusals r s k)
-unfolding refusals
-refusals-low r s (R.schedule t) = (omega arith, (omega arith, (omega arith, (omega arith, tt))))
-refusals-low r s (R.cancel t) = (omega arith, (omega arith, (omega arith, (omega arith, tt))))
-refusals-low r s (R.terminate t) = (omega arith, (omega arith, (omega arith, (omega arith, tt))))
-refusals-low r s R.finish = (omega arith, tt)
-refusals-low r s (R.tick buffer) = (omega arith, (omega arith, tt))
-refusals-low r s (R.waitUntil t) = (omega arith, (omega arith, tt))
-refusals-low r s (R.waitFor n) = (omega arith, (omega arith, tt))
-refusals-low r s (R.latched f v) = (omega arith, (omega arith, (omega arith, tt)))
-refusals-low r s (R.unlatched f v) = (omega arith, (omega arith, (omega arith, tt)))
-refusals-low r s (R.signal f v) = (omega arith, (omega arith, (omega arith, tt)))
-refusals-low r s (R.readFlag f) = (omega arith, (omega arith, (omega arith, tt)))
-refusals-low r s (R.readBlock k area buffer) = (omega arith, (omega arith, (omega arith, tt)))
-refusals-low r s (R.writeBlock k area buffer) = (omega arith, (omega arith, (omega arith, tt)))
-
-refusal-low : (r : G.Rig) (s : S.State) (k : R.Call) → refusal r s k ≤ 10
-unfolding refusal
-refusal-low r s k = decide-low (refusals r s k) (refusals-low r s k)
 
 -- ---- a refused call hands back the very record, and lent words as they were: of any record, sound or not
 
@@ -169,9 +135,7 @@ module _ (y : Exec) (h : Sound y) where
   ok = rig-ok (y .rig) (y .cycles) (h .rig)
 
   sound-12 : (m : Made) → MadeOn y m → codeOf (m .step) ≢ 12
-  sound-12 m o e =
-      let c = code-same (rigIn y) (view y) y (record { sound = h; rig = refl; state = refl }) m o in
-      omega (arith, c, e, refusal-low (rigIn y) (view y) (m .call))
+  sound-12 m o e = twelve-exactly y (m .call) (m .step) (m .after) (o .meets) .0 e h
 
   sound-79 : Bounded y
   sound-79 m o =
