@@ -1,3 +1,7 @@
+use Prim.Native.Nat.{ℕ, _≤_}
+use native.Mathlib.Omega.{arith}
+use lib.ListN.{length, take, length-take}
+use Rattle.script.specs.InputLaws.{end-le}
 use borrow.Author.Needs.{needs}
 use Rattle.runner.proofs.morning.Statement.{statement}
 use Rattle.runner.proofs.morning.Tie as tie
@@ -12,6 +16,15 @@ use Rattle.runner.proofs.run.Reads as run-reads
 use Rattle.script.proofs.put_refused.Reads as put-refused-reads
 use Rattle.script.proofs.rig_end.Reads as rig-end-reads
 
+-- the rig ends inside the input
+inside : (c : tie.After-rig-end) → c .rig-end .result ≤ length (c .before .before .before .before .before .args .input .now)
+inside c =
+    let s = c .before .before .before .before .before in
+    let e = c .rig-end .ensures in
+    let h = end-le (take (s .args .got) (s .args .input .now)) in
+    let l = length-take (s .args .got) (s .args .input .now) in
+    omega arith
+
 -- src/main.rt:187:9
 returns : tie.Need-returns
 returns c = search needs
@@ -22,7 +35,10 @@ slice-reshare-prefix-rig-end c = search needs
 
 -- src/main.rt:189:31
 slice-aggregate-rig-end : tie.Need-slice-aggregate-rig-end
-slice-aggregate-rig-end c = ?
+slice-aggregate-rig-end c =
+    let l = length-take (c .before .before .before .before .args .got) (c .before .before .before .before .args .input .now) in
+    let h = c .before .if1 .left in
+    omega arith
 
 -- src/main.rt:189:9
 rig-end-requires : tie.Need-rig-end-requires
@@ -30,11 +46,14 @@ rig-end-requires c κs = search needs
 
 -- src/main.rt:190:27
 slice-reshare-prefix-read : tie.Need-slice-reshare-prefix-read
-slice-reshare-prefix-read c = ?
+slice-reshare-prefix-read c = inside c
 
 -- src/main.rt:190:27
 slice-aggregate-read : tie.Need-slice-aggregate-read
-slice-aggregate-read c = ?
+slice-aggregate-read c =
+    let h = inside (c .before) in
+    let l = length-take (c .before .rig-end .result) (c .before .before .before .before .before .before .args .input .now) in
+    omega arith
 
 -- src/main.rt:190:9
 read-requires : tie.Need-read-requires

@@ -81,11 +81,9 @@ take-line-requires c κs = search needs
 -- src/main.rt:68:16
 add-from : tie.Need-add-from Inv-loop μ-loop
 add-from c =
-    let w = inside (c .before .before .before .before .before .before .before .before .before .before) in
-    let h = c .before .before .before .before .before .before .before .before .before .before .before .before .if1 .left in
     let k = c .before .before .before .before .before .before .before .before .before .if2 .left in
-    let z : c .before .before .before .before .before .before .before .before .before .before .line-of .result < length (c .before .before .before .before .before .before .before .before .before .before .before .before .before .before .before .before .before .before .args .input .now) = omega arith in
-    search needs
+    let f = c .before .before .before .before .before .before .before .before .before .before .before .before .before .before .before .before .before .before .fits .to .fits in
+    record { fits = omega arith }
 
 -- src/main.rt:54:5
 loop-less : tie.Need-loop-less Inv-loop μ-loop
