@@ -6,3 +6,4 @@ pub mod Laws
 pub mod Stores
 pub mod Cases
 pub mod Marked
+pub mod Exactly
