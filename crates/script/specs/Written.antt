@@ -222,8 +222,8 @@ module _ (out numbers m o : List ℕ) (p : ℕ) (h : 64 ≤ length out) (few : l
         is = inl (
           h,
           wrote-as out (set o p 10) ((startName ++ fieldsText numbers) ++ (10 ∷ [])) (lineText startName numbers) 0 (p + 1)
-          (append-assoc startName (fieldsText numbers) (10 ∷ []))
-          (wrote-then out o (set o p 10) (startName ++ fieldsText numbers) (10 ∷ []) 0 p (p + 1) (omega arith) named (byte-wrote o p 10 begun-room)),
+              (append-assoc startName (fieldsText numbers) (10 ∷ []))
+              (wrote-then out o (set o p 10) (startName ++ fieldsText numbers) (10 ∷ []) 0 p (p + 1) (omega arith) named (byte-wrote o p 10 begun-room)),
         );
       }
 
