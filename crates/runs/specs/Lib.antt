@@ -1,3 +1,4 @@
 pub mod Runs
 pub mod Demands
 pub mod Laws
+pub mod Starred
