@@ -479,7 +479,7 @@ zero-at (suc m) zero = refl
 zero-at (suc m) (suc i) = zero-at m i
 
 -- what stands after the RIG line
-abbrev begun : (ℕ → ℕ) → Built
+abbrev pub begun : (ℕ → ℕ) → Built
 begun v = built (withCounts noRig v) noTable noMarks
 
 rig-under : (tasks flags : ℕ) (v : ℕ → ℕ) → all (countOf 1) (underOne tasks flags 1 v) ≡ true

@@ -1,0 +1,4 @@
+pub mod Kept
+pub mod Back
+pub mod Steps
+pub mod Same
