@@ -23,6 +23,7 @@ use Rattle.rigrows.specs.Kinds.{counts, countOf, sorts, sortOf, under}
 use Rattle.rigrows.specs.Line.{Line}
 use Rattle.rigbuild.specs.declared.Marks.{Marks}
 use Rattle.rigbuild.specs.Built.{Built, built, numbers, zeros, noMarks, noTable, nothing, underOne, aboveAfter, withAbove, withCounts, rowOf, putFlag, byKind, store, build}
+use Rattle.rigbuild.specs.Leaves.{zero-at, same-at}
 use Rattle.rigbuild.specs.Marked.{begun}
 use Rattle.rigwrite.specs.Kept.{kept}
 use Rattle.rigwrite.specs.File.{line, rigLine, isTask, taskLine, isCondition, conditionLine, isLine, flagLine, flagAt, isFlag, cycleLine, isRow, rowLine, linesFrom}
@@ -115,10 +116,22 @@ module _ (g : Rig) (cycles : List Cycle) (r : Right g cycles) where
   stage a b c d e =
       built
       (record {
-        tasks = g .tasks; flags = g .flags; master = g .master; alines = min c (g .alines); rows = min e (g .rows);
-        controller = fill 0 a (g .controller); priority = fill 0 a (g .priority); privileged = fill 0 a (g .privileged); activation = fill 0 a (g .activation);
-        present = fill 0 b (g .present); latched = fill 0 b (g .latched); desired = fill 0 b (g .desired);
-        atask = fill 0 c (g .atask); apos = fill 0 c (g .apos); aflag = fill 0 c (g .aflag); row = fill noRow e (g .row);
+        tasks = g .tasks;
+        flags = g .flags;
+        master = g .master;
+        alines = min c (g .alines);
+        rows = min e (g .rows);
+        controller = fill 0 a (g .controller);
+        priority = fill 0 a (g .priority);
+        privileged = fill 0 a (g .privileged);
+        activation = fill 0 a (g .activation);
+        present = fill 0 b (g .present);
+        latched = fill 0 b (g .latched);
+        desired = fill 0 b (g .desired);
+        atask = fill 0 c (g .atask);
+        apos = fill 0 c (g .apos);
+        aflag = fill 0 c (g .aflag);
+        row = fill noRow e (g .row);
       })
       (tabled d)
       (record { above = 0; alines = 0; rows = 0; crowded = 0; tline = marked a; inside = inside d })
@@ -211,12 +224,7 @@ module _ (g : Rig) (cycles : List Cycle) (r : Right g cycles) where
   -- a cycle of which nothing was read has no flag yet
   inside-none : (i c : ℕ) → i ≤ 15 * c → c < 64 → getD (inside i) c 0 ≡ 0
   unfolding inside
-  inside-none zero c h k = same-zero 64 c
-    where
-      same-zero : (m i : ℕ) → getD (zeros m) i 0 ≡ 0
-      same-zero zero i = refl
-      same-zero (suc m) zero = refl
-      same-zero (suc m) (suc i) = same-zero m i
+  inside-none zero c h k = zero-at 64 c
   inside-none (suc i) c h k =
       by (isFlag (tableOf cycles) i)
       (λ e. rw (e, getD-set-other (inside i) (i / 15) c (i % 15 + 1) 0 (omega arith)) (inside-none i c (omega arith) k))
@@ -277,11 +285,6 @@ module _ (g : Rig) (cycles : List Cycle) (r : Right g cycles) where
   tabled-whole : (i : ℕ) → i ≤ 960 → (length (tabled i) ≡ 64) × ((c : ℕ) → c < 64 → length (getD (tabled i) c []) ≡ 15)
   unfolding tabled noTable
   tabled-whole zero h = (length-replicate 64 (zeros 15), λ c k. ap length (same-at 64 c (zeros 15) [] k) ∙ length-replicate {A = ℕ} 15 0)
-    where
-      same-at : (m i : ℕ) (x d : List ℕ) → i < m → getD (replicate m x) i d ≡ x
-      same-at zero i x d h = absurd (omega arith)
-      same-at (suc m) zero x d h = refl
-      same-at (suc m) (suc i) x d h = same-at m i x d (omega arith)
   tabled-whole (suc i) h =
       let w = tabled-whole i (omega arith) in
       let a = w .0 in
@@ -293,16 +296,6 @@ module _ (g : Rig) (cycles : List Cycle) (r : Right g cycles) where
   tabled-none : (c n : ℕ) → c < 64 → cell (tabled 0) c n ≡ 0
   unfolding tabled noTable
   tabled-none c n k = ap (λ (x : List ℕ). getD x n 0) (same-at 64 c (zeros 15) [] k) ∙ zero-at 15 n
-    where
-      same-at : (m i : ℕ) (x d : List ℕ) → i < m → getD (replicate m x) i d ≡ x
-      same-at zero i x d h = absurd (omega arith)
-      same-at (suc m) zero x d h = refl
-      same-at (suc m) (suc i) x d h = same-at m i x d (omega arith)
-
-      zero-at : (m i : ℕ) → getD (zeros m) i 0 ≡ 0
-      zero-at zero i = refl
-      zero-at (suc m) zero = refl
-      zero-at (suc m) (suc i) = zero-at m i
 
   tabled-cell : (i : ℕ) → i ≤ 960 → (c n : ℕ) → c < 64 → n < 15 → cell (tabled i) c n ≡ cond (ltb (15 * c + n) i) (cell (tableOf cycles) c n) 0
   unfolding tabled
@@ -379,9 +372,21 @@ module _ (g : Rig) (cycles : List Cycle) (r : Right g cycles) where
       let s = r .shaped in
       let a : min 0 (g .alines) ≡ 0 = omega arith in
       let b : min 0 (g .rows) ≡ 0 = omega arith in
-      rw (a, b, fill-none 0 65 (g .controller) (s .controller), fill-none 0 65 (g .priority) (s .priority), fill-none 0 65 (g .privileged) (s .privileged), fill-none 0 65 (g .activation) (s .activation),
-      fill-none 0 1040 (g .present) (s .present), fill-none 0 1040 (g .latched) (s .latched), fill-none 0 1040 (g .desired) (s .desired),
-      fill-none 0 1024 (g .atask) (s .atask), fill-none 0 1024 (g .apos) (s .apos), fill-none 0 1024 (g .aflag) (s .aflag), fill-none noRow 64 (g .row) (s .row))
+      rw (
+        a,
+        b,
+        fill-none 0 65 (g .controller) (s .controller),
+        fill-none 0 65 (g .priority) (s .priority),
+        fill-none 0 65 (g .privileged) (s .privileged),
+        fill-none 0 65 (g .activation) (s .activation),
+        fill-none 0 1040 (g .present) (s .present),
+        fill-none 0 1040 (g .latched) (s .latched),
+        fill-none 0 1040 (g .desired) (s .desired),
+        fill-none 0 1024 (g .atask) (s .atask),
+        fill-none 0 1024 (g .apos) (s .apos),
+        fill-none 0 1024 (g .aflag) (s .aflag),
+        fill-none noRow 64 (g .row) (s .row),
+      )
 
   abbrev pub done : Built
   done = built g (tableOf cycles) (record { above = 0; alines = 0; rows = 0; crowded = 0; tline = marked 65; inside = inside 960 })
@@ -396,9 +401,22 @@ module _ (g : Rig) (cycles : List Cycle) (r : Right g cycles) where
       let e1 = s .atask in let e2 = s .apos in let e3 = s .aflag in let f1 = s .row in
       let a : min 1024 (g .alines) ≡ g .alines = omega arith in
       let b : min 64 (g .rows) ≡ g .rows = omega arith in
-      rw (a, b, tabled-all, fill-all 0 65 (g .controller) (omega arith), fill-all 0 65 (g .priority) (omega arith), fill-all 0 65 (g .privileged) (omega arith), fill-all 0 65 (g .activation) (omega arith),
-      fill-all 0 1040 (g .present) (omega arith), fill-all 0 1040 (g .latched) (omega arith), fill-all 0 1040 (g .desired) (omega arith),
-      fill-all 0 1024 (g .atask) (omega arith), fill-all 0 1024 (g .apos) (omega arith), fill-all 0 1024 (g .aflag) (omega arith), fill-all noRow 64 (g .row) (omega arith))
+      rw (
+        a,
+        b,
+        tabled-all,
+        fill-all 0 65 (g .controller) (omega arith),
+        fill-all 0 65 (g .priority) (omega arith),
+        fill-all 0 65 (g .privileged) (omega arith),
+        fill-all 0 65 (g .activation) (omega arith),
+        fill-all 0 1040 (g .present) (omega arith),
+        fill-all 0 1040 (g .latched) (omega arith),
+        fill-all 0 1040 (g .desired) (omega arith),
+        fill-all 0 1024 (g .atask) (omega arith),
+        fill-all 0 1024 (g .apos) (omega arith),
+        fill-all 0 1024 (g .aflag) (omega arith),
+        fill-all noRow 64 (g .row) (omega arith),
+      )
 
   abbrev pub others : List Line
   others =

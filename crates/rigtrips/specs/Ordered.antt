@@ -223,15 +223,15 @@ module _ (g : Rig) (cycles : List Cycle) (r : Right g cycles) where
         sort = λ i. (omega arith, omega arith);
         first = λ i h e. omega (arith, cycle-placed (tableOf cycles) i);
         rises = λ i j h k a b. by (eqb (i / 15) (j / 15))
-        (λ q. let e = eqb-true (i / 15) (j / 15) q in
-        let d : suc (i % 15 + (j % 15 - suc (i % 15))) ≡ j % 15 = omega arith in
-        let n = flag-some j b in
-        let v : getD (getD (tableOf cycles) (j / 15) []) (i % 15) 0 < flagAt (tableOf cycles) j =
-        rw d at (flag-rise (j / 15) (omega arith) (j % 15 - suc (i % 15)) (i % 15) (omega arith) (rw d n)) in
-        let w : flagAt (tableOf cycles) i < flagAt (tableOf cycles) j = rw e v in
-        omega (arith, cycle-placed (tableOf cycles) i, cycle-placed (tableOf cycles) j))
-        (λ q. let e = eqb-false (i / 15) (j / 15) q in
-        omega (arith, cycle-placed (tableOf cycles) i, cycle-placed (tableOf cycles) j, flag-most i (omega arith)));
+            (λ q. let e = eqb-true (i / 15) (j / 15) q in
+            let d : suc (i % 15 + (j % 15 - suc (i % 15))) ≡ j % 15 = omega arith in
+            let n = flag-some j b in
+            let v : getD (getD (tableOf cycles) (j / 15) []) (i % 15) 0 < flagAt (tableOf cycles) j =
+            rw d at (flag-rise (j / 15) (omega arith) (j % 15 - suc (i % 15)) (i % 15) (omega arith) (rw d n)) in
+            let w : flagAt (tableOf cycles) i < flagAt (tableOf cycles) j = rw e v in
+            omega (arith, cycle-placed (tableOf cycles) i, cycle-placed (tableOf cycles) j))
+            (λ q. let e = eqb-false (i / 15) (j / 15) q in
+            omega (arith, cycle-placed (tableOf cycles) i, cycle-placed (tableOf cycles) j, flag-most i (omega arith)));
       }
 
   -- the B lines, free among themselves
@@ -241,10 +241,12 @@ module _ (g : Rig) (cycles : List Cycle) (r : Right g cycles) where
   rows-faultless (suc n) p h z y =
       let i = rows-faultless n p (omega arith) z y in
       by (isRow g n)
-      (λ e. rw (e, last-append p (kept n (isRow g) (rowLine g)) (rowLine g n ∷ []))
-      (faultless-append p (kept n (isRow g) (rowLine g)) (rowLine g n ∷ []) (i .0)
-      (omega arith, judged-row (lastOf p (kept n (isRow g) (rowLine g))) (rowLine g n) (row-good g cycles r n e) (i .2) refl (omega (arith, row-placed g n, i .1)), tt),
-      omega (arith, row-placed g n), omega (arith, row-placed g n)))
+      (λ e. rw (e, last-append p (kept n (isRow g) (rowLine g)) (rowLine g n ∷ [])) (
+        faultless-append p (kept n (isRow g) (rowLine g)) (rowLine g n ∷ []) (i .0)
+            (omega arith, judged-row (lastOf p (kept n (isRow g) (rowLine g))) (rowLine g n) (row-good g cycles r n e) (i .2) refl (omega (arith, row-placed g n, i .1)), tt),
+        omega (arith, row-placed g n),
+        omega (arith, row-placed g n),
+      ))
       (λ e. rw (e, append-nil) i)
 
   pub rig-faultless : Faultless 0 (linesFrom g (tableOf cycles))
@@ -263,10 +265,13 @@ module _ (g : Rig) (cycles : List Cycle) (r : Right g cycles) where
       let p3 = lastOf p2 (kept 1024 (isLine g) (flagLine g)) in
       let l4 = last-below p3 960 100663296 (isFlag (tableOf cycles)) (cycleLine (tableOf cycles)) (omega arith) (λ i h e. omega (arith, cycle-placed (tableOf cycles) i, flag-most i h)) in
       let a4 = last-above p3 960 1 (isFlag (tableOf cycles)) (cycleLine (tableOf cycles)) a3 (λ i h e. omega (arith, cycle-placed (tableOf cycles) i)) in
-      let p4 = lastOf p3 (kept 960 (isFlag (tableOf cycles)) (cycleLine (tableOf cycles))) in
-      (omega arith, first, subst (λ (x : ℕ). Faultless x (kept 65 (isTask g) (taskLine g) ++ (kept 1040 (isCondition g) (conditionLine g) ++ (kept 1024 (isLine g) (flagLine g) ++ (kept 960 (isFlag (tableOf cycles)) (cycleLine (tableOf cycles)) ++ kept 64 (isRow g) (rowLine g)))))) (sym p0)
-      (faultless-append 16777216 (kept 65 (isTask g) (taskLine g)) (kept 1040 (isCondition g) (conditionLine g) ++ (kept 1024 (isLine g) (flagLine g) ++ (kept 960 (isFlag (tableOf cycles)) (cycleLine (tableOf cycles)) ++ kept 64 (isRow g) (rowLine g)))) (rising-faultless 16777216 65 (isTask g) (taskLine g) tasks-rise)
-      (faultless-append p1 (kept 1040 (isCondition g) (conditionLine g)) (kept 1024 (isLine g) (flagLine g) ++ (kept 960 (isFlag (tableOf cycles)) (cycleLine (tableOf cycles)) ++ kept 64 (isRow g) (rowLine g))) (rising-faultless p1 1040 (isCondition g) (conditionLine g) (conditions-rise p1 a1 l1))
-      (faultless-append p2 (kept 1024 (isLine g) (flagLine g)) (kept 960 (isFlag (tableOf cycles)) (cycleLine (tableOf cycles)) ++ kept 64 (isRow g) (rowLine g)) (rising-faultless p2 1024 (isLine g) (flagLine g) (lines-rise p2 a2 l2))
-      (faultless-append p3 (kept 960 (isFlag (tableOf cycles)) (cycleLine (tableOf cycles))) (kept 64 (isRow g) (rowLine g)) (rising-faultless p3 960 (isFlag (tableOf cycles)) (cycleLine (tableOf cycles)) (cycles-rise p3 a3 l3))
-      (rows-faultless 64 p4 (omega arith) a4 (omega arith) .0))))))
+      let p4 = lastOf p3 (kept 960 (isFlag (tableOf cycles)) (cycleLine (tableOf cycles))) in (
+        omega arith,
+        first,
+        subst (λ (x : ℕ). Faultless x (kept 65 (isTask g) (taskLine g) ++ (kept 1040 (isCondition g) (conditionLine g) ++ (kept 1024 (isLine g) (flagLine g) ++ (kept 960 (isFlag (tableOf cycles)) (cycleLine (tableOf cycles)) ++ kept 64 (isRow g) (rowLine g)))))) (sym p0)
+            (faultless-append 16777216 (kept 65 (isTask g) (taskLine g)) (kept 1040 (isCondition g) (conditionLine g) ++ (kept 1024 (isLine g) (flagLine g) ++ (kept 960 (isFlag (tableOf cycles)) (cycleLine (tableOf cycles)) ++ kept 64 (isRow g) (rowLine g)))) (rising-faultless 16777216 65 (isTask g) (taskLine g) tasks-rise)
+            (faultless-append p1 (kept 1040 (isCondition g) (conditionLine g)) (kept 1024 (isLine g) (flagLine g) ++ (kept 960 (isFlag (tableOf cycles)) (cycleLine (tableOf cycles)) ++ kept 64 (isRow g) (rowLine g))) (rising-faultless p1 1040 (isCondition g) (conditionLine g) (conditions-rise p1 a1 l1))
+            (faultless-append p2 (kept 1024 (isLine g) (flagLine g)) (kept 960 (isFlag (tableOf cycles)) (cycleLine (tableOf cycles)) ++ kept 64 (isRow g) (rowLine g)) (rising-faultless p2 1024 (isLine g) (flagLine g) (lines-rise p2 a2 l2))
+            (faultless-append p3 (kept 960 (isFlag (tableOf cycles)) (cycleLine (tableOf cycles))) (kept 64 (isRow g) (rowLine g)) (rising-faultless p3 960 (isFlag (tableOf cycles)) (cycleLine (tableOf cycles)) (cycles-rise p3 a3 l3))
+            (rows-faultless 64 p4 (omega arith) a4 (omega arith) .0))))),
+      )

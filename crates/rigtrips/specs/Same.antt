@@ -28,6 +28,7 @@ use Rattle.rigrows.specs.RoundTrip.{written, some-line}
 use Rattle.rigbuild.specs.declared.Marks.{Marks}
 use Rattle.rigbuild.specs.declared.Answer.{Answer}
 use Rattle.rigbuild.specs.Built.{Built, built, numbers, zeros, noMarks, noTable, nothing, underOne, aboveAfter, withAbove, withCounts, withTask, withCondition, withLine, withRow, rowOf, hasLine, oneFlag, putFlag, store, build}
+use Rattle.rigbuild.specs.Leaves.{zero-at, same-at}
 use Rattle.rigbuild.specs.Cases.{Cases, by-cases}
 use Rattle.rigbuild.specs.MarkTests.{markedOne, markTests}
 use Rattle.rigbuild.specs.Marked.{first-rig, not-rig, place-low, tasks-most, begun, after-rig, marks-say}
@@ -170,16 +171,6 @@ lines-back (r ∷ rs) p b u w c =
     (i .0 ∙ (ap (λ (l : List Line). l ++ rs) (s .0) ∙ append-assoc (linesBuilt b) (r ∷ []) rs), i .1, i .2)
 
 -- ---- the first line
-
-zero-at : (m i : ℕ) → getD (zeros m) i 0 ≡ 0
-zero-at zero i = refl
-zero-at (suc m) zero = refl
-zero-at (suc m) (suc i) = zero-at m i
-
-same-at : {A : Type 0} (m i : ℕ) (x d : A) → i < m → getD (replicate m x) i d ≡ x
-same-at zero i x d h = absurd (omega arith)
-same-at (suc m) zero x d h = refl
-same-at (suc m) (suc i) x d h = same-at m i x d (omega arith)
 
 none-of : (x : ℕ) → x ≡ 0 → eqb x 1 ≡ true → ⊥
 none-of x e t = let z = eqb-true x 1 t in omega arith
