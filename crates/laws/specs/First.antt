@@ -5,10 +5,8 @@ use mathlib.Core.Bool.{Bool, true, false, cond, false≢true}
 use mathlib.Core.List.{List, [], _∷_, _++_}
 use Prim.Native.Nat.{ℕ, zero, suc, _+_, _≤_, _<_}
 use native.Mathlib.Omega.{arith}
-use native.Mathlib.Nat.{add-suc}
 use lib.ListN.{length, getD}
-use Rattle.laws.specs.Cases.{by-bool}
-use Rattle.laws.specs.All.{allOf, allOf-cons, allOf-nil, and-left, and-right}
+use Rattle.laws.specs.All.{allOf, allOf-cons, allOf-nil}
 
 -- the tests of the list are numbered from n on; 0 where none fails
 unfoldable pub firstFalse : ℕ → List Bool → ℕ

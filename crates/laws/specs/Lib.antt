@@ -4,6 +4,7 @@ pub mod All
 pub mod Any
 pub mod Tables
 pub mod Put
+pub mod Reading
 pub mod Functions
 pub mod Members
 pub mod Order

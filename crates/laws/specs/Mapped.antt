@@ -1,12 +1,11 @@
 -- A list that is filled place by place with what a function makes of another's elements is that list's image.
-use mathlib.Core.Path.{_≡_, refl, sym, _∙_, ap}
+use mathlib.Core.Path.{_≡_, sym, _∙_}
 use mathlib.Core.List.{List, map}
-use Prim.Native.Nat.{ℕ, zero, suc, _+_, _≤_, _<_}
+use Prim.Native.Nat.{ℕ, _+_, _≤_, _<_}
 use native.Mathlib.Omega.{arith}
-use lib.Dec.{eqb}
 use lib.ListN.{length, getD, set, length-set, length-map, List·getD-map}
 use lib.Seq.{getD-set-same, getD-set-other, ext-getD}
-use Rattle.laws.specs.Cases.{by-eqb, below-but}
+use Rattle.laws.specs.Cases.{by-eqb}
 
 module _ {A B : Type 0} (f : A → B) (d : A) (l : List A) where
   -- the first k places are filled

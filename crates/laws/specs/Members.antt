@@ -174,6 +174,17 @@ distinct-end a (x ∷ xs) n d = (
   distinct-end a xs (λ i. n (inr i)) (d .1),
 )
 
+-- who stands at a place of a list is in it, and who is in it stands at some place
+pub at-in : (a : ℕ) (xs : List ℕ) (i : ℕ) → i < length xs → getD xs i 0 ≡ a → In a xs
+at-in a [] i h e = absurd (omega arith)
+at-in a (x ∷ xs) zero h e = inl (sym e)
+at-in a (x ∷ xs) (suc i) h e = inr (at-in a xs i (omega arith) e)
+
+pub in-at : (a : ℕ) (xs : List ℕ) → In a xs → (i : ℕ) × (i < length xs) × (getD xs i 0 ≡ a)
+in-at a [] h = absurd h
+in-at a (x ∷ xs) (inl e) = (0, omega arith, sym e)
+in-at a (x ∷ xs) (inr h) = let w = in-at a xs h in (suc (w .0), omega (arith, w .1), w .2)
+
 -- ---- tests of elements, one after the other
 
 -- tests that agree on the list's elements keep the same
@@ -192,14 +203,3 @@ without-keep x p (y ∷ ys) =
     by (p y)
     (λ e. by (eqb y x) (λ f. rw (e, f, without-keep x p ys)) (λ f. rw (e, f, without-keep x p ys)))
     (λ e. rw (e, without-keep x p ys))
-
--- who stands at a place of a list is in it, and who is in it stands at some place
-pub at-in : (a : ℕ) (xs : List ℕ) (i : ℕ) → i < length xs → getD xs i 0 ≡ a → In a xs
-at-in a [] i h e = absurd (omega arith)
-at-in a (x ∷ xs) zero h e = inl (sym e)
-at-in a (x ∷ xs) (suc i) h e = inr (at-in a xs i (omega arith) e)
-
-pub in-at : (a : ℕ) (xs : List ℕ) → In a xs → (i : ℕ) × (i < length xs) × (getD xs i 0 ≡ a)
-in-at a [] h = absurd h
-in-at a (x ∷ xs) (inl e) = (0, omega arith, sym e)
-in-at a (x ∷ xs) (inr h) = let w = in-at a xs h in (suc (w .0), omega (arith, w .1), w .2)

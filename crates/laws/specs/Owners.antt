@@ -1,17 +1,17 @@
 -- A table of owners: each number i below n writes i + 1 at its key, so that a key's entry names the last number that has it,
 -- and an entry that stayed 0 is the key of none.
-use mathlib.Core.Path.{_≡_, refl, sym, _∙_, ap, subst}
+use mathlib.Core.Path.{_≡_, refl, sym, _∙_, ap}
 use mathlib.Core.Logic.{_⊎_, inl, inr, ⊎-elim, _≢_}
 use mathlib.Core.List.{List, [], _∷_}
-use Prim.Native.Nat.{ℕ, zero, suc, _+_, _≤_, _<_}
+use Prim.Native.Nat.{ℕ, zero, suc, _+_, _<_}
 use native.Mathlib.Omega.{arith}
-use native.Mathlib.Numerals.{add-one}
 use lib.Dec.{eqb}
 use lib.ListN.{length, getD, set, replicate, length-set, length-replicate}
 use lib.Seq.{getD-set-same, getD-set-other}
 use borrow.Author.Tests.{eqb-true, eqb-false}
 use Rattle.laws.specs.Cases.{by, below-but}
 use Rattle.laws.specs.Iter.{iter, iter-ind}
+use Rattle.laws.specs.Tables.{zeros}
 
 abbrev pub ownOne : (ℕ → ℕ) → ℕ → List ℕ → List ℕ
 ownOne key i l = set l (key i) (i + 1)
@@ -27,18 +27,13 @@ set-cases (x ∷ xs) zero (suc j) a b e = inr e
 set-cases (x ∷ xs) (suc i) zero a b e = inr e
 set-cases (x ∷ xs) (suc i) (suc j) a b e = ⊎-elim (λ w. inl (ap suc (w .0), w .1)) (λ w. inr w) (set-cases xs i j a b e)
 
-pub getD-zeros : (n i : ℕ) → _≡_ {A = ℕ} (getD (replicate n 0) i 0) 0
-getD-zeros zero i = refl
-getD-zeros (suc n) zero = refl
-getD-zeros (suc n) (suc i) = getD-zeros n i
-
 module _ (key : ℕ → ℕ) (m : ℕ) where
   -- an entry names a number with that key
   pub owner-key : (n p i : ℕ) → getD (owners n key m) p 0 ≡ suc i → (i < n) × (key i ≡ p)
   unfolding owners
   owner-key n p i =
       iter-ind (λ k l. getD l p 0 ≡ suc i → (i < k) × (key i ≡ p)) (ownOne key) (replicate m 0)
-      (λ e. absurd (omega (arith, getD-zeros m p)))
+      (λ e. absurd (omega (arith, zeros m p)))
       (λ k l h e.
       ⊎-elim (λ w. let q : i ≡ k = omega arith in (omega arith, ap key q ∙ sym (w .0))) (λ q. let r = h q in (omega (arith, r .0), r .1))
       (set-cases l (key k) p (k + 1) (suc i) e))

@@ -4,8 +4,8 @@ use mathlib.Core.Path.{_≡_, refl, sym, ap, _∙_}
 use mathlib.Core.List.{List, [], _∷_, _++_, append-assoc}
 use native.Mathlib.Omega.{arith}
 use native.Mathlib.Numerals.{add-one}
-use native.Mathlib.Nat.{add-assoc}
-use lib.ListN.{length, getD, take, drop, set, length-append, length-take, length-drop, List·getD-append}
+use native.Mathlib.Nat.{add-assoc, add-zero}
+use lib.ListN.{length, getD, take, drop, set, length-append, length-take, length-drop, take-append-drop, List·getD-append}
 use lib.Seq.{set-split, take-at, drop-append-add, drop-drop, length-take-le, getD-append-add, getD-take, getD-drop}
 
 -- the list with vs in the place of what stood from `at` on
@@ -29,6 +29,10 @@ put-put l at a b h =
     let d : drop (at + length a + length b) ((take at l ++ a) ++ drop (at + length a) l) ≡ drop (at + length (a ++ b)) l =
     rw (← e, drop-append-add, e, drop-drop, length-append, add-assoc) in
     rw (← append-assoc (take at l) a (drop (at + length a) l), t, d, append-assoc, append-assoc a b)
+
+pub put-none : (l : List ℕ) (at : ℕ) → put l at [] ≡ l
+unfolding put
+put-none l at = ap (λ (n : ℕ). take at l ++ drop n l) (add-zero at) ∙ take-append-drop at l
 
 -- ---- what is read where: what was put, and what was there
 

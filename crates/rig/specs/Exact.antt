@@ -1,26 +1,24 @@
 -- Each test of Tests.antt is true exactly when its rule of Rules.antt holds; all together, `rightB` is true of exactly the right
 -- rigs.
-use mathlib.Core.Path.{_≡_, refl, sym, _∙_, ap}
-use mathlib.Core.Logic.{_⊎_, inl, inr, ⊎-elim, _≢_, _↔_}
-use mathlib.Core.Bool.{Bool, true, false, not, cond, _&&_, _||_}
-use mathlib.Core.List.{List, [], _∷_, _++_}
-use Prim.Native.Nat.{ℕ, zero, suc, _+_, _-_, _*_, _≤_, _<_}
+use mathlib.Core.Path.{_≡_, sym, _∙_, ap}
+use mathlib.Core.Logic.{_⊎_, inl, inr, ⊎-elim, _≢_}
+use mathlib.Core.List.{List}
+use Prim.Native.Nat.{ℕ, _+_, _-_, _*_, _≤_, _<_}
 use native.Mathlib.Omega.{arith}
-use lib.Dec.{eqb, leb, ltb}
+use lib.Dec.{eqb}
 use lib.ListN.{length, getD}
-use borrow.Author.Tests.{eqb-true, eqb-false, eq-eqb, ne-eqb, leb-true, le-leb, ltb-true, lt-ltb}
+use borrow.Author.Tests.{eqb-true, eqb-false, eq-eqb, leb-true, le-leb, ltb-true, lt-ltb}
 use Rattle.laws.specs.Cases.{by}
 use Rattle.laws.specs.Members.{In, in-at, at-in}
-use Rattle.laws.specs.All.{all, allOf, allOf-at, allOf-cons, allOf-nil}
-use Rattle.laws.specs.Any.{any}
-use Rattle.laws.specs.Decides.{Is, is-eqb, is-leb, is-ltb, is-and, is-or, is-not, is-else, is-then, is-if, is-all, is-any, is-said}
-use Rattle.rigtests.specs.Tests.{within, smallB, conditionsB, linesRiseB, cycleRises, conditionTasksB, linesB, cycleSmall, servesOneB, notMinorB, placeOf, namedB, usedB, minorConditionsB, taskZerosB, lineZerosB, risesTest}
+use Rattle.laws.specs.All.{allOf, allOf-at, allOf-cons, allOf-nil}
+use Rattle.laws.specs.Decides.{Is, is-eqb, is-leb, is-ltb, is-and, is-not, is-else, is-then, is-if, is-all, is-any, is-said}
+use Rattle.rigtests.specs.Tests.{within, smallB, conditionsB, linesRiseB, cycleRises, conditionTasksB, linesB, cycleSmall, servesOneB, notMinorB, namedB, usedB, minorConditionsB, taskZerosB, lineZerosB, risesTest}
 use Rattle.rigtests.specs.Laws.{serves-is}
 use Rattle.rig.specs.declared.Row.{Row}
 use Rattle.rig.specs.declared.Cycle.{Cycle}
 use Rattle.rig.specs.declared.Rig.{Rig}
-use Rattle.rig.specs.Rules.{at, place, noRow, noCycle, flagAt, rowAt, linePlace, Minor, periods, Priorities, Privileges, ConditionValues, Conditions, RowSizes, Rows, Rises, LineOrder, CycleOrder, ActivationNumbers, ConditionNumbers, LineNumbers, Lines, CycleNumbers, Controllers, ActivationServesOne, ActivationNotMinor, LineHasCondition, ConditionHasLine, MinorCondition, MinorConditions, SenderDiffers, NoTask, TaskZeros, NoLine, LineZeros, RowZeros, Shaped, Right}
-use Rattle.rig.specs.Tests.{listedB, rowTests, rowsB, cyclesRiseB, cyclesSmallB, minorB, differB, rowZeros, rowZero, rowZerosB, shapedTests}
+use Rattle.rig.specs.Rules.{at, noRow, noCycle, flagAt, rowAt, linePlace, periods, Conditions, RowSizes, Rows, Rises, LineOrder, CycleOrder, ConditionNumbers, Lines, CycleNumbers, ActivationServesOne, ActivationNotMinor, LineHasCondition, ConditionHasLine, MinorConditions, SenderDiffers, TaskZeros, LineZeros, RowZeros}
+use Rattle.rig.specs.Tests.{listedB, rowTests, rowsB, cyclesRiseB, cyclesSmallB, minorB, differB, rowZeros, rowZero, rowZerosB}
 use Rattle.rig.specs.Marks.{minor-is}
 
 pub within-is : (low n high : ℕ) → Is (within low n high) ((low ≤ n) × (n ≤ high))

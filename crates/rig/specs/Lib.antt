@@ -5,3 +5,5 @@ pub mod Marks
 pub mod Tree
 pub mod Exact
 pub mod Whole
+pub mod Which
+pub mod Facts

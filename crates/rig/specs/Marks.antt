@@ -1,26 +1,26 @@
 -- The table of minor-cycle flags says of each flag what `minorB` says.
-use mathlib.Core.Path.{_≡_, refl, sym, _∙_, ap}
+use mathlib.Core.Path.{_≡_, sym, _∙_, ap}
 use mathlib.Core.Logic.{_⊎_, inl, inr, ⊎-elim, _≢_, _↔_}
-use mathlib.Core.Bool.{Bool, true, false, not, _||_}
+use mathlib.Core.Bool.{Bool, true, not}
 use mathlib.Core.List.{List}
-use Prim.Native.Nat.{ℕ, zero, suc, _+_, _≤_, _<_}
+use Prim.Native.Nat.{ℕ, suc, _≤_, _<_}
 use native.Mathlib.Omega.{arith}
 use lib.Dec.{eqb, ltb}
-use lib.ListN.{length, getD, set, replicate, length-replicate}
+use lib.ListN.{length, getD, replicate, length-replicate}
 use lib.Seq.{getD-set-other}
 use borrow.Author.Tests.{lt-ltb, eqb-true, eqb-false}
 use Rattle.laws.specs.Cases.{by, or-yes, below-but}
 use Rattle.laws.specs.Iter.{iter, iter-ind}
 use Rattle.laws.specs.All.{all, all-all, all-same}
-use Rattle.laws.specs.Tables.{set-zero}
+use Rattle.laws.specs.Tables.{set-zero, zeros}
 use Rattle.laws.specs.Decides.{Is, is-eqb, is-and, is-not, is-any, is-said, is-same}
-use Rattle.laws.specs.Owners.{marks, marked-by, marks-it, marks-length, getD-zeros}
+use Rattle.laws.specs.Owners.{marked-by, marks-it, marks-length}
 use Rattle.rigtests.specs.Tests.{inCycle, notMinorOne, notMinorB, minorConditionOne, minorConditionTest, minorConditionsB, onlyOne, placeOf}
 use Rattle.rigtests.specs.Tables.{marked}
 use Rattle.rig.specs.declared.Row.{Row}
 use Rattle.rig.specs.declared.Cycle.{Cycle}
 use Rattle.rig.specs.Rules.{at, noRow, noCycle, flagAt, Minor}
-use Rattle.rig.specs.Tests.{rowZero, rowZeroOne, markCycle, minorMarks, inCycleOne, minorB}
+use Rattle.rig.specs.Tests.{rowZero, rowZeroOne, markCycle, minorMarks, minorB}
 
 -- the rows before the first that must be 0
 pub rows-start : (n : ℕ) (row : List Row) → all n (rowZeroOne n row) ≡ true
@@ -44,7 +44,7 @@ module _ (cycles : List Cycle) (f : ℕ) where
       × ((at (iter k (markCycle cycles) (replicate 129 0)) f ≢ 0) ↔ Among k)
   table-is b =
       iter-ind (λ k l. (length l ≡ 129) × ((at l f ≢ 0) ↔ Among k)) (markCycle cycles) (replicate 129 0)
-      (length-replicate {A = ℕ} 129 0, ((λ z. absurd (z (getD-zeros 129 f))), (λ w. absurd (omega (arith, w .1)))))
+      (length-replicate {A = ℕ} 129 0, ((λ z. absurd (z (zeros 129 f))), (λ w. absurd (omega (arith, w .1)))))
       (λ k l h. (marks-length 15 (at (getD cycles k noCycle .flags)) l ∙ h .0, (there k l h, back k l h)))
     where
       there : (k : ℕ) (l : List ℕ) → (length l ≡ 129) × ((at l f ≢ 0) ↔ Among k) → at (markCycle cycles k l) f ≢ 0 → Among (suc k)

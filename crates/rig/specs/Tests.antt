@@ -1,7 +1,7 @@
 -- THE RULES AS TESTS: each rule of a rig as a Bool that a program can compute, in the order in which they are numbered. The
 -- tests of single tables of numbers are those of crate rigtests. Exact.antt proves of each test that it is true exactly when
 -- its rule holds.
-use mathlib.Core.Bool.{Bool, true, false, not, cond, _&&_, _||_}
+use mathlib.Core.Bool.{Bool, not, _&&_, _||_}
 use mathlib.Core.List.{List, [], _∷_, _++_}
 use Prim.Native.Nat.{ℕ}
 use lib.Dec.{eqb, leb, ltb}

@@ -1,18 +1,16 @@
 -- Controllers: the climb finds exactly the previous task and its ancestors, and every controller has a lower number.
-use mathlib.Core.Path.{_≡_, refl, sym, _∙_, ap, subst}
+use mathlib.Core.Path.{_≡_, sym, _∙_, ap}
 use mathlib.Core.Logic.{_⊎_, inl, inr, ⊎-elim, _≢_}
-use mathlib.Core.Bool.{Bool, true, false, not, cond, _&&_, _||_}
 use mathlib.Core.List.{List}
 use Prim.Native.Nat.{ℕ, zero, suc, _+_, _-_, _≤_, _<_}
 use native.Mathlib.Omega.{arith}
-use lib.Dec.{eqb, leb, ltb}
-use borrow.Author.Tests.{lt-ltb, le-ltb, ltb-true, ltb-false, eqb-true, eqb-false}
+use lib.Dec.{ltb}
+use borrow.Author.Tests.{lt-ltb}
 use Rattle.laws.specs.Cases.{by, by-eqb, below-but}
-use Rattle.laws.specs.All.{all}
 use Rattle.laws.specs.Decides.{Is, is-eqb, is-leb, is-and, is-not, is-else, is-all, is-said}
-use Rattle.rigtests.specs.Tests.{climb, controllerOne, controllersB}
+use Rattle.rigtests.specs.Tests.{climb, controllersB}
 use Rattle.rigtests.specs.Tables.{Low}
-use Rattle.rigtests.specs.Climb.{climb-stop, low-all}
+use Rattle.rigtests.specs.Climb.{climb-stop}
 use Rattle.rig.specs.declared.Rig.{Rig}
 use Rattle.rig.specs.Rules.{at, Ancestor, nearest, further, Controllers}
 

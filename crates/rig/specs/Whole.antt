@@ -1,22 +1,20 @@
 -- `rightB` is true of exactly the right rigs, and the number that `firstBroken` gives is that of a rule which does not hold.
-use mathlib.Core.Path.{_≡_, refl, sym, _∙_, ap}
-use mathlib.Core.Logic.{_≢_, _↔_}
-use mathlib.Core.Bool.{Bool, true, false, true≢false}
-use mathlib.Core.List.{List, [], _∷_, _++_}
-use Prim.Native.Nat.{ℕ, zero, suc, _+_, _≤_, _<_}
+use mathlib.Core.Path.{_≡_, sym, _∙_, ap}
+use mathlib.Core.Logic.{_↔_}
+use mathlib.Core.Bool.{Bool, true}
+use mathlib.Core.List.{List, [], _∷_}
+use Prim.Native.Nat.{ℕ, _≤_, _<_}
 use native.Mathlib.Omega.{arith}
-use lib.Dec.{eqb, leb, ltb}
-use lib.ListN.{length, getD}
+use lib.ListN.{length}
 use borrow.Author.Tests.{eqb-true, eq-eqb, leb-true, le-leb}
-use Rattle.laws.specs.All.{all, allOf, allOf-at, allOf-cons, allOf-nil}
-use Rattle.laws.specs.First.{firstFalse, first-all, all-first, first-fails}
-use Rattle.laws.specs.Decides.{Is, is-eqb, is-leb, is-said}
+use Rattle.laws.specs.All.{allOf, allOf-at, allOf-cons, allOf-nil}
+use Rattle.laws.specs.First.{firstFalse, first-all, all-first}
+use Rattle.laws.specs.Decides.{is-eqb, is-said}
 use Rattle.rigtests.specs.Tests.{controllersB, servesOneB, namedB, usedB}
-use Rattle.rigtests.specs.Tables.{Placed, LinesFit, marked}
-use Rattle.rig.specs.declared.Row.{Row}
+use Rattle.rigtests.specs.Tables.{LinesFit, marked}
 use Rattle.rig.specs.declared.Cycle.{Cycle}
 use Rattle.rig.specs.declared.Rig.{Rig}
-use Rattle.rig.specs.Rules.{at, place, flagAt, Shaped, Right}
+use Rattle.rig.specs.Rules.{at, flagAt, Shaped, Right}
 use Rattle.rig.specs.Tests.{minorMarks, shapedTests, countTests, numberTests, taskTests, lineTests, taskGroup, lineGroup, tests, firstBroken, rightB}
 use Rattle.rig.specs.Marks.{not-minor-law, minor-conditions-law}
 use Rattle.rig.specs.Tree.{controllers-is}

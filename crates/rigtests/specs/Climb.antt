@@ -1,14 +1,13 @@
 -- Up from a task, controller by controller: the bound on the steps never matters, and how far the way leads.
 use mathlib.Core.Path.{_≡_, refl, sym, _∙_, ap}
-use mathlib.Core.Logic.{⊎-elim}
-use mathlib.Core.Bool.{Bool, true, false, not, cond, _&&_, _||_}
+use mathlib.Core.Bool.{Bool, true, false, not, _&&_, _||_}
 use mathlib.Core.List.{List}
 use Prim.Native.Nat.{ℕ, zero, suc, _+_, _-_, _≤_, _<_}
 use native.Mathlib.Omega.{arith}
 use lib.Dec.{eqb, leb, ltb}
-use borrow.Author.Tests.{lt-ltb, le-ltb, ltb-true, ltb-false, eqb-true, lt-leb}
+use borrow.Author.Tests.{lt-ltb, le-ltb, ltb-true, eqb-true, lt-leb}
 use Rattle.laws.specs.Cases.{by, by-eqb, below-but}
-use Rattle.laws.specs.All.{all, all-zero, and-left, and-right}
+use Rattle.laws.specs.All.{all, and-left, and-right}
 use Rattle.rigtests.specs.Tests.{at, climb, controllerOne}
 use Rattle.rigtests.specs.Tables.{Low}
 

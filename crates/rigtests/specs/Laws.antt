@@ -1,19 +1,18 @@
 -- The tests that go by a table say what the tests of Tests.antt say.
 use mathlib.Core.Path.{_≡_, refl, sym, _∙_, ap}
-use mathlib.Core.Logic.{_⊎_, inl, inr, ⊎-elim, _≢_, _↔_}
-use mathlib.Core.Bool.{Bool, true, false, not, cond, _&&_, _||_, false≢true}
+use mathlib.Core.Logic.{_⊎_, inl, inr, ⊎-elim, _≢_}
+use mathlib.Core.Bool.{true, not, _&&_}
 use mathlib.Core.List.{List}
 use Prim.Native.Nat.{ℕ, zero, suc, _+_, _-_, _≤_, _<_}
 use native.Mathlib.Omega.{arith}
-use lib.Dec.{eqb, leb, ltb}
-use borrow.Author.Tests.{eqb-true, eqb-false, eq-eqb, ne-eqb, lt-ltb}
-use Rattle.laws.specs.Cases.{by, by-bool, or-yes}
-use Rattle.laws.specs.All.{all, all-at, all-all}
-use Rattle.laws.specs.Any.{any}
+use lib.Dec.{eqb, ltb}
+use borrow.Author.Tests.{eqb-true, eqb-false, lt-ltb}
+use Rattle.laws.specs.Cases.{by, or-yes}
+use Rattle.laws.specs.All.{all, all-all}
 use Rattle.laws.specs.Decides.{Is, is-eqb, is-and, is-or, is-not, is-else, is-then, is-if, is-all, is-any, is-said, is-same}
 use Rattle.laws.specs.Owners.{owners, owner-key, owner-some}
-use Rattle.rigtests.specs.Tests.{at, placeOf, aloneOne, servesOne, servesOneB, isPlace, usedOne, usedB, onlyOne, minorConditionOne, minorConditionsB, lineZeroOne}
-use Rattle.rigtests.specs.Tables.{Placed, LinesFit, Owned, marked, servedOne, servedB, hasOwnerOne, hasOwnerB, minorTest, minorOwnerOne, minorOwnerB}
+use Rattle.rigtests.specs.Tests.{at, placeOf, servesOne, servesOneB, usedB, minorConditionOne, minorConditionsB, lineZeroOne}
+use Rattle.rigtests.specs.Tables.{Placed, Owned, marked, servedOne, servedB, hasOwnerB, minorTest, minorOwnerOne, minorOwnerB}
 
 -- the lines before the first that must be 0
 pub zeros-start : (n : ℕ) (atask apos aflag : List ℕ) → all n (lineZeroOne n atask apos aflag) ≡ true

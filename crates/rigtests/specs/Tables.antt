@@ -1,8 +1,7 @@
 -- The tests that go by a table of owners or of marks, as the code computes them, and what the tables must be for its indexes.
 -- Laws.antt proves them equal to the tests of Tests.antt.
-use mathlib.Core.Path.{_≡_}
 use mathlib.Core.Logic.{_≢_}
-use mathlib.Core.Bool.{Bool, true, false, not, cond, _&&_, _||_}
+use mathlib.Core.Bool.{Bool, not, cond, _&&_, _||_}
 use mathlib.Core.List.{List}
 use Prim.Native.Nat.{ℕ, _+_, _-_, _≤_, _<_}
 use lib.Dec.{eqb}

@@ -1,8 +1,8 @@
 -- THE TESTS OF A RIG'S TABLES of numbers: what the rules ask of them, as Bools that a program can compute. The rules in words are
 -- those of crate rig, which says what each test stands for.
 -- Tables are read by number: task t at place t, flag f at place f, the condition of a task at `place task position`.
-use mathlib.Core.Bool.{Bool, true, false, not, cond, _&&_, _||_}
-use mathlib.Core.List.{List, [], _∷_}
+use mathlib.Core.Bool.{Bool, not, cond, _&&_, _||_}
+use mathlib.Core.List.{List}
 use Prim.Native.Nat.{ℕ, zero, suc, _+_, _-_, _*_}
 use lib.Dec.{eqb, leb, ltb}
 use lib.ListN.{length, getD}

@@ -8,7 +8,7 @@ pub mod Running
 pub mod Bus
 pub mod Calls
 pub mod Scripts
-pub mod Cases
+pub mod ACaseForEachRule
 pub mod Morning
 pub mod Full
 pub mod RigOk
@@ -34,6 +34,7 @@ pub mod InOrder
 pub mod Waking
 pub mod WakingLaws
 pub mod BenchRig
+pub mod BenchWaits
 pub mod FullRig
 pub mod Bound
 pub mod Reasons

@@ -26,7 +26,7 @@ use Rattle.rules.specs.Scripts.{ofTask, ofCondition, numbers, ofLine, of
 -- ---- "prints verb, answer (0 accepted), count, running task (0 none), then, if accepted, bus words or the flag's value"
 
 -- a printed line: the verb and the numbers behind it; the runner has no verb for a block
-data Line : Type 0 where
+pub data Line : Type 0 where
   START S X Z F K U R L N G Q block : List ℕ → Line
 
 verb : Call → List ℕ → Line
@@ -70,11 +70,11 @@ lines r s (k ∷ ks) =
     line k p ∷ lines r (p .next) ks
 
 -- the START line, and a line for each call
-printed : Rig → List Call → List Line
+pub printed : Rig → List Call → List Line
 printed r ks = START (0 ∷ start r .count ∷ start r .running ∷ []) ∷ lines r (start r) ks
 
 -- "Whole output"
-morning : printed bench morningCalls ≡
+pub morning : printed bench morningCalls ≡
     START (0 ∷ 0 ∷ 1 ∷ [])
     ∷ S (0 ∷ 0 ∷ 1 ∷ [])
     ∷ S (0 ∷ 0 ∷ 1 ∷ [])

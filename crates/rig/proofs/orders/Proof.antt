@@ -1,6 +1,6 @@
-use mathlib.Core.Path.{_≡_, refl, sym, _∙_, ap}
-use borrow.Author.Tests.{ne-eqb, eq-eqb, lt-leb, le-leb, not-true, not-false}
-use Rattle.laws.specs.First.{firstFalse, first-none, first-skip, first-here}
+use mathlib.Core.Path.{sym, _∙_}
+use borrow.Author.Tests.{not-true, not-false}
+use Rattle.laws.specs.First.{first-none, first-skip, first-here}
 use borrow.Author.Needs.{needs}
 use Rattle.rig.proofs.orders.Statement.{statement}
 use Rattle.rig.proofs.orders.Tie as tie

@@ -1,5 +1,5 @@
-use mathlib.Core.Path.{_≡_, refl, sym, _∙_, ap}
-use borrow.Author.Tests.{ne-eqb, eq-eqb, lt-leb, le-leb, not-true, not-false}
+use mathlib.Core.Path.{sym, _∙_}
+use borrow.Author.Tests.{lt-leb, le-leb, not-true, not-false}
 use Rattle.laws.specs.All.{allOf-not, allOf-skip, allOf-last}
 use Rattle.rig.specs.Tests.{rowTests}
 use borrow.Author.Needs.{needs}

@@ -1,5 +1,4 @@
-use borrow.Author.Needs.{needs}
-use borrow.Author.Tests.{eq-eqb, ne-eqb, le-leb, lt-leb, lt-ltb, le-ltb}
+use borrow.Author.Tests.{eq-eqb, ne-eqb, le-leb, lt-leb}
 use Rattle.rigtests.proofs.condition_task_ok.Statement.{statement}
 use Rattle.rigtests.proofs.condition_task_ok.Tie as tie
 use Rattle.rigtests.proofs.condition_task_ok.Reads as reads

@@ -1,5 +1,4 @@
-use borrow.Author.Needs.{needs}
-use borrow.Author.Tests.{eq-eqb, ne-eqb, le-leb, lt-leb, lt-ltb, le-ltb}
+use borrow.Author.Tests.{le-leb, lt-leb}
 use Rattle.rigtests.proofs.in_range.Statement.{statement}
 use Rattle.rigtests.proofs.in_range.Tie as tie
 use Rattle.rigtests.proofs.in_range.Reads as reads

@@ -1,5 +1,5 @@
-use borrow.Author.Tests.{eq-eqb, ne-eqb, le-leb, lt-leb, lt-ltb, le-ltb}
-use mathlib.Core.Path.{_≡_, refl, sym, _∙_, ap}
+use borrow.Author.Tests.{le-leb, lt-leb}
+use mathlib.Core.Path.{refl, sym, _∙_}
 use Rattle.laws.specs.Cases.{and-go, and-stop}
 use borrow.Author.Needs.{needs}
 use Rattle.rigtests.proofs.line_ok.Statement.{statement}

@@ -1,5 +1,4 @@
-use borrow.Author.Tests.{eq-eqb, ne-eqb, le-leb, lt-leb, lt-ltb, le-ltb}
-use mathlib.Core.Path.{_≡_, refl, sym, _∙_, ap}
+use mathlib.Core.Path.{sym, _∙_}
 use Rattle.laws.specs.Cases.{or-yes, or-skip}
 use borrow.Author.Needs.{needs}
 use Rattle.rigtests.proofs.task_zero.Statement.{statement}

@@ -1,4 +1,5 @@
--- CASES: each rule that a wrong version could drop, as a script with what is seen after each call. One table, one statement.
+-- A CASE FOR EACH RULE that a wrong version could drop: a script, with what is seen after each call. One table, one
+-- statement. (The name puts this file first: a wrong rule is refused here, before the text of some proof no longer fits.)
 use mathlib.Core.Path.{_≡_, refl}
 use mathlib.Core.List.{List, [], _∷_, _++_}
 use Prim.Native.Nat.{ℕ, zero, suc}
@@ -57,7 +58,7 @@ rows = rig 1 1 1 (T 1 0 10 0 0 ∷ []) [] [] [] (B 1 5 7 2 2 1 0 ∷ B 1 5 7 2 3
 -- A task that is stopped and started again within one call. Task 2's condition asks that its own activation flag 3 be off:
 -- terminated, it is activated again by its own off. Task 3 waits for the off, task 4 for the next on. At the end flag 3 is
 -- on, and both are awake.
-stopped-and-started : Case
+pub stopped-and-started : Case
 stopped-and-started =
     case (rig 4 4 1 (T 1 0 10 0 0 ∷ T 2 1 5 0 3 ∷ T 3 1 30 0 0 ∷ T 4 1 20 0 0 ∷ []) (C 2 0 1 0 ∷ []) (A 2 0 3 ∷ []) [] [])
     (schedule 2 ∷ schedule 3 ∷ unlatched 3 0 ∷ schedule 4 ∷ unlatched 3 1 ∷ terminate 2 ∷ [])
@@ -74,7 +75,7 @@ stopped-and-started =
 -- ---- "Slips seen on benches"
 
 -- "32 put unreduced into the count field spills: 14432 for 14400."; and "words past those written stay"
-thirty-two-is-written-as-zero : Case
+pub thirty-two-is-written-as-zero : Case
 thirty-two-is-written-as-zero =
     case bench
     (tick (replicate 130 9) ∷ tick (replicate 130 9) ∷ [])
@@ -82,7 +83,7 @@ thirty-two-is-written-as-zero =
     (replicate 130 9 ++ 14400 ∷ replicate 129 9)
 
 -- "An equal-priority task that wakes takes the processor.": task 2 wakes, and task 3 goes on
-equal-rank-takes-nothing : Case
+pub equal-rank-takes-nothing : Case
 equal-rank-takes-nothing =
     case quad
     (schedule 2 ∷ waitFor 1 ∷ schedule 3 ∷ tick₀ ∷ [])
@@ -90,7 +91,7 @@ equal-rank-takes-nothing =
     (2 ∷ 1 ∷ 3 ∷ 3 ∷ [])
 
 -- "The phase is compared with the count before the tick.": period 2, phase 0
-phase-against-the-count-after-the-tick : Case
+pub phase-against-the-count-after-the-tick : Case
 phase-against-the-count-after-the-tick =
     case bench
     (tick₀ ∷ tick₀ ∷ tick₀ ∷ tick₀ ∷ [])
@@ -99,7 +100,7 @@ phase-against-the-count-after-the-tick =
 
 -- "Cancel clears the named task and leaves a descendant linked.": task 2 waits for a count, its task 3 on flag 1 behind task
 -- 4, who is none of theirs; seen: flag 1's chain, the time chain, states of 2 and 3, who runs
-cancel-strikes-every-descendant : Case
+pub cancel-strikes-every-descendant : Case
 cancel-strikes-every-descendant =
     case (rig 4 4 1 (T 1 0 10 0 0 ∷ T 2 1 20 0 0 ∷ T 3 2 30 0 0 ∷ T 4 1 40 0 0 ∷ []) [] [] [] [])
     (schedule 4 ∷ unlatched 1 1 ∷ schedule 2 ∷ schedule 3 ∷ unlatched 1 1 ∷ waitUntil 5 ∷ cancel 2 ∷ signal 1 1 ∷ [])
@@ -116,7 +117,7 @@ cancel-strikes-every-descendant =
     )
 
 -- all of them, not the children alone: each controls the next
-cancel-strikes-grandchildren : Case
+pub cancel-strikes-grandchildren : Case
 cancel-strikes-grandchildren =
     case (rig 4 4 1 (T 1 0 10 0 0 ∷ T 2 1 20 0 0 ∷ T 3 2 30 0 0 ∷ T 4 3 40 0 0 ∷ []) [] [] [] [])
     (schedule 2 ∷ schedule 3 ∷ schedule 4 ∷ unlatched 1 1 ∷ unlatched 1 1 ∷ unlatched 1 1 ∷ cancel 2 ∷ [])
@@ -132,7 +133,7 @@ cancel-strikes-grandchildren =
     )
 
 -- "An unlatched wait is satisfied by the value already there."; and a service that changes nothing still wakes
-unlatched-waits-for-the-next-service : Case
+pub unlatched-waits-for-the-next-service : Case
 unlatched-waits-for-the-next-service =
     case pair
     (schedule 2 ∷ signal 1 1 ∷ unlatched 1 1 ∷ signal 1 1 ∷ [])
@@ -142,7 +143,7 @@ unlatched-waits-for-the-next-service =
 -- ---- Tasks and flags
 
 -- "every condition with that flag takes it, whatever its task's state": here its task is uninvoked
-latched-conditions-remember : Case
+pub latched-conditions-remember : Case
 latched-conditions-remember =
     case remembering
     (signal 1 1 ∷ schedule 2 ∷ [])
@@ -150,7 +151,7 @@ latched-conditions-remember =
     (1 ∷ 2 ∷ [])
 
 -- the same while its task is dispatchable: task 2 signals its own condition off, and is not activated when scheduled anew
-conditions-are-driven-while-the-task-runs : Case
+pub conditions-are-driven-while-the-task-runs : Case
 conditions-are-driven-while-the-task-runs =
     case remembering
     (signal 1 1 ∷ schedule 2 ∷ signal 1 0 ∷ finish ∷ cancel 2 ∷ schedule 2 ∷ [])
@@ -158,7 +159,7 @@ conditions-are-driven-while-the-task-runs =
     (1 ∷ 2 ∷ 2 ∷ 1 ∷ 1 ∷ 1 ∷ [])
 
 -- "Schedule: unlatched conditions take the undesired value"
-schedule-relaxes : Case
+pub schedule-relaxes : Case
 schedule-relaxes =
     case forgetting
     (signal 1 1 ∷ schedule 2 ∷ signal 1 1 ∷ [])
@@ -166,7 +167,7 @@ schedule-relaxes =
     (1 ∷ 1 ∷ 2 ∷ [])
 
 -- undesired is 1 minus desired: a condition that desires off takes on
-undesired-of-off-is-on : Case
+pub undesired-of-off-is-on : Case
 undesired-of-off-is-on =
     case (rig 2 4 1 (T 1 0 10 0 0 ∷ T 2 1 20 0 0 ∷ []) (C 2 0 0 0 ∷ []) (A 2 0 1 ∷ []) [] [])
     (schedule 2 ∷ signal 1 0 ∷ [])
@@ -174,7 +175,7 @@ undesired-of-off-is-on =
     (1 ∷ 2 ∷ [])
 
 -- "at positions 0 to 15": the last position is relaxed and tested like the others
-position-fifteen-counts : Case
+pub position-fifteen-counts : Case
 position-fifteen-counts =
     case (rig 2 4 1 (T 1 0 10 0 0 ∷ T 2 1 20 0 0 ∷ []) (C 2 15 0 1 ∷ []) (A 2 15 1 ∷ []) [] [])
     (signal 1 1 ∷ schedule 2 ∷ signal 1 1 ∷ [])
@@ -182,7 +183,7 @@ position-fifteen-counts =
     (1 ∷ 1 ∷ 2 ∷ [])
 
 -- "Activate: .. unlatched conditions undesired again": the second time flag 2 alone is not enough
-activation-relaxes : Case
+pub activation-relaxes : Case
 activation-relaxes =
     case (rig 2 4 1 (T 1 0 10 0 0 ∷ T 2 1 20 0 0 ∷ []) (C 2 0 0 1 ∷ C 2 1 1 1 ∷ []) (A 2 0 1 ∷ A 2 1 2 ∷ []) [] [])
     (schedule 2 ∷ signal 2 1 ∷ signal 1 1 ∷ finish ∷ signal 2 1 ∷ signal 1 1 ∷ [])
@@ -191,7 +192,7 @@ activation-relaxes =
 
 -- "A condition is tested for activation on schedule and on service of one of its flags.": not at a finish, nor on service of
 -- another flag
-tested-on-schedule-and-service-only : Case
+pub tested-on-schedule-and-service-only : Case
 tested-on-schedule-and-service-only =
     case remembering
     (signal 1 1 ∷ schedule 2 ∷ finish ∷ signal 2 1 ∷ signal 1 1 ∷ [])
@@ -199,7 +200,7 @@ tested-on-schedule-and-service-only =
     (1 ∷ 2 ∷ 1 ∷ 1 ∷ 2 ∷ [])
 
 -- "if all conditions are as desired": one of the two is not enough
-all-conditions-as-desired : Case
+pub all-conditions-as-desired : Case
 all-conditions-as-desired =
     case (rig 2 4 1 (T 1 0 10 0 0 ∷ T 2 1 20 0 0 ∷ []) (C 2 0 1 1 ∷ C 2 1 1 1 ∷ []) (A 2 0 1 ∷ A 2 1 2 ∷ []) [] [])
     (signal 1 1 ∷ schedule 2 ∷ signal 2 1 ∷ [])
@@ -207,7 +208,7 @@ all-conditions-as-desired =
     (1 ∷ 1 ∷ 2 ∷ [])
 
 -- a condition has the value last served to any of its flags
-one-condition-of-two-flags : Case
+pub one-condition-of-two-flags : Case
 one-condition-of-two-flags =
     case (rig 2 4 1 (T 1 0 10 0 0 ∷ T 2 1 20 0 0 ∷ []) (C 2 0 1 1 ∷ []) (A 2 0 1 ∷ A 2 0 2 ∷ []) [] [])
     (signal 1 1 ∷ signal 2 0 ∷ schedule 2 ∷ signal 2 1 ∷ [])
@@ -215,7 +216,7 @@ one-condition-of-two-flags =
     (1 ∷ 1 ∷ 1 ∷ 2 ∷ [])
 
 -- "Finish (the running task): inactive, activation flag queued off."
-finish-wakes-who-waits-for-the-off : Case
+pub finish-wakes-who-waits-for-the-off : Case
 finish-wakes-who-waits-for-the-off =
     case (rig 2 4 1 (T 1 0 10 0 0 ∷ T 2 1 20 0 2 ∷ []) [] [] [] [])
     (schedule 2 ∷ waitFor 1 ∷ unlatched 2 0 ∷ tick₀ ∷ finish ∷ [])
@@ -229,7 +230,7 @@ finish-wakes-who-waits-for-the-off =
     )
 
 -- "Terminate: the same for the named active task, taken out of any chain.": task 2; its task 3 waits on, and only it wakes
-terminate-takes-out-of-a-flag-chain : Case
+pub terminate-takes-out-of-a-flag-chain : Case
 terminate-takes-out-of-a-flag-chain =
     case line
     (schedule 2 ∷ schedule 3 ∷ unlatched 1 1 ∷ unlatched 1 1 ∷ terminate 2 ∷ signal 1 1 ∷ [])
@@ -244,7 +245,7 @@ terminate-takes-out-of-a-flag-chain =
     )
 
 -- the same of the time chain
-terminate-takes-out-of-the-time-chain : Case
+pub terminate-takes-out-of-the-time-chain : Case
 terminate-takes-out-of-the-time-chain =
     case pair
     (schedule 2 ∷ waitUntil 2 ∷ terminate 2 ∷ tick₀ ∷ tick₀ ∷ [])
@@ -258,7 +259,7 @@ terminate-takes-out-of-the-time-chain =
     )
 
 -- cancel touches no condition: scheduled anew, task 2 is activated by what was served before
-cancel-touches-no-condition : Case
+pub cancel-touches-no-condition : Case
 cancel-touches-no-condition =
     case remembering
     (signal 1 1 ∷ schedule 2 ∷ finish ∷ cancel 2 ∷ schedule 2 ∷ [])
@@ -266,7 +267,7 @@ cancel-touches-no-condition =
     (1 ∷ 2 ∷ 1 ∷ 1 ∷ 2 ∷ [])
 
 -- "then activation flags of those that were active are queued off": task 3 is inactive; seen: served, flag 2
-cancel-queues-off-for-the-active-only : Case
+pub cancel-queues-off-for-the-active-only : Case
 cancel-queues-off-for-the-active-only =
     case (rig 3 4 1 (T 1 0 10 0 0 ∷ T 2 1 20 0 2 ∷ T 3 2 5 0 3 ∷ []) (C 3 0 0 1 ∷ []) (A 3 0 1 ∷ []) [] [])
     (schedule 2 ∷ schedule 3 ∷ waitFor 5 ∷ cancel 2 ∷ [])
@@ -275,7 +276,7 @@ cancel-queues-off-for-the-active-only =
 
 -- ".. by rising task number", so task 3's off is served before task 2's, and task 4, who asks for 2 off while 3 is on,
 -- stays inactive; seen: served, state of 4
-cancel-serves-the-highest-off-first : Case
+pub cancel-serves-the-highest-off-first : Case
 cancel-serves-the-highest-off-first =
     case (rig 4 4 1 (T 1 0 10 0 0 ∷ T 2 1 20 0 2 ∷ T 3 2 5 0 3 ∷ T 4 1 1 0 0 ∷ []) (C 4 0 1 0 ∷ C 4 1 1 1 ∷ []) (A 4 0 2 ∷ A 4 1 3 ∷ []) [] [])
     (schedule 2 ∷ schedule 3 ∷ waitFor 5 ∷ schedule 4 ∷ cancel 2 ∷ [])
@@ -286,7 +287,7 @@ cancel-serves-the-highest-off-first =
 
 -- "the last queued is taken off first": of a tick's flags 1 and 2 the second; then the activation flag 3 of task 3, whom it
 -- activates, so that task 2's condition on 3 is no longer as desired when flag 1 is served
-last-queued-first : Case
+pub last-queued-first : Case
 last-queued-first =
     case (rig 3 4 1 (T 1 0 10 0 0 ∷ T 2 1 30 0 0 ∷ T 3 1 20 0 3 ∷ []) (C 2 0 0 1 ∷ C 2 1 1 0 ∷ C 3 0 0 1 ∷ []) (A 2 0 1 ∷ A 2 1 3 ∷ A 3 0 2 ∷ []) (M 1 1 ∷ M 1 2 ∷ []) [])
     (schedule 2 ∷ schedule 3 ∷ tick₀ ∷ [])
@@ -295,7 +296,7 @@ last-queued-first =
 
 -- "then, by rising number, each inactive task ..": 3 after 2, so 3's activation flag is served before 2's, and task 4, who
 -- asks for 2 on while 3 is off, stays inactive; seen: served, states of 2, 3, 4
-activation-by-rising-number : Case
+pub activation-by-rising-number : Case
 activation-by-rising-number =
     case (rig 4 4 1 (T 1 0 50 0 0 ∷ T 2 1 10 0 2 ∷ T 3 1 10 0 3 ∷ T 4 1 10 0 0 ∷ []) (C 2 0 0 1 ∷ C 3 0 0 1 ∷ C 4 0 1 1 ∷ C 4 1 1 0 ∷ []) (A 2 0 1 ∷ A 3 0 1 ∷ A 4 0 2 ∷ A 4 1 3 ∷ []) [] [])
     (schedule 2 ∷ schedule 3 ∷ schedule 4 ∷ signal 1 1 ∷ [])
@@ -308,7 +309,7 @@ activation-by-rising-number =
     )
 
 -- "tasks waiting on that flag and value become dispatchable"
-only-the-value-waited-for-wakes : Case
+pub only-the-value-waited-for-wakes : Case
 only-the-value-waited-for-wakes =
     case pair
     (schedule 2 ∷ unlatched 1 1 ∷ signal 1 0 ∷ signal 1 1 ∷ unlatched 1 0 ∷ signal 1 1 ∷ signal 1 0 ∷ [])
@@ -316,7 +317,7 @@ only-the-value-waited-for-wakes =
     (2 ∷ 1 ∷ 1 ∷ 2 ∷ 1 ∷ 1 ∷ 2 ∷ [])
 
 -- "Each call answers with the number of flags it served": the calls of the bench morning
-served-numbers : Case
+pub served-numbers : Case
 served-numbers =
     case bench
     morningCalls
@@ -326,7 +327,7 @@ served-numbers =
 -- ---- waits
 
 -- "Wait until a count ..": waiting, and dispatchable after the tick that makes it
-wait-until-a-count : Case
+pub wait-until-a-count : Case
 wait-until-a-count =
     case pair
     (schedule 2 ∷ waitUntil 2 ∷ tick₀ ∷ tick₀ ∷ [])
@@ -334,7 +335,7 @@ wait-until-a-count =
     (2 ∷ 3 ∷ 1 ∷ 2 ∷ 1 ∷ 2 ∷ 2 ∷ 3 ∷ [])
 
 -- ".. or for a number of cycles": 2 from count 1 on; and it wakes again at the next wait
-wait-for-cycles : Case
+pub wait-for-cycles : Case
 wait-for-cycles =
     case pair
     (tick₀ ∷ schedule 2 ∷ waitFor 2 ∷ tick₀ ∷ tick₀ ∷ waitFor 1 ∷ tick₀ ∷ [])
@@ -342,7 +343,7 @@ wait-for-cycles =
     (1 ∷ 2 ∷ 1 ∷ 1 ∷ 2 ∷ 1 ∷ 2 ∷ [])
 
 -- "if the waking count is at or below the count, no wait" (the paper's case: the present count)
-no-wait-at-or-below-the-count : Case
+pub no-wait-at-or-below-the-count : Case
 no-wait-at-or-below-the-count =
     case lone
     (tick₀ ∷ waitUntil 1 ∷ waitUntil 0 ∷ waitFor 0 ∷ [])
@@ -350,7 +351,7 @@ no-wait-at-or-below-the-count =
     (0 ∷ 1 ∷ 0 ∷ 1 ∷ 0 ∷ 1 ∷ 0 ∷ 1 ∷ [])
 
 -- "Latched wait for a flag's value: no wait if it has it."
-latched-wait-takes-the-value-there : Case
+pub latched-wait-takes-the-value-there : Case
 latched-wait-takes-the-value-there =
     case pair
     (schedule 2 ∷ signal 1 1 ∷ latched 1 1 ∷ latched 1 0 ∷ signal 1 0 ∷ [])
@@ -358,7 +359,7 @@ latched-wait-takes-the-value-there =
     (2 ∷ 2 ∷ 2 ∷ 1 ∷ 2 ∷ [])
 
 -- "Time chain order: waking count, then who began to wait earlier."
-time-chain-in-order : Case
+pub time-chain-in-order : Case
 time-chain-in-order =
     case quad
     (schedule 4 ∷ waitUntil 5 ∷ schedule 3 ∷ waitUntil 3 ∷ schedule 2 ∷ waitFor 5 ∷ tick₀ ∷ tick₀ ∷ tick₀ ∷ [])
@@ -376,7 +377,7 @@ time-chain-in-order =
     )
 
 -- "Each flag has a chain for on and one for off, in order of beginning."
-flag-chains-in-order : Case
+pub flag-chains-in-order : Case
 flag-chains-in-order =
     case quad
     (schedule 4 ∷ unlatched 1 1 ∷ schedule 2 ∷ unlatched 1 1 ∷ schedule 3 ∷ latched 1 1 ∷ signal 1 1 ∷ [])
@@ -394,7 +395,7 @@ flag-chains-in-order =
 -- ---- Tick, and who runs
 
 -- "the M list of cycle (count modulo 64) is queued": that of cycle 0 first at count 64; seen: served
-cycle-of-the-count : Case
+pub cycle-of-the-count : Case
 cycle-of-the-count =
     case (rig 1 2 1 (T 1 0 10 0 0 ∷ []) [] [] (M 0 2 ∷ M 1 1 ∷ M 1 2 ∷ []) [])
     (replicate 65 tick₀)
@@ -402,7 +403,7 @@ cycle-of-the-count =
     (2 ∷ replicate 62 0 ++ 1 ∷ 2 ∷ [])
 
 -- "then task 1 is scheduled": its unlatched condition waits for the flag of cycle 1, so that nobody runs till then
-start-schedules-task-1 : Case
+pub start-schedules-task-1 : Case
 start-schedules-task-1 =
     case (rig 1 2 1 (T 1 0 10 0 2 ∷ []) (C 1 0 0 1 ∷ []) (A 1 0 1 ∷ []) (M 1 1 ∷ []) [])
     (finish ∷ tick₀ ∷ readFlag 2 ∷ [])
@@ -414,7 +415,7 @@ start-schedules-task-1 =
     )
 
 -- "the running task goes on if .. none has higher rank": task 2 wakes, and takes the processor from task 3
-higher-rank-takes-the-processor : Case
+pub higher-rank-takes-the-processor : Case
 higher-rank-takes-the-processor =
     case (rig 3 4 1 (T 1 0 10 0 0 ∷ T 2 1 30 0 0 ∷ T 3 1 20 0 0 ∷ []) [] [] [] [])
     (schedule 2 ∷ waitFor 1 ∷ schedule 3 ∷ tick₀ ∷ [])
@@ -422,7 +423,7 @@ higher-rank-takes-the-processor =
     (2 ∷ 1 ∷ 3 ∷ 2 ∷ [])
 
 -- "else the highest rank, lowest number first; else none"
-lowest-number-first : Case
+pub lowest-number-first : Case
 lowest-number-first =
     case (rig 3 4 1 (T 1 0 10 0 0 ∷ T 2 1 20 0 0 ∷ T 3 1 20 0 0 ∷ []) (C 2 0 0 1 ∷ C 3 0 0 1 ∷ []) (A 2 0 1 ∷ A 3 0 1 ∷ []) (M 1 1 ∷ []) [])
     (schedule 3 ∷ schedule 2 ∷ finish ∷ tick₀ ∷ [])
@@ -430,7 +431,7 @@ lowest-number-first =
     (1 ∷ 1 ∷ 0 ∷ 2 ∷ [])
 
 -- "if it stayed dispatchable throughout": task 3 finishes and is activated again by its own off, so task 2 of equal rank runs
-stayed-throughout : Case
+pub stayed-throughout : Case
 stayed-throughout =
     case (rig 3 4 1 (T 1 0 10 0 0 ∷ T 2 1 20 0 0 ∷ T 3 1 20 0 4 ∷ []) (C 2 0 1 1 ∷ C 3 0 1 0 ∷ []) (A 2 0 1 ∷ A 3 0 4 ∷ []) [] [])
     (schedule 2 ∷ schedule 3 ∷ signal 1 1 ∷ finish ∷ [])
@@ -438,7 +439,7 @@ stayed-throughout =
     (1 ∷ 0 ∷ 3 ∷ 3 ∷ 3 ∷ 3 ∷ 2 ∷ 3 ∷ [])
 
 -- "Privileged tasks rank above all others, by priority among themselves."
-privileged-above-all-others : Case
+pub privileged-above-all-others : Case
 privileged-above-all-others =
     case (rig 3 4 1 (T 1 0 10 0 0 ∷ T 2 1 5 1 0 ∷ T 3 1 6 1 0 ∷ []) [] [] [] [])
     (schedule 2 ∷ waitFor 1 ∷ schedule 3 ∷ tick₀ ∷ finish ∷ [])
@@ -449,7 +450,7 @@ privileged-above-all-others =
 
 -- "from the master, a receive command to the receiver; to the master, a transmit command to the sender; else receive, then
 -- transmit"; the last row is not due
-rows-in-order : Case
+pub rows-in-order : Case
 rows-in-order =
     case (rig 1 1 1 (T 1 0 10 0 0 ∷ []) [] [] [] (B 1 5 7 2 32 1 0 ∷ B 7 2 1 5 1 1 0 ∷ B 3 1 4 2 2 1 0 ∷ B 1 5 7 2 1 2 0 ∷ []))
     (tick₀ ∷ [])
@@ -457,7 +458,7 @@ rows-in-order =
     (4 ∷ 14400 ∷ 15425 ∷ 8258 ∷ 7202 ∷ replicate 124 0)
 
 -- "Write stores the data and the count modulo 65,536 as tag and touches no other word": row 2, at count 65,537
-write-touches-no-other-word : Case
+pub write-touches-no-other-word : Case
 write-touches-no-other-word =
     caseAt 65537 rows
     (writeBlock 2 (replicate 66 5) (7 ∷ 8 ∷ 9 ∷ []) ∷ [])
@@ -465,7 +466,7 @@ write-touches-no-other-word =
     (0 ∷ replicate 33 5 ++ 1 ∷ 7 ∷ 8 ∷ 9 ∷ replicate 29 5)
 
 -- "read copies the data out"
-read-copies-the-data : Case
+pub read-copies-the-data : Case
 read-copies-the-data =
     case rows
     (readBlock 2 (replicate 33 5 ++ 1 ∷ 7 ∷ 8 ∷ 9 ∷ replicate 29 5) (0 ∷ 0 ∷ 0 ∷ []) ∷ [])
@@ -489,7 +490,7 @@ largest =
     rig 64 128 1 (T 1 0 10 0 0 ∷ tasksFrom 2 62 ++ T 64 1 20 0 128 ∷ []) [] [] (flagsFrom 1 15) (replicate 64 (B 3 1 4 2 2 1 0))
 
 -- task 64 runs, has flag 128, waits and is cancelled; seen: the answer, served, flag 128, state of 64, who waits, who runs
-the-last-task : Case
+pub the-last-task : Case
 the-last-task =
     case largest
     (schedule 64 ∷ signal 128 0 ∷ unlatched 127 1 ∷ cancel 64 ∷ schedule 65 ∷ [])
@@ -503,7 +504,7 @@ the-last-task =
     )
 
 -- the fifteenth flag of cycle 63 is a minor-cycle flag, the flag behind it is not; flag 128 is there, 129 is not
-the-last-flag : Case
+pub the-last-flag : Case
 the-last-flag =
     case largest
     (readFlag 15 ∷ readFlag 16 ∷ readFlag 128 ∷ readFlag 129 ∷ [])
@@ -511,14 +512,14 @@ the-last-flag =
     (7 ∷ 0 ∷ 0 ∷ 6 ∷ [])
 
 -- 64 rows write 128 words; row 64's block ends the area
-the-last-row : Case
+pub the-last-row : Case
 the-last-row =
     case largest
     (tick₀ ∷ [])
     writes
     (128 ∷ [])
 
-the-last-block : Case
+pub the-last-block : Case
 the-last-block =
     case largest
     (writeBlock 64 (replicate 2112 5) (7 ∷ 8 ∷ []) ∷ [])
@@ -528,7 +529,7 @@ the-last-block =
 -- ---- refusals: the smallest number, and nothing is written
 
 -- nobody runs: every call but the tick, whatever else is wrong with it
-refused-5-first : Case
+pub refused-5-first : Case
 refused-5-first =
     case lone
     (finish ∷ finish ∷ schedule 9 ∷ cancel 9 ∷ terminate 9 ∷ waitUntil 4294967295 ∷ waitFor 4294967295 ∷ latched 9 1 ∷ unlatched 9 1 ∷ signal 9 1 ∷ readFlag 9 ∷ readBlock 9 [] [] ∷ writeBlock 9 [] [] ∷ tick [] ∷ tick₀ ∷ [])
@@ -536,7 +537,7 @@ refused-5-first =
     (0 ∷ 5 ∷ 5 ∷ 5 ∷ 5 ∷ 5 ∷ 5 ∷ 5 ∷ 5 ∷ 5 ∷ 5 ∷ 5 ∷ 5 ∷ 10 ∷ 0 ∷ [])
 
 -- no such task, flag or row: 0, or one above the last
-refused-6-no-such : Case
+pub refused-6-no-such : Case
 refused-6-no-such =
     case lone
     (schedule 0 ∷ schedule 2 ∷ cancel 2 ∷ terminate 0 ∷ latched 0 1 ∷ latched 3 1 ∷ unlatched 3 1 ∷ signal 0 1 ∷ signal 3 1 ∷ readFlag 3 ∷ readBlock 0 [] [] ∷ readBlock 2 [] [] ∷ writeBlock 2 [] [] ∷ [])
@@ -544,7 +545,7 @@ refused-6-no-such =
     (6 ∷ 6 ∷ 6 ∷ 6 ∷ 6 ∷ 6 ∷ 6 ∷ 6 ∷ 6 ∷ 6 ∷ 6 ∷ 6 ∷ 6 ∷ [])
 
 -- task 1 names itself (the paper's case: to cancel), and its grandchild
-refused-7-not-the-controller : Case
+pub refused-7-not-the-controller : Case
 refused-7-not-the-controller =
     case line
     (cancel 1 ∷ schedule 1 ∷ terminate 1 ∷ schedule 3 ∷ cancel 3 ∷ terminate 3 ∷ [])
@@ -552,7 +553,7 @@ refused-7-not-the-controller =
     (7 ∷ 7 ∷ 7 ∷ 7 ∷ 7 ∷ 7 ∷ [])
 
 -- flag 1 is a minor-cycle flag, flag 3 an activation flag, flag 2 plain; seen: the answer, the value read
-refused-7-flags : Case
+pub refused-7-flags : Case
 refused-7-flags =
     case bench
     (signal 1 1 ∷ signal 3 1 ∷ signal 2 1 ∷ latched 1 1 ∷ unlatched 1 1 ∷ readFlag 1 ∷ readFlag 3 ∷ readFlag 2 ∷ latched 3 0 ∷ unlatched 3 1 ∷ [])
@@ -571,7 +572,7 @@ refused-7-flags =
     )
 
 -- schedule of an invoked task, terminate of one not active, cancel of an uninvoked one
-refused-8-states : Case
+pub refused-8-states : Case
 refused-8-states =
     case forgetting
     (schedule 2 ∷ schedule 2 ∷ terminate 2 ∷ cancel 2 ∷ cancel 2 ∷ terminate 2 ∷ [])
@@ -579,7 +580,7 @@ refused-8-states =
     (0 ∷ 8 ∷ 8 ∷ 0 ∷ 8 ∷ 8 ∷ [])
 
 -- the paper's cases: waking count 2,147,483,647 is accepted, one more is not
-refused-9-waking-count : Case
+pub refused-9-waking-count : Case
 refused-9-waking-count =
     case lone
     (waitUntil 2147483648 ∷ waitUntil 2147483647 ∷ [])
@@ -587,7 +588,7 @@ refused-9-waking-count =
     (9 ∷ 1 ∷ 0 ∷ 0 ∷ [])
 
 -- the same of a number of cycles, at count 1; the sum does not wrap
-refused-9-waking-sum : Case
+pub refused-9-waking-sum : Case
 refused-9-waking-sum =
     caseAt 1 lone
     (waitFor 4294967295 ∷ waitFor 2147483647 ∷ waitFor 2147483646 ∷ [])
@@ -595,7 +596,7 @@ refused-9-waking-sum =
     (9 ∷ 1 ∷ 9 ∷ 1 ∷ 0 ∷ 0 ∷ [])
 
 -- tick at the last count, before its buffer is looked at
-refused-9-last-tick : Case
+pub refused-9-last-tick : Case
 refused-9-last-tick =
     caseAt 2147483646 lone
     (tick₀ ∷ tick [] ∷ tick₀ ∷ [])
@@ -603,7 +604,7 @@ refused-9-last-tick =
     (0 ∷ 9 ∷ 9 ∷ [])
 
 -- a tick's buffer of 127 words, which stays as it is
-refused-10-tick : Case
+pub refused-10-tick : Case
 refused-10-tick =
     case lone
     (tick (replicate 127 9) ∷ [])
@@ -611,7 +612,7 @@ refused-10-tick =
     (10 ∷ replicate 127 9)
 
 -- the paper's case: an area one word short; one too long; a buffer too short, too long; what is lent stays
-refused-10-area : Case
+pub refused-10-area : Case
 refused-10-area =
     case lone
     (writeBlock 1 (replicate 32 5) (7 ∷ 8 ∷ []) ∷ writeBlock 1 (replicate 34 5) (7 ∷ 8 ∷ []) ∷ writeBlock 1 (replicate 33 5) (7 ∷ []) ∷ readBlock 1 (replicate 33 5) (7 ∷ 8 ∷ 9 ∷ []) ∷ readBlock 1 (replicate 32 5) (7 ∷ 8 ∷ []) ∷ [])
@@ -620,11 +621,11 @@ refused-10-area =
 
 -- ---- the statement
 
-abbrev Holds : Case → Type 0
+abbrev pub Holds : Case → Type 0
 Holds c = shown c ≡ c .shows
 
 -- each case shows what it is to show
-cases-hold :
+pub cases-hold :
     Holds stopped-and-started
     × Holds thirty-two-is-written-as-zero
     × Holds equal-rank-takes-nothing

@@ -1,0 +1,154 @@
+use mathlib.Core.Path.{_≡_, refl, sym, ap, _∙_, subst}
+use mathlib.Core.List.{List, [], _∷_}
+use Prim.Native.Nat.{ℕ, _+_, _≤_, _<_}
+use native.Mathlib.Omega.{arith}
+use lib.ListN.{length, set, length-set}
+use Rattle.script.specs.Output.{fieldsText}
+use Rattle.script.specs.Written.{Wrote}
+use Rattle.bench.specs.TurnLaws.{headOf, after-head, shown-refused, after-extra, shown-accepted}
+use borrow.Author.Needs.{needs}
+use Rattle.bench.proofs.show.Statement.{statement}
+use Rattle.bench.proofs.show.Tie as tie
+use Rattle.bench.proofs.show.Reads as reads
+use Rattle.bench.proofs.show.Lts as lts
+use Rattle.bench.proofs.number_of.Reads as number-of-reads
+use Rattle.bench.proofs.put_extra.Reads as put-extra-reads
+use Rattle.script.proofs.put_answer.Reads as put-answer-reads
+
+-- the head was written
+wrote : (c : tie.After-put-answer) → Wrote (set (c .before .before .before .before .before .before .before .args .out .now) (c .before .before .before .before .before .before .before .args .at) (c .before .before .before .before .before .before .before .args .verb)) (c .before .before .before .before .before .before .before .args .at + 1) (fieldsText (headOf (c .before .before .before .before .before .before .before .args .s))) (c .put-answer .last .0) (c .put-answer .result)
+wrote c =
+    let s = c .before .before .before .before .before .before .before in
+    let x = s .args .s .exec .st in
+    subst (λ (n : ℕ). Wrote (set (s .args .out .now) (s .args .at) (s .args .verb)) (s .args .at + 1) (fieldsText (n ∷ x .count ∷ x .running ∷ [])) (c .put-answer .last .0) (c .put-answer .result)) (c .before .before .number-of .ensures) (c .put-answer .ensures)
+
+room-behind : (c : tie.After-put-answer) → c .put-answer .result + 1408 + 1 ≤ length (c .put-answer .last .0)
+room-behind c =
+    let s = c .before .before .before .before .before .before .before in
+    after-head (s .args .s) (s .args .verb) (s .args .words .now) (s .args .out .now) (s .args .at) (s .pre .0) (s .pre .1) (c .put-answer .last .0) (c .put-answer .result) (wrote c)
+
+-- src/lib.rt:62:19
+cast-running : tie.Need-cast-running
+cast-running c = search needs
+
+-- src/lib.rt:63:9
+number-of-requires : tie.Need-number-of-requires
+number-of-requires c κs = search needs
+
+-- src/lib.rt:64:13
+add-a : tie.Need-add-a
+add-a c = search needs
+
+-- src/lib.rt:65:5
+slice-write-out : tie.Need-slice-write-out
+slice-write-out c = search needs
+
+-- src/lib.rt:66:9
+put-answer-requires : tie.Need-put-answer-requires
+put-answer-requires c κs =
+    let s = c .before .before .before .before .before .before in
+    let l = length-set (s .args .out .now) (s .args .at) (s .args .verb) in
+    let p = s .pre .1 in
+    omega arith
+
+-- src/lib.rt:67:26
+enum-known-answer : tie.Need-enum-known-answer
+enum-known-answer c = search needs
+
+-- src/lib.rt:68:9
+enum-told : tie.Need-enum-told
+enum-told c = search needs
+
+-- src/lib.rt:68:9
+slice-write-out-2 : tie.Need-slice-write-out-2
+slice-write-out-2 c =
+    let r = room-behind (c .before .before .before .before) in
+    omega arith
+
+-- src/lib.rt:69:36
+add-t19 : tie.Need-add-t19
+add-t19 c =
+    let r = room-behind (c .before .before .before .before) in
+    let s = c .before .before .before .before .before .before .before .before .before .before .before in
+    let z = wrote (c .before .before .before .before) .size in
+    let l = length-set (s .args .out .now) (s .args .at) (s .args .verb) in
+    let k : c .before .before .before .before .put-answer .result < length (s .args .out .now) = omega arith in
+    search needs
+
+-- src/lib.rt:69:9
+same-length : tie.Need-same-length
+same-length c =
+    let s = c .before .before .before .before .before .before .before .before .before .before .before in
+    let p = c .before .before .before .before .put-answer in
+    shown-refused (s .args .s) (s .args .verb) (s .args .words .now) (s .args .out .now) (s .args .at) (s .pre .0) (s .pre .1) (p .last .0) (p .result) (wrote (c .before .before .before .before)) _ (c .enum-told .given .1) .wrote .size
+
+-- src/lib.rt:69:9
+returns : tie.Need-returns
+returns c =
+    let s = c .before .before .before .before .before .before .before .before .before .before .before in
+    let p = c .before .before .before .before .put-answer in
+    shown-refused (s .args .s) (s .args .verb) (s .args .words .now) (s .args .out .now) (s .args .at) (s .pre .0) (s .pre .1) (p .last .0) (p .result) (wrote (c .before .before .before .before)) _ (c .enum-told .given .1)
+
+-- src/lib.rt:71:9
+put-extra-requires : tie.Need-put-extra-requires
+put-extra-requires c κs =
+    let r = room-behind (c .before .before .before .before .before .before) in
+    (c .before .before .before .before .before .before .before .before .before .before .before .before .before .pre .0, omega arith)
+
+-- src/lib.rt:72:5
+slice-write-out-3 : tie.Need-slice-write-out-3
+slice-write-out-3 c =
+    let s = c .before .before .before .before .before .before .before .before .before .before .before .before .before .before .before .before in
+    let p = c .before .before .before .before .before .before .before .before .before .put-answer in
+    let q = c .before .before .put-extra in
+    after-extra (s .args .s) (s .args .verb) (s .args .words .now) (s .args .out .now) (s .args .at) (s .pre .0) (s .pre .1) (p .last .0) (p .result) (wrote (c .before .before .before .before .before .before .before .before .before)) _ (c .before .before .before .before .before .answer .given .1) (q .last .1 .1 .1 .0) (q .result) (q .ensures)
+
+-- src/lib.rt:73:25
+add-t23 : tie.Need-add-t23
+add-t23 c =
+    let s = c .before .before .before .before .before .before .before .before .before .before .before .before .before .before .before .before in
+    let p = c .before .before .before .before .before .before .before .before .before .put-answer in
+    let q = c .before .before .put-extra in
+    let z = wrote (c .before .before .before .before .before .before .before .before .before) .size in
+    let y = q .ensures .size in
+    let l = length-set (s .args .out .now) (s .args .at) (s .args .verb) in
+    let j : q .result < length (q .last .1 .1 .1 .0) = after-extra (s .args .s) (s .args .verb) (s .args .words .now) (s .args .out .now) (s .args .at) (s .pre .0) (s .pre .1) (p .last .0) (p .result) (wrote (c .before .before .before .before .before .before .before .before .before)) _ (c .before .before .before .before .before .answer .given .1) (q .last .1 .1 .1 .0) (q .result) (q .ensures) in
+    let k : q .result < length (s .args .out .now) = omega arith in
+    search needs
+
+-- src/lib.rt:55:1
+same-length-2 : tie.Need-same-length-2
+same-length-2 c =
+    let s = c .before .before .before .before .before .before .before .before .before .before .before .before .before .before .before .before in
+    let p = c .before .before .before .before .before .before .before .before .before .put-answer in
+    let q = c .before .before .put-extra in
+    shown-accepted (s .args .s) (s .args .verb) (s .args .words .now) (s .args .out .now) (s .args .at) (s .pre .0) (s .pre .1) (p .last .0) (p .result) (wrote (c .before .before .before .before .before .before .before .before .before)) _ (c .before .before .before .before .before .answer .given .1) (q .last .1 .1 .1 .0) (q .result) (q .ensures) .wrote .size
+
+-- src/lib.rt:55:1
+returns-2 : tie.Need-returns-2
+returns-2 c =
+    let s = c .before .before .before .before .before .before .before .before .before .before .before .before .before .before .before .before in
+    let p = c .before .before .before .before .before .before .before .before .before .put-answer in
+    let q = c .before .before .put-extra in
+    shown-accepted (s .args .s) (s .args .verb) (s .args .words .now) (s .args .out .now) (s .args .at) (s .pre .0) (s .pre .1) (p .last .0) (p .result) (wrote (c .before .before .before .before .before .before .before .before .before)) _ (c .before .before .before .before .before .answer .given .1) (q .last .1 .1 .1 .0) (q .result) (q .ensures)
+
+pub show-spec : {M : Type 1} → statement M
+show-spec =
+    tie.close
+    (tie.spec
+    cast-running
+    number-of-requires
+    add-a
+    slice-write-out
+    put-answer-requires
+    enum-known-answer
+    enum-told
+    slice-write-out-2
+    add-t19
+    same-length
+    returns
+    put-extra-requires
+    slice-write-out-3
+    add-t23
+    same-length-2
+    returns-2)

@@ -1,0 +1,4 @@
+pub mod View
+pub mod Post
+pub mod Blocks
+pub mod Words

@@ -1,0 +1,25 @@
+-- The rules' row that a row of the rig shows.
+use mathlib.Core.List.{List}
+use Prim.Native.Nat.{ℕ}
+use lib.ListN.{getD}
+use Rattle.rig.specs.declared.Row.{Row}
+use Rattle.rules.specs.Rig as R
+
+abbrev pub rowOf : Row → R.Row
+rowOf b =
+    record {
+      sender = b .sender;
+      senderSub = b .sendersub;
+      receiver = b .receiver;
+      receiverSub = b .receiversub;
+      words = b .words;
+      period = b .period;
+      phase = b .phase;
+    }
+
+abbrev pub noRow : Row
+noRow = record { sender = 0; sendersub = 0; receiver = 0; receiversub = 0; words = 0; period = 0; phase = 0 }
+
+-- rows in order from 0
+abbrev pub rowsOf : List Row → ℕ → R.Row
+rowsOf rows i = rowOf (getD rows i noRow)

@@ -1,0 +1,80 @@
+use mathlib.Core.Path.{sym, _∙_, ap}
+use mathlib.Core.List.{[]}
+use Rattle.rules.specs.Calls as R
+use Rattle.rules.specs.Acceptance.{somebody-runs}
+use Rattle.exec.specs.Sound.{rigIn, view}
+use Rattle.exec.specs.Call.{bit}
+use Rattle.exec.specs.Meeting.{silent-lent}
+use Rattle.exec.specs.Refusing.{judged-sound, judged-none, judged-meets, unlatched-table}
+use Rattle.exec.specs.Settling.{settles, settling-meets}
+use Rattle.rules.specs.Waiting.{waitOn}
+use Rattle.exec.specs.Signal.{bit-le}
+use Rattle.exec.specs.Waits.{may-wait, flag-ok, unlatched-work}
+use borrow.Author.Needs.{needs}
+use Rattle.exec.proofs.Exec.unlatched.Statement.{statement}
+use Rattle.exec.proofs.Exec.unlatched.Tie as tie
+
+flag-refusal-requires : tie.Need-flag-refusal-requires
+flag-refusal-requires c κs = search needs
+
+refuse-requires : tie.Need-refuse-requires
+refuse-requires c κs = search needs
+
+returns : tie.Need-returns
+returns c =
+    let a = c .before .before .before .args in
+    let j = c .before .before .flag-refusal in
+    judged-meets (a .self) _ (j .result) (j .ensures) (R.unlatched (a .flag) (bit (a .value))) (unlatched-table (rigIn (a .self)) (view (a .self)) (a .flag) (bit (a .value))) (c .before .if1 .taken)
+    (c .refuse .result) (c .refuse .ensures) [] (silent-lent (R.unlatched (a .flag) (bit (a .value))) tt)
+
+bit-of-requires : tie.Need-bit-of-requires
+bit-of-requires c κs = search needs
+
+cast-wait-on : tie.Need-cast-wait-on
+cast-wait-on c = search needs
+
+wait-on-requires : tie.Need-wait-on-requires
+wait-on-requires c κs =
+    let a = c .before .before .before .args in
+    let j = c .before .before .flag-refusal in
+    let z = c .before .if1 .left in
+    let h = judged-sound (a .self) _ (j .result) (j .ensures) z in
+    let n = judged-none (a .self) _ (j .result) (j .ensures) z in
+    (may-wait (a .self) h (somebody-runs (view (a .self)) _ (sym n)), rw (c .bit-of .ensures) (flag-ok (a .self) h (a .flag) (a .value) _ n))
+
+empty-requires : tie.Need-empty-requires
+empty-requires c κs = search needs
+
+settle-requires : tie.Need-settle-requires
+settle-requires c κs =
+    let a = c .before .before .before .before .before .args in
+    let j = c .before .before .before .before .flag-refusal in
+    let z = c .before .before .before .if1 .left in
+    let h = judged-sound (a .self) _ (j .result) (j .ensures) z in
+    let n = judged-none (a .self) _ (j .result) (j .ensures) z in
+    let e = n ∙ unlatched-table (rigIn (a .self)) (view (a .self)) (a .flag) (bit (a .value)) in
+    settles (a .self) h (R.unlatched (a .flag) (bit (a .value))) (bit-le (a .value)) e (record { st = c .before .wait-on .result; queue = c .empty .result }) (unlatched-work (a .self) h (c .before .wait-on .result) (c .empty .result) (c .empty .ensures .0) (a .flag) (bit (a .value)) (c .before .wait-on .ensures .is ∙ ap (waitOn (view (a .self)) (a .flag)) (c .before .before .bit-of .ensures))) (c .before .wait-on .ensures .sound)
+
+returns-2 : tie.Need-returns-2
+returns-2 c =
+    let a = c .before .before .before .before .before .before .args in
+    let j = c .before .before .before .before .before .flag-refusal in
+    let z = c .before .before .before .before .if1 .left in
+    let h = judged-sound (a .self) _ (j .result) (j .ensures) z in
+    let n = judged-none (a .self) _ (j .result) (j .ensures) z in
+    let e = n ∙ unlatched-table (rigIn (a .self)) (view (a .self)) (a .flag) (bit (a .value)) in
+    settling-meets (a .self) h (R.unlatched (a .flag) (bit (a .value))) (bit-le (a .value)) e (record { st = c .before .before .wait-on .result; queue = c .before .empty .result }) (unlatched-work (a .self) h (c .before .before .wait-on .result) (c .before .empty .result) (c .before .empty .ensures .0) (a .flag) (bit (a .value)) (c .before .before .wait-on .ensures .is ∙ ap (waitOn (view (a .self)) (a .flag)) (c .before .before .before .bit-of .ensures))) tt (c .settle .result) (c .settle .ensures)
+
+pub unlatched-spec : {M : Type 1} → statement M
+unlatched-spec =
+    tie.close
+    (tie.spec
+    flag-refusal-requires
+    refuse-requires
+    returns
+    bit-of-requires
+    cast-wait-on
+    wait-on-requires
+    empty-requires
+    settle-requires
+    returns-2)

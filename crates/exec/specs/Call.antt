@@ -1,0 +1,51 @@
+-- WHAT EVERY CALL OWES: refused by 12 exactly where the record is not sound; else what the rules' step gives, and a sound
+-- record.
+use mathlib.Core.Path.{_≡_}
+use mathlib.Core.Logic.{_≢_, _⊎_}
+use mathlib.Core.Bool.{Bool, true, false}
+use mathlib.Core.List.{List}
+use Prim.Native.Nat.{ℕ}
+use Rattle.rules.specs.Calls as R
+use Rattle.exec.specs.Sound.{rigIn, view, Sound}
+use Rattle.exec.specs.declared.Exec.{Exec}
+use Rattle.exec.specs.declared.Report.{Report}
+use Rattle.exec.specs.declared.Step.{Step}
+use Rattle.exec.specs.declared.Answer.{Answer}
+use Rattle.exec.specs.declared.Answer.the-variants.{Accepted, Refused}
+
+-- a value as a number
+abbrev pub bit : Bool → ℕ
+bit true = 1
+bit false = 0
+
+abbrev pub reportOf : Report → R.Report
+reportOf p = record { served = p .served; words = p .words; value = p .value }
+
+-- the paper's number and values for each case of an answer
+abbrev pub answerOf : Answer → R.Answer
+answerOf (Accepted p) = record { code = 0; report = reportOf p }
+answerOf (Refused n) = record { code = n; report = R.nothing }
+
+-- 0 is no refusal's number
+abbrev pub Proper : Answer → Type 0
+Proper (Accepted p) = Unit {0}
+Proper (Refused n) = n ≢ 0
+
+-- the record as it was, and a refusal's number
+abbrev pub refuse : Exec → ℕ → Step
+refuse x n = record { exec = x; answer = Refused n }
+
+-- the rules' step: the state that the record shows, the answer, what the buffer that the call may write holds `after` it;
+-- the rig and its cycles are kept, and the record is sound
+pub record Follows (x : Exec) (k : R.Call) (r : Step) (after : List ℕ) : Type 0 where
+  pub next : view (r .exec) ≡ R.step (rigIn x) (view x) k .next
+  pub answer : answerOf (r .answer) ≡ R.step (rigIn x) (view x) k .answer
+  pub lent : after ≡ R.step (rigIn x) (view x) k .lent
+  pub proper : Proper (r .answer)
+  pub rig : r .exec .rig ≡ x .rig
+  pub cycles : r .exec .cycles ≡ x .cycles
+  pub sound : Sound (r .exec)
+
+-- "For a call, 12 comes first, then the smallest number. A refused call returns the record unchanged and writes nothing"
+pub record Meets (x : Exec) (k : R.Call) (r : Step) (after : List ℕ) : Type 0 where
+  pub is : (Sound x × Follows x k r after) ⊎ ((Sound x → ⊥) × (r ≡ refuse x 12) × (after ≡ R.lent k))

@@ -1,0 +1,236 @@
+-- The soundness check: the tests that the code makes, and that they all hold exactly when the record is sound.
+use mathlib.Core.Path.{_≡_, sym, _∙_, ap, subst}
+use mathlib.Core.Logic.{_≢_, _⊎_, ⊎-elim, _↔_}
+use mathlib.Core.Bool.{Bool, true, cond}
+use mathlib.Core.List.{List, [], _∷_}
+use Prim.Native.Nat.{ℕ, zero, suc, _+_, _<_, _≤_}
+use native.Mathlib.Omega.{arith}
+use lib.Dec.{eqb, leb}
+use lib.ListN.{length, getD}
+use borrow.Author.Tests.{leb-true, le-leb, eqb-true, eqb-false, eq-eqb}
+use Rattle.laws.specs.Cases.{by}
+use Rattle.laws.specs.All.{allOf, allOf-at, allOf-cons, allOf-nil, allOf-skip, allOf-last}
+use Rattle.laws.specs.Members.{In, Distinct}
+use Rattle.laws.specs.Tables.{has-place}
+use Rattle.chains.specs.Held.{at, Held, Sized}
+use Rattle.chains.specs.Held as L
+use Rattle.chains.specs.Read.{chainsOf, sound-chains, read-once, inside, inside-low, inside-high, only-of}
+use Rattle.chains.specs.declared.Links.{Links}
+use Rattle.rings.specs.Order.{risingb, rising-sorted, sorted-rising}
+use Rattle.rig.specs.Rules.{Right}
+use Rattle.rig.specs.declared.Cycle.{Cycle}
+use Rattle.rig.specs.declared.Rig.{Rig}
+use Rattle.rules.specs.State.{timeChain}
+use Rattle.rules.specs.Running.{chosen}
+use Rattle.rules.specs.Calls.{lastCount}
+use Rattle.rules.specs.Ranks.{chosen-runs, runs-chosen}
+use Rattle.rules.specs.Soundness as R
+use Rattle.tests.specs.Tests.{withinB, emptyB, condsB, treeB, waitsB, flagsB}
+use Rattle.tests.specs.Exact.{within-facts, within-back, empty-facts, empty-back, conds-facts, conds-back, tree-facts, tree-back, waits-facts, waits-back, flags-facts, flags-back}
+use Rattle.state.specs.declared.State.{State}
+use Rattle.exec.specs.Sound.{Sound}
+use Rattle.exec.specs.RightRig.{rig-ok}
+use Rattle.exec.specs.declared.Exec.{Exec}
+
+-- the tables have these lengths in every record that a program holds
+pub record Sizes (s : State) : Type 0 where
+  pub state : length (s .state) ≡ 65
+  pub value : length (s .value) ≡ 129
+  pub cond : length (s .cond) ≡ 1040
+  pub wake : length (s .wake) ≡ 65
+
+-- what a rig's numbers name is there in the tables
+pub record Placed (g : Rig) : Type 0 where
+  pub controller : (t : ℕ) → t < 65 → at (g .controller) t < 65
+  pub activation : (t : ℕ) → t < 65 → at (g .activation) t < 129
+
+-- the links hold chains, the time chain in order, all of it above the count
+pub record ChainsSound (s : State) : Type 0 where
+  pub sized : Sized (s .links)
+  pub links : L.Sound (s .links)
+  pub order : risingb (at (s .wake)) (s .count + 1) (chainsOf (s .links) 65) ≡ true
+
+-- who runs by the rules
+abbrev pub runner : Rig → State → ℕ
+runner g s = chosen (at (g .privileged)) (at (g .priority)) (s .state) (s .running)
+
+unfoldable pub tableTests : Rig → State → List Bool
+tableTests g s =
+    leb (s .count) 2147483647 ∷
+    withinB (s .state) (g .tasks) 3 ∷
+    treeB (g .controller) (s .state) ∷
+    withinB (s .value) (g .flags) 1 ∷
+    condsB (g .present) (s .cond) ∷
+    emptyB (s .wake) (g .tasks) ∷
+    flagsB (g .activation) (s .state) (s .value) ∷
+    waitsB (s .state) (s .links .on) ∷
+    leb (s .running) 64 ∷
+    eqb (s .running) (runner g s) ∷
+    []
+
+-- where all tests but the last hold, the last is the answer
+pub last-test : (g : Rig) (s : State) → leb (s .count) 2147483647 ≡ true → withinB (s .state) (g .tasks) 3 ≡ true
+    → treeB (g .controller) (s .state) ≡ true → withinB (s .value) (g .flags) 1 ≡ true → condsB (g .present) (s .cond) ≡ true
+    → emptyB (s .wake) (g .tasks) ≡ true → flagsB (g .activation) (s .state) (s .value) ≡ true
+    → waitsB (s .state) (s .links .on) ≡ true → leb (s .running) 64 ≡ true
+    → (n : ℕ) → n ≡ runner g s → eqb (s .running) n ≡ allOf (tableTests g s)
+unfolding tableTests
+last-test g s a b c d e f h i j n q =
+    ap (eqb (s .running)) q
+    ∙ sym
+    (allOf-skip _ _ a ∙ allOf-skip _ _ b ∙ allOf-skip _ _ c ∙ allOf-skip _ _ d ∙ allOf-skip _ _ e ∙ allOf-skip _ _ f ∙ allOf-skip _ _ h ∙ allOf-skip _ _ i ∙ allOf-skip _ _ j ∙ allOf-last _)
+
+-- ---- the chains that sound links show
+
+module _ (l : Links) (h : Held l (chainsOf l)) where
+  seen-inside : (t c : ℕ) → In t (chainsOf l c) → inside c ≡ true
+  seen-inside t c i = by (inside c) (λ e. e) (λ e. absurd (subst (λ (ys : List ℕ). In t ys) (only-of l c e) i))
+
+  -- who is in a chain names it
+  pub seen : (t c : ℕ) → In t (chainsOf l c) → (t ≤ 64) × (at (l .on) t ≡ c) × (64 < c) × (c < 322)
+  seen t c i =
+      let e = seen-inside t c i in
+      let k = h .own c (inside-low c e) (inside-high c e) t i in
+      (k .1, k .2, inside-low c e, inside-high c e)
+
+  seen-once : (c : ℕ) → Distinct (chainsOf l c)
+  seen-once c =
+      by (inside c) (λ e. read-once l (chainsOf l) h c (inside-low c e) (inside-high c e))
+      (λ e. rw (only-of l c e) tt)
+
+  seen-apart : R.Apart (chainsOf l)
+  seen-apart t c d i j = sym (seen t c i .1) ∙ seen t d j .1
+
+  -- a task names a chain exactly when it is in one
+  pub named : (t : ℕ) → t < 65 → at (l .on) t ≢ 0 → R.Somewhere t (chainsOf l)
+  named t b n = ⊎-elim (λ q. absurd (n (q .0))) (λ q. (at (l .on) t, q .2)) (h .task t (omega arith))
+
+  pub names : (t : ℕ) → R.Somewhere t (chainsOf l) → at (l .on) t ≢ 0
+  names t w = let s = seen t (w .0) (w .1) in λ q. omega (arith, s .1, s .2)
+
+  pub chains-sound : (n : ℕ) (wakes states : List ℕ) → length states ≡ 65
+      → ((t : ℕ) → t < 65 → (getD states t 0 ≡ 2) ↔ (at (l .on) t ≢ 0))
+      → risingb (at wakes) (n + 1) (chainsOf l timeChain) ≡ true
+      → R.Chains n wakes (chainsOf l) states
+  chains-sound n wakes states z w e =
+      let k = rising-sorted (at wakes) (n + 1) (chainsOf l timeChain) e in
+      record {
+        listed =
+            record {
+              there = λ t q. let b = waiting t q in named t b (w t b .0 q);
+              two = λ t s. w t (omega (arith, seen t (s .0) (s .1) .0)) .1 (names t s);
+            };
+        apart = seen-apart;
+        once = seen-once;
+        only = λ t c i. let s = seen t c i in (omega (arith, s .2), omega (arith, s .3));
+        ordered = k .0;
+        ahead = λ t i. omega (arith, k .1 t i);
+      }
+    where
+      waiting : (t : ℕ) → getD states t 0 ≡ 2 → t < 65
+      waiting t q = omega (arith, has-place states t (λ y. omega (arith, q, y)))
+
+  pub waits-agree : (n : ℕ) (wakes states : List ℕ) → R.Chains n wakes (chainsOf l) states
+      → (t : ℕ) → t < 65 → (getD states t 0 ≡ 2) ↔ (at (l .on) t ≢ 0)
+  waits-agree n wakes states c t b = ((λ e. names t (c .listed .there t e)), (λ m. c .listed .two t (named t b m)))
+
+-- ---- the time chain's test
+
+module _ (s : State) (h : L.Sound (s .links)) (b : Bool) (e : (X : ℕ → List ℕ) → Held (s .links) X → b ≡ risingb (at (s .wake)) (s .count + 1) (X 65)) where
+  is : b ≡ risingb (at (s .wake)) (s .count + 1) (chainsOf (s .links) 65)
+  is = e (chainsOf (s .links)) (sound-chains (s .links) h)
+
+  pub order-facts : Sized (s .links) → b ≡ true → ChainsSound s
+  order-facts z q = record { sized = z; links = h; order = sym is ∙ q }
+
+  pub order-back : ChainsSound s → b ≡ true
+  order-back c = is ∙ c .order
+
+-- ---- the tests and what they say
+
+module _ (x : Exec) (z : Sizes (x .st)) (g : Right (x .rig) (x .cycles)) where
+  pub tests-sound : allOf (tableTests (x .rig) (x .st)) ≡ true → ChainsSound (x .st) → Sound x
+  unfolding tableTests lastCount
+  tests-sound e c =
+      let s = x .st in
+      let k = allOf-at (tableTests (x .rig) s) e in
+      let small = within-facts (s .state) (x .rig .tasks) 3 (k 1) in
+      let values = within-facts (s .value) (x .rig .flags) 1 (k 3) in
+      let conds = conds-facts (x .rig .present) (s .cond) (z .cond) (k 4) in
+      record {
+        rig = g;
+        links = c .links;
+        sized = c .sized;
+        state =
+            record {
+              range = leb-true (s .count) 2147483647 (k 0);
+              tasks =
+                  record { sized = z .state; small = small .0; within = small .1; tree = tree-facts (x .rig .controller) (s .state) (z .state) (k 2) };
+              flags = record { sized = z .value; small = values .0; within = values .1 };
+              conds = record { sized = z .cond; small = conds .0; within = conds .1 };
+              wakes = record { sized = z .wake; within = empty-facts (s .wake) (x .rig .tasks) (z .wake) (k 5) };
+              chains =
+                  chains-sound (s .links) (sound-chains (s .links) (c .links)) (s .count) (s .wake) (s .state) (z .state)
+                  (waits-facts (s .state) (s .links .on) (k 7)) (c .order);
+              agree = flags-facts (x .rig .activation) (s .state) (s .value) (g .shaped .activation) (k 6);
+              runs =
+                  subst (λ (n : ℕ). R.Runs (at (x .rig .privileged)) (at (x .rig .priority)) (s .state) n)
+                  (sym (eqb-true (s .running) (runner (x .rig) s) (k 9)))
+                  (chosen-runs (at (x .rig .privileged)) (at (x .rig .priority)) (s .state) (z .state) (s .running));
+            };
+      }
+
+pub running-low : (x : Exec) → Sound x → x .st .running ≤ 64
+running-low x h = go (x .st .running) (h .state .runs .up)
+  where
+    go : (n : ℕ) → (n ≢ 0 → getD (x .st .state) n 0 ≡ 3) → n ≤ 64
+    go zero f = omega arith
+    go (suc n) f =
+        let e = f (λ q. omega arith) in
+        omega (arith, has-place (x .st .state) (suc n) (λ q. omega (arith, e, q)), h .state .tasks .sized)
+
+pub sound-tests : (x : Exec) → Sound x → allOf (tableTests (x .rig) (x .st)) ≡ true
+unfolding tableTests lastCount
+sound-tests x h =
+    let s = x .st in
+    let p = h .state in
+    allOf-cons _ _ (le-leb (s .count) 2147483647 (p .range))
+    (allOf-cons _ _ (within-back (s .state) (x .rig .tasks) 3 (p .tasks .small) (p .tasks .within))
+    (allOf-cons _ _ (tree-back (x .rig .controller) (s .state) (p .tasks .tree))
+    (allOf-cons _ _ (within-back (s .value) (x .rig .flags) 1 (p .flags .small) (p .flags .within))
+    (allOf-cons _ _ (conds-back (x .rig .present) (s .cond) (p .conds .small) (p .conds .within))
+    (allOf-cons _ _ (empty-back (s .wake) (x .rig .tasks) (p .wakes .within))
+    (allOf-cons _ _ (flags-back (x .rig .activation) (s .state) (s .value) (p .agree))
+    (allOf-cons _ _
+    (waits-back (s .state) (s .links .on) (waits-agree (s .links) (sound-chains (s .links) (h .links)) (s .count) (s .wake) (s .state) (p .chains)))
+    (allOf-cons _ _ (le-leb (s .running) 64 (running-low x h))
+    (allOf-cons _ _
+    (eq-eqb (s .running) (runner (x .rig) s)
+    (sym (runs-chosen (at (x .rig .privileged)) (at (x .rig .priority)) (s .state) (p .tasks .sized) (s .running) (p .runs))))
+    allOf-nil)))))))))
+
+pub sound-order : (x : Exec) → Sound x → ChainsSound (x .st)
+sound-order x h =
+    record {
+      sized = h .sized;
+      links = h .links;
+      order =
+          sorted-rising (at (x .st .wake)) (x .st .count + 1) (chainsOf (x .st .links) 65) (h .state .chains .ordered)
+          (λ a i. omega (arith, h .state .chains .ahead a i));
+    }
+
+-- what the tests ask of the rig and of the count
+pub placed : (g : Rig) (cycles : List Cycle) → Right g cycles → Placed g
+placed g cycles h =
+    let ok = rig-ok g cycles h in
+    record {
+      controller = λ t b.
+          by (eqb t 0)
+          (λ e. let z : t ≡ 0 = eqb-true t 0 e in omega (arith, ap (at (g .controller)) z, ok .controller-none))
+          (λ e. omega (arith, ok .controller-low t (eqb-false t 0 e)));
+      activation = λ t b. omega (arith, ok .activation-le t, h .flag-count .1);
+    }
+
+pub count-low : (g : Rig) (s : State) → allOf (tableTests g s) ≡ true → s .count ≤ 2147483647
+unfolding tableTests
+count-low g s e = leb-true (s .count) 2147483647 (allOf-at (tableTests g s) e 0)

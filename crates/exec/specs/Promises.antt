@@ -1,0 +1,77 @@
+-- FOR THE READER: what a call's statement comes to.
+use mathlib.Core.Path.{_≡_, refl, sym, ap}
+use mathlib.Core.Logic.{_⊎_, ⊎-elim, _↔_}
+use mathlib.Core.Bool.{Bool, true, false, cond}
+use mathlib.Core.List.{List, [], _∷_}
+use Prim.Native.Nat.{ℕ, suc, _≤_}
+use native.Mathlib.Omega.{arith}
+use Rattle.rules.specs.Rig as G
+use Rattle.rules.specs.State as S
+use Rattle.rules.specs.Calls as R
+use Rattle.rules.specs.Refusals.{code-is}
+use Rattle.exec.specs.Sound.{rigIn, view, Sound}
+use Rattle.exec.specs.Call.{Meets, answerOf, refuse}
+use Rattle.exec.specs.Unique.{meets-same}
+use Rattle.exec.specs.Meeting.{refused}
+use Rattle.exec.specs.declared.Exec.{Exec}
+use Rattle.exec.specs.declared.Step.{Step}
+use Rattle.exec.specs.declared.Answer.{Answer}
+
+-- no row of a call's table has a number above 10
+abbrev pub Low : List R.Refusal → Type 0
+Low [] = Unit {0}
+Low (x ∷ xs) = (x .number ≤ 10) × Low xs
+
+decide-low : (xs : List R.Refusal) → Low xs → R.decide xs ≤ 10
+unfolding R.decide
+decide-low [] h = omega arith
+decide-low (x ∷ xs) h = go (x .given) (decide-low xs (h .1))
+  where
+    go : (b : Bool) → R.decide xs ≤ 10 → cond b (x .number) (R.decide xs) ≤ 10
+    go true k = h .0
+    go false k = k
+
+low : (r : G.Rig) (s : S.State) (k : R.Call) → Low (R.refusals r s k)
+unfolding R.refusals
+low r s (R.schedule t) = (omega arith, (omega arith, (omega arith, (omega arith, tt))))
+low r s (R.cancel t) = (omega arith, (omega arith, (omega arith, (omega arith, tt))))
+low r s (R.terminate t) = (omega arith, (omega arith, (omega arith, (omega arith, tt))))
+low r s R.finish = (omega arith, tt)
+low r s (R.tick buffer) = (omega arith, (omega arith, tt))
+low r s (R.waitUntil t) = (omega arith, (omega arith, tt))
+low r s (R.waitFor n) = (omega arith, (omega arith, tt))
+low r s (R.latched f v) = (omega arith, (omega arith, (omega arith, tt)))
+low r s (R.unlatched f v) = (omega arith, (omega arith, (omega arith, tt)))
+low r s (R.signal f v) = (omega arith, (omega arith, (omega arith, tt)))
+low r s (R.readFlag f) = (omega arith, (omega arith, (omega arith, tt)))
+low r s (R.readBlock k area buffer) = (omega arith, (omega arith, (omega arith, tt)))
+low r s (R.writeBlock k area buffer) = (omega arith, (omega arith, (omega arith, tt)))
+
+pub refusal-low : (r : G.Rig) (s : S.State) (k : R.Call) → R.refusal r s k ≤ 10
+unfolding R.refusal
+refusal-low r s k = decide-low (R.refusals r s k) (low r s k)
+
+module _ (x : Exec) (k : R.Call) (r : Step) (after : List ℕ) (m : Meets x k r after) where
+  -- 12: "the record handed in is not sound", and for nothing else
+  pub twelve-exactly : (answerOf (r .answer) .code ≡ 12) ↔ (Sound x → ⊥)
+  twelve-exactly = (
+    (λ e. ⊎-elim
+        (λ p. absurd (omega (arith, e, ap (λ (a : R.Answer). a .code) (p .1 .answer), code-is (rigIn x) (view x) k, refusal-low (rigIn x) (view x) k)))
+        (λ p. p .0) (m .is)),
+    (λ n. ⊎-elim (λ p. absurd (n (p .0))) (λ p. ap (λ (s : Step). answerOf (s .answer) .code) (p .1)) (m .is)),
+  )
+
+  -- "A refused call returns the record unchanged and writes nothing"
+  pub refused-unchanged : Sound x → (n : ℕ) → R.refusal (rigIn x) (view x) k ≡ suc n → (r ≡ refuse x (suc n)) × (after ≡ R.lent k)
+  refused-unchanged h n e =
+      meets-same x k r (refuse x (suc n)) after (R.lent k) m
+      (refused x k h (suc n) (sym e) (λ q. omega arith) (refuse x (suc n)) refl (R.lent k) refl)
+
+  -- "every call keeps it so"
+  pub stays-sound : Sound x → Sound (r .exec)
+  stays-sound h = ⊎-elim (λ p. p .1 .sound) (λ p. absurd (p .0 h)) (m .is)
+
+  -- the rig and its cycles are what they were
+  pub rig-kept : (r .exec .rig ≡ x .rig) × (r .exec .cycles ≡ x .cycles)
+  rig-kept =
+      ⊎-elim (λ p. (p .1 .rig, p .1 .cycles)) (λ p. (ap (λ (s : Step). s .exec .rig) (p .1), ap (λ (s : Step). s .exec .cycles) (p .1))) (m .is)

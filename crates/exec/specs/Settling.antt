@@ -1,0 +1,165 @@
+-- What an accepted call has queued is served, and then it is decided who runs: what this asks holds of every call, and what
+-- it gives is what the call owes.
+use mathlib.Core.Path.{_≡_, sym, _∙_, ap, subst}
+use mathlib.Core.Bool.{Bool, true, false, cond}
+use mathlib.Core.List.{List, [], _∷_}
+use Prim.Native.Nat.{ℕ, _+_, _≤_}
+use native.Mathlib.Omega.{arith}
+use lib.Dec.{eqb, leb}
+use lib.ListN.{set}
+use Rattle.chains.specs.Held.{Sized}
+use Rattle.chains.specs.Held as L
+use Rattle.rig.specs.Rules.{Right}
+use Rattle.rig.specs.declared.Cycle.{Cycle}
+use Rattle.rig.specs.declared.Rig.{Rig}
+use Rattle.rules.specs.Rig as G
+use Rattle.rules.specs.State as S
+use Rattle.rules.specs.Conditions.{relax, met}
+use Rattle.rules.specs.Serving.{activate, serve}
+use Rattle.rules.specs.Waiting.{waitOn, waitUntilCount, wakeDue}
+use Rattle.rules.specs.Running.{dispatch}
+use Rattle.rules.specs.Calls as R
+use Rattle.rules.specs.Proper as P
+use Rattle.rules.specs.Queued.{Fine}
+use Rattle.rules.specs.Serve.{load}
+use Rattle.rules.specs.Good.{serve-running}
+use Rattle.rules.specs.Bound.{effect-load}
+use Rattle.rules.specs.Steps.{effect-ready}
+use Rattle.state.specs.View.{rigOf, viewOf, workOf}
+use Rattle.state.specs.Post.{Fits, Servable, Begins, Emptied, Dispatched}
+use Rattle.state.specs.declared.State.{State}
+use Rattle.state.specs.declared.Work.{Work}
+use Rattle.state.specs.declared.Done.{Done}
+use Rattle.exec.specs.Sound.{rigIn, view, Sound}
+use Rattle.exec.specs.Call.{Meets}
+use Rattle.exec.specs.RightRig.{rig-ok}
+use Rattle.exec.specs.Check.{running-low}
+use Rattle.exec.specs.Meeting.{accept, servedOnly, accepted, Silent, silent-output}
+use Rattle.exec.specs.declared.Exec.{Exec}
+use Rattle.exec.specs.declared.Step.{Step}
+
+-- what is asked
+pub record Settles (g : Rig) (w : Work) : Type 0 where
+  pub begins : Begins g (w .st) (w .queue)
+  pub low : w .st .running ≤ 64
+
+-- what is given, with whatever cycles stand beside the rig
+pub record Settled (g : Rig) (w : Work) (d : Done) : Type 0 where
+  pub now : (cycles : List Cycle) → viewOf (d .st) ≡ dispatch (rigOf g cycles) (serve (rigOf g cycles) (workOf (w .st) (w .queue)) .now)
+  pub served : (cycles : List Cycle) → d .served ≡ serve (rigOf g cycles) (workOf (w .st) (w .queue)) .served
+  pub sound : L.Sound (d .st .links)
+  pub sized : Sized (d .st .links)
+
+-- the step that a call hands back with it
+pub record Settling (x : Exec) (w : Work) (r : Step) : Type 0 where
+  pub done : Done
+  pub settled : Settled (x .rig) w done
+  pub is : r ≡ accept x (done .st) (servedOnly (done .served))
+
+-- who runs is not touched by the serving
+pub settled-low : (g : Rig) (w : Work) → Settles g w → (d : Done) → Emptied g (w .st) (w .queue) d → d .st .running ≤ 64
+settled-low g w h d e =
+    omega (arith, ap (λ (y : S.Done). y .now .running) (e .is []), serve-running (rigOf g []) (workOf (w .st) (w .queue)), h .low)
+
+pub settled-is : (g : Rig) (w : Work) (d : Done) → Emptied g (w .st) (w .queue) d → (s : State) → Dispatched (d .st) g s
+    → Settled g w (record { st = s; served = d .served })
+settled-is g w d e s f =
+    record {
+      now = λ cycles. f .is cycles ∙ ap (λ (y : S.Done). dispatch (rigOf g cycles) (y .now)) (e .is cycles);
+      served = λ cycles. ap (λ (y : S.Done). y .served) (e .is cycles);
+      sound = subst L.Sound (sym (f .links)) (e .sound);
+      sized = f .sized;
+    }
+
+-- ---- what is asked holds of every accepted call
+
+pub fits : (g : Rig) (cycles : List Cycle) → Right g cycles → Fits g
+fits g cycles h =
+    record {
+      lines =
+          record {
+            few = h .line-count;
+            task = λ k b. omega (arith, h .lines k b .task .1, h .task-count .1);
+            pos = λ k b. h .lines k b .position;
+          };
+      activation = λ t. omega (arith, rig-ok g cycles h .activation-le t, h .flag-count .1);
+    }
+
+pub servable : (r : G.Rig) → r .flags ≤ 128 → (q : List S.Entry) → Fine r q → Servable q
+servable r b [] h = tt
+servable r b (e ∷ q) h =
+    (record { some = h .0 .0; flag = omega (arith, h .0 .1); value = h .0 .2 }, servable r b q (h .1))
+
+either : (b : Bool) (s t : S.State) → s .running ≤ 64 → t .running ≤ 64 → (cond b s t) .running ≤ 64
+either true s t h k = h
+either false s t h k = k
+
+-- no call makes a task the running one: that is for the dispatch
+pub effect-low : (r : G.Rig) (s : S.State) → s .running ≤ 64 → (k : R.Call) → R.effect r s k .now .running ≤ 64
+unfolding R.effect R.scheduled R.finished R.terminated R.cancelled R.ticked wakeDue waitOn waitUntilCount activate
+effect-low r s h (R.schedule t) = go (met (r .present) (r .desired) t conds)
+  where
+    conds : List ℕ
+    conds = relax (r .present) (r .latched) (r .desired) t (s .conds)
+
+    w : S.Work
+    w = R.quiet (S.withTables s conds (set (s .states) t 1))
+
+    go : (b : Bool) → (cond b (activate r t w) w) .now .running ≤ 64
+    go true = h
+    go false = h
+effect-low r s h (R.cancel t) = h
+effect-low r s h (R.terminate t) = h
+effect-low r s h R.finish = omega arith
+effect-low r s h (R.tick buffer) = h
+effect-low r s h (R.waitUntil n) = either (leb n (s .count)) s (waitUntilCount s n) h (omega arith)
+effect-low r s h (R.waitFor n) = either (leb (s .count + n) (s .count)) s (waitUntilCount s (s .count + n)) h (omega arith)
+effect-low r s h (R.latched f v) = either (eqb (S.valueOf s f) v) s (waitOn s f v) h (omega arith)
+effect-low r s h (R.unlatched f v) = omega arith
+effect-low r s h (R.signal f v) = h
+effect-low r s h (R.readFlag f) = h
+effect-low r s h (R.readBlock k area buffer) = h
+effect-low r s h (R.writeBlock k area buffer) = h
+
+module _ (x : Exec) (h : Sound x) (k : R.Call) (p : P.Proper k) (e : 0 ≡ R.refusal (rigIn x) (view x) k) (w : Work)
+    (q : workOf (w .st) (w .queue) ≡ R.effect (rigIn x) (view x) k) where
+  pub settles : L.Sound (w .st .links) → Settles (x .rig) w
+  settles l =
+      record {
+        begins =
+            record {
+              whole =
+                  record {
+                    fits = fits (x .rig) (x .cycles) (h .rig);
+                    room = subst (λ (y : S.Work). load y ≤ 79) (sym q) (effect-load (rigIn x) (view x) (h .state .tasks .sized) k);
+                    sound = l;
+                  };
+              entries =
+                  subst (λ (y : S.Work). Servable (y .queue)) (sym q)
+                  (servable (rigIn x) (h .rig .flag-count .1) (R.effect (rigIn x) (view x) k .queue)
+                  (effect-ready (rigIn x) (rig-ok (x .rig) (x .cycles) (h .rig)) (view x) (h .state) k p (sym e) .good .fine));
+            };
+        low = subst (λ (y : S.Work). y .now .running ≤ 64) (sym q) (effect-low (rigIn x) (view x) (running-low x h) k);
+      }
+
+  -- ---- what is given is what the call owes
+  module _ (d : Done) (m : Settled (x .rig) w d) where
+    pub next-is : viewOf (d .st) ≡ R.accepted (rigIn x) (view x) k .next
+    unfolding R.accepted
+    next-is = m .now (x .cycles) ∙ ap (λ (y : S.Work). dispatch (rigIn x) (serve (rigIn x) y .now)) q
+
+    pub served-is : d .served ≡ R.accepted (rigIn x) (view x) k .answer .report .served
+    unfolding R.accepted
+    served-is = m .served (x .cycles) ∙ ap (λ (y : S.Work). serve (rigIn x) y .served) q
+
+  -- a call that answers only the number of flags served, and writes nothing
+  pub settling-meets : Silent k → (r : Step) → Settling x w r → Meets x k r []
+  unfolding R.accepted
+  settling-meets z r m =
+      let d = m .done in
+      let n = R.accepted (rigIn x) (view x) k .next in
+      let o = silent-output (rigIn x) n k z in
+      rw (m .is)
+      (accepted x k h p e (d .st) (servedOnly (d .served)) [] (next-is d (m .settled))
+      (λ i. record { served = served-is d (m .settled) i; words = sym o i .words; value = sym o i .value })
+      (λ i. sym o i .lent) (m .settled .sound) (m .settled .sized))

@@ -1,0 +1,104 @@
+-- The tick: what its parts ask, and what it owes.
+use mathlib.Core.Path.{_≡_, sym, _∙_, ap}
+use mathlib.Core.Logic.{inl, inr}
+use mathlib.Core.Bool.{Bool, true, false, cond}
+use mathlib.Core.List.{List, [], _++_}
+use Prim.Native.Nat.{ℕ, suc, _+_, _<_, _≤_}
+use native.Mathlib.Omega.{arith}
+use lib.Dec.{leb, ltb}
+use lib.ListN.{length, length-append}
+use borrow.Author.Tests.{leb-false, ltb-false}
+use Rattle.laws.specs.Members.{In}
+use Rattle.laws.specs.Iter.{iter-ind}
+use Rattle.laws.specs.Put.{put}
+use Rattle.rig.specs.Rules.{Right, periods}
+use Rattle.rig.specs.declared.Cycle.{Cycle}
+use Rattle.rig.specs.declared.Rig.{Rig}
+use Rattle.rules.specs.Rig as G
+use Rattle.rules.specs.State as S
+use Rattle.rules.specs.Bus.{rowDue, rowWords, busOne, busWords}
+use Rattle.rules.specs.Calls as R
+use Rattle.rules.specs.Acceptance.{passed}
+use Rattle.compool.specs.View.{rowsOf}
+use Rattle.compool.specs.Post.{RowsFit}
+use Rattle.compool.specs.Words.{row-short}
+use Rattle.state.specs.View.{workOf}
+use Rattle.state.specs.Post.{TickOk, Ticked}
+use Rattle.state.specs.declared.Work.{Work}
+use Rattle.state.specs.declared.Done.{Done}
+use Rattle.exec.specs.Sound.{rigIn, view, Sound}
+use Rattle.exec.specs.Call.{Meets}
+use Rattle.exec.specs.Meeting.{accept, accepted}
+use Rattle.exec.specs.Refusing.{tickRows}
+use Rattle.exec.specs.Settling.{Settled, next-is, served-is}
+use Rattle.exec.specs.declared.Exec.{Exec}
+
+-- the rows are as the bus words ask
+some-period : (n : ℕ) → In n periods → 0 < n
+some-period n (inl e) = omega (arith, e)
+some-period n (inr (inl e)) = omega (arith, e)
+some-period n (inr (inr (inl e))) = omega (arith, e)
+some-period n (inr (inr (inr (inl e)))) = omega (arith, e)
+some-period n (inr (inr (inr (inr (inl e))))) = omega (arith, e)
+some-period n (inr (inr (inr (inr (inr (inl e)))))) = omega (arith, e)
+some-period n (inr (inr (inr (inr (inr (inr (inl e))))))) = omega (arith, e)
+some-period n (inr (inr (inr (inr (inr (inr (inr e))))))) = absurd e
+
+pub rows-fit : (g : Rig) (cycles : List Cycle) → Right g cycles → RowsFit (g .rows) (g .row)
+rows-fit g cycles h =
+    record {
+      few = h .row-count;
+      row = λ k b.
+          let s = h .rows k b in
+          record {
+            sender = s .sender;
+            senderSub = omega (arith, s .sendersub .1);
+            receiver = s .receiver;
+            receiverSub = omega (arith, s .receiversub .1);
+            period = omega (arith, s .phase);
+          };
+    }
+
+-- at most two words a row
+pub bus-few : (n master : ℕ) (row : ℕ → G.Row) (count : ℕ) → length (busWords n master row count) ≤ n + n
+unfolding busWords
+bus-few n master row count =
+    iter-ind (λ i l. length l ≤ i + i) (busOne master row count) [] (omega arith) (λ i l h. go i l h (rowDue (row i) count)) n
+  where
+    go : (i : ℕ) (l : List ℕ) → length l ≤ i + i → (b : Bool) → length (cond b (l ++ rowWords master (row i)) l) ≤ suc i + suc i
+    go i l h true = omega (arith, length-append l (rowWords master (row i)), row-short master (row i))
+    go i l h false = omega arith
+
+module _ (x : Exec) (h : Sound x) where
+  pub tick-ok : (words : ℕ) → 0 ≡ R.decide (tickRows (view x) words) → TickOk (x .st)
+  tick-ok words e =
+      record {
+        ordered = h .state .chains .ordered;
+        ahead = h .state .chains .ahead;
+        range = leb-false 2147483647 (x .st .count) (passed 8 (leb 2147483647 (x .st .count)) _ (sym e) .0);
+      }
+
+  pub tick-room : (words : ℕ) → 0 ≡ R.decide (tickRows (view x) words) → 128 ≤ words
+  tick-room words e =
+      ltb-false words 128 (passed 9 (ltb words 128) [] (passed 8 (leb 2147483647 (x .st .count)) _ (sym e) .1) .0)
+
+  module _ (w : Work) (m : Ticked (x .st) (x .cycles) w) (buffer : List ℕ) where
+    pub ticked-work : workOf (w .st) (w .queue) ≡ R.effect (rigIn x) (view x) (R.tick buffer)
+    unfolding R.effect
+    ticked-work = m .is (x .rig)
+
+    -- the bus words of the count that the tick made
+    pub tick-meets : 0 ≡ R.refusal (rigIn x) (view x) (R.tick buffer) → (d : Done) → Settled (x .rig) w d → (n : ℕ) (after : List ℕ)
+        → n ≡ length (busWords (x .rig .rows) (x .rig .master) (rowsOf (x .rig .row)) (d .st .count))
+        → after ≡ put buffer 0 (busWords (x .rig .rows) (x .rig .master) (rowsOf (x .rig .row)) (d .st .count))
+        → Meets x (R.tick buffer) (accept x (d .st) (record { served = d .served; words = n; value = 0 })) after
+    unfolding R.accepted R.output R.wordsAt
+    tick-meets e d k n after f g =
+        let q = next-is x h (R.tick buffer) tt e w ticked-work d k in
+        let c : d .st .count ≡ R.accepted (rigIn x) (view x) (R.tick buffer) .next .count = ap (λ (s : S.State). s .count) q in
+        let ws : ℕ → List ℕ = busWords (x .rig .rows) (x .rig .master) (rowsOf (x .rig .row)) in
+        let u : n ≡ length (ws (R.accepted (rigIn x) (view x) (R.tick buffer) .next .count)) = f ∙ ap (λ (a : ℕ). length (ws a)) c in
+        let v = served-is x h (R.tick buffer) tt e w ticked-work d k in
+        accepted x (R.tick buffer) h tt e (d .st) (record { served = d .served; words = n; value = 0 }) after q
+        (λ i. record { served = v i; words = u i; value = 0 })
+        (g ∙ ap (λ (a : ℕ). put buffer 0 (ws a)) c) (k .sound) (k .sized)

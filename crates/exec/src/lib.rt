@@ -1,0 +1,90 @@
+// The executive: the record, and every call on it by value.
+mod answers;
+mod blocks;
+mod flags;
+mod refusals;
+mod signal;
+mod soundness;
+mod tasks;
+mod tick;
+mod waits;
+
+use chains::Links;
+use rig::Cycle;
+use rig::Rig;
+use state::State;
+ghost use mathlib.Core.Path.{_≡_};
+ghost use Rattle.exec.specs.Starting.{noExec, Starts};
+
+// The rig and its cycles stay as they are from the start on; calls change the state. Numbers only: a record may stand in
+// memory of any bytes, and each is answered.
+pub struct Exec {
+    pub rig: Rig,
+    pub cycles: [Cycle; 64],
+    pub st: State,
+}
+
+// What an accepted call tells: the flags it served, the bus words it wrote, the value of the flag it read.
+pub struct Report {
+    pub served: u32,
+    pub words: u32,
+    pub value: u32,
+}
+
+pub enum Answer {
+    Accepted(Report),
+    Refused(u8),
+}
+
+pub struct Step {
+    pub exec: Exec,
+    pub answer: Answer,
+}
+
+// A record of all zeros.
+pub fn none() -> Exec
+    ensures { λ r. ⌜ r ≡ noExec ⌝ }
+{
+    Exec {
+        rig: rig::none(),
+        cycles: rig::no_cycles(),
+        st: State {
+            count: 0,
+            value: [0; 129],
+            cond: [0; 1040],
+            state: [0; 65],
+            wake: [0; 65],
+            links: Links {
+                next: [0; 322],
+                prev: [0; 322],
+                on: [0; 65],
+            },
+            running: 0,
+        },
+    }
+}
+
+// "Start: count 0, flags and conditions off, all tasks uninvoked; then task 1 is scheduled."
+pub fn start(rig: Rig, cycles: [[u8; 15]; 64]) -> Step
+    ensures { λ r. ⌜ Starts rig cycles r ⌝ }
+{
+    let rows = rig::cycles_of(cycles);
+    if !rig::right(rig, rows) {
+        return none().refuse(4);
+    }
+    let w = State::blank().scheduled(rig, 1);
+    let d = answers::settled(w, rig);
+    let st = d.st;
+    Step {
+        exec: Exec {
+            rig,
+            cycles: rows,
+            st,
+        },
+        answer: Answer::Accepted(Report {
+            served: d.served,
+            words: 0,
+            value: 0,
+        }),
+    }
+}

@@ -1,0 +1,75 @@
+// Waits of the running task: until a count, for a number of cycles, for a flag's value.
+use crate::Exec;
+use crate::Step;
+use state::Work;
+use steps::Queue;
+ghost use mathlib.Core.List.{[]};
+ghost use Rattle.rules.specs.Calls.{waitUntil, waitFor, latched, unlatched};
+ghost use Rattle.exec.specs.Call.{bit, Meets};
+
+impl Exec {
+    // "if the waking count is at or below the count, no wait; else waiting"
+    pub fn wait_until(self, count: u32) -> Step
+        ensures { λ r. ⌜ Meets self (waitUntil count) r [] ⌝ }
+    {
+        let n = self.count_refusal(2147483647 < count);
+        if n != 0 {
+            return self.refuse(n);
+        }
+        if count <= self.st.count {
+            return self.unchanged(0);
+        }
+        let st = self.st.wait_until(count);
+        let queue = Queue::empty();
+        self.settle(Work { st, queue })
+    }
+
+    // The waking count is so many cycles from now: the true sum, which may be above every u32.
+    pub fn wait_for(self, cycles: u32) -> Step
+        ensures { λ r. ⌜ Meets self (waitFor cycles) r [] ⌝ }
+    {
+        let count = (self.st.count as u64) + (cycles as u64);
+        let n = self.count_refusal(2147483647 < count);
+        if n != 0 {
+            return self.refuse(n);
+        }
+        if cycles == 0 {
+            return self.unchanged(0);
+        }
+        let st = self.st.wait_until(count as u32);
+        let queue = Queue::empty();
+        self.settle(Work { st, queue })
+    }
+
+    // "no wait if it has it"
+    pub fn latched(self, flag: u32, value: bool) -> Step
+        ensures { λ r. ⌜ Meets self (latched flag (bit value)) r [] ⌝ }
+    {
+        let n = self.flag_refusal(flag);
+        if n != 0 {
+            return self.refuse(n);
+        }
+        let now = self.st;
+        let v = crate::answers::bit_of(value);
+        if crate::refusals::look(&now.value, flag) == v {
+            return self.unchanged(0);
+        }
+        let st = now.wait_on(flag as usize, v as usize);
+        let queue = Queue::empty();
+        self.settle(Work { st, queue })
+    }
+
+    // "always waits for the next service of that flag with that value"
+    pub fn unlatched(self, flag: u32, value: bool) -> Step
+        ensures { λ r. ⌜ Meets self (unlatched flag (bit value)) r [] ⌝ }
+    {
+        let n = self.flag_refusal(flag);
+        if n != 0 {
+            return self.refuse(n);
+        }
+        let v = crate::answers::bit_of(value);
+        let st = self.st.wait_on(flag as usize, v as usize);
+        let queue = Queue::empty();
+        self.settle(Work { st, queue })
+    }
+}

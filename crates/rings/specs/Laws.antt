@@ -1,0 +1,157 @@
+-- The laws that the proofs of the check cite.
+use mathlib.Core.Path.{_≡_, refl, sym, _∙_, ap, subst}
+use mathlib.Core.Logic.{_≢_, _↔_}
+use mathlib.Core.Bool.{Bool, true, false, not, false≢true}
+use mathlib.Core.List.{List, _∷_}
+use Prim.Native.Nat.{ℕ, zero, suc, _+_, _-_, _≤_, _<_}
+use native.Mathlib.Omega.{arith}
+use native.Mathlib.Numerals.{add-one}
+use lib.Dec.{eqb}
+use lib.ListN.{length, getD, set, length-set, replicate}
+use borrow.Author.Tests.{eq-eqb, ne-eqb, lt-leb, le-leb, le-ltb, lt-ltb}
+use Rattle.laws.specs.Cases.{by}
+use Rattle.chains.specs.Ops.{walk}
+use Rattle.chains.specs.Check.{stepb, step-out, ringb, marked, Rings, rings-start, rings-next, taskb, ring-end, ring-out, ring-bad, ring-next, walk-end, walk-next, tasks-accepted, accepted-tasks, equivalence}
+use Rattle.chains.specs.Held.{at, at-set, Sound}
+use Rattle.chains.specs.declared.Links.{Links}
+use Rattle.rings.specs.declared.Ring.{Ring}
+use Rattle.rings.specs.Post.{Walked, AllWalked, TasksTested}
+
+-- step_ok's four ways out
+module _ (P O : ℕ → ℕ) (s u v : ℕ) where
+  pub step-zero : v ≡ 0 → false ≡ stepb P O 64 s u v
+  unfolding stepb
+  step-zero e = rw (le-ltb 0 v (omega arith))
+
+  pub step-high : 64 < v → false ≡ stepb P O 64 s u v
+  unfolding stepb
+  step-high h = rw (lt-ltb 0 v (omega arith), lt-leb v 64 h)
+
+  pub step-tests : v ≢ 0 → v ≤ 64 → P v ≡ u → eqb (O v) s ≡ stepb P O 64 s u v
+  unfolding stepb
+  step-tests n h e = rw (lt-ltb 0 v (omega arith), le-leb v 64 h, eq-eqb (P v) u e)
+
+  pub step-apart : v ≢ 0 → v ≤ 64 → P v ≢ u → false ≡ stepb P O 64 s u v
+  unfolding stepb
+  step-apart n h e = rw (lt-ltb 0 v (omega arith), le-leb v 64 h, ne-eqb (P v) u e)
+
+-- the walk of a ring, at u with v behind it: what is left to test, and to mark
+pub record RingAt (l : Links) (s : ℕ) (seen m : List ℕ) (left u v : ℕ) : Type 0 where
+  pub here : v ≡ at (l .next) u
+  pub room : left ≤ 64
+  pub size : length m ≡ 65
+  pub same : ringb (at (l .next)) (at (l .prev)) (at (l .on)) 64 s 64 s ≡ ringb (at (l .next)) (at (l .prev)) (at (l .on)) 64 s left u
+  pub marks : marked (at seen) (walk (at (l .next)) 64 64 s) ≡ marked (at m) (walk (at (l .next)) 64 left u)
+
+module _ (l : Links) (s : ℕ) (seen : List ℕ) (ls : 64 < s) where
+  N : ℕ → ℕ
+  N = at (l .next)
+
+  P : ℕ → ℕ
+  P = at (l .prev)
+
+  O : ℕ → ℕ
+  O = at (l .on)
+
+  pub ring-start : length seen ≡ 65 → RingAt l s seen seen 64 s (at (l .next) s)
+  ring-start z = record { here = refl; room = omega arith; size = z; same = refl; marks = refl }
+
+  module _ (m : List ℕ) (left u v : ℕ) (k : RingAt l s seen m left u v) where
+    pub ring-turn : v ≢ s → left ≢ 0 → stepb (at (l .prev)) (at (l .on)) 64 s u v ≡ true → RingAt l s seen (set m v 1) (left - 1) v (at (l .next) v)
+    unfolding marked N P O
+    ring-turn n z b =
+        let d = step-out N P O 64 s ls u v b in
+        let e = k .here in
+        let n′ : N u ≢ s = λ q. n (e ∙ q) in
+        let b′ : stepb P O 64 s u (N u) ≡ true = rw e at b in
+        let r : ringb N P O 64 s left u ≡ ringb N P O 64 s (left - 1) v =
+        ring-next N P O 64 s ls left (left - 1) u (omega arith) n′ b′ ∙ ap (ringb N P O 64 s (left - 1)) (sym e) in
+        let w : walk N 64 left u ≡ v ∷ walk N 64 (left - 1) v =
+        walk-next N P O 64 s ls left (left - 1) u (omega arith) (rw e at (d .0)) (rw e at (d .1))
+        ∙ ap (λ (x : ℕ). x ∷ walk N 64 (left - 1) x) (sym e) in
+        record {
+          here = refl;
+          room = omega arith;
+          size = length-set m v 1 ∙ k .size;
+          same = k .same ∙ r;
+          marks =
+              k .marks ∙ ap (marked (at m)) w
+              ∙ ap (λ (f : ℕ → ℕ). marked f (walk N 64 (left - 1) v)) (sym (at-set m v 1 (omega (arith, d .1, k .size))));
+        }
+
+    pub ring-over : v ≡ s → Walked l s seen (record { ok = eqb (at (l .prev) s) u; seen = m })
+    unfolding marked N P O
+    ring-over q =
+        let e : N u ≡ s = sym (k .here) ∙ q in
+        record {
+          ok = sym (k .same ∙ ring-end N P O 64 s ls left u e);
+          marks = λ o. sym (k .marks ∙ ap (marked (at m)) (walk-end N P O 64 s ls left u e));
+        }
+
+    refused : ringb N P O 64 s left u ≡ false → Walked l s seen (record { ok = false; seen = m })
+    unfolding N P O
+    refused e = record { ok = sym (k .same ∙ e); marks = λ o. absurd (false≢true o) }
+
+    pub ring-spent : v ≢ s → left ≡ 0 → Walked l s seen (record { ok = false; seen = m })
+    unfolding N P O
+    ring-spent n z = refused (ap (λ (i : ℕ). ringb N P O 64 s i u) z ∙ ring-out N P O 64 s ls u (λ q. n (k .here ∙ q)))
+
+    pub ring-wrong : v ≢ s → stepb (at (l .prev)) (at (l .on)) 64 s u v ≡ false → Walked l s seen (record { ok = false; seen = m })
+    unfolding N P O
+    ring-wrong n b = refused (ring-bad N P O 64 s ls left u (λ q. n (k .here ∙ q)) (rw (k .here) at b))
+
+-- task_ok's three ways out
+module _ (N P O S : ℕ → ℕ) (t : ℕ) where
+  pub task-idle : O t ≡ 0 → N t ≡ 0 → eqb (P t) 0 ≡ taskb N P O S t
+  unfolding taskb
+  task-idle o n = rw (eq-eqb (O t) 0 o, eq-eqb (N t) 0 n)
+
+  pub task-stray : O t ≡ 0 → N t ≢ 0 → false ≡ taskb N P O S t
+  unfolding taskb
+  task-stray o n = rw (eq-eqb (O t) 0 o, ne-eqb (N t) 0 n)
+
+  pub task-on : O t ≢ 0 → not (eqb (S t) 0) ≡ taskb N P O S t
+  unfolding taskb
+  task-on o = rw (ne-eqb (O t) 0 o)
+
+pub zeros : (n t : ℕ) → _≡_ {A = ℕ} (getD (replicate n 0) t 0) 0
+zeros zero t = refl
+zeros (suc n) zero = refl
+zeros (suc n) (suc t) = zeros n t
+
+module _ (l : Links) where
+  abbrev pub RingsTo : List ℕ → ℕ → Type 0
+  RingsTo seen s = Rings 64 (at (l .next)) (at (l .prev)) (at (l .on)) (at seen) s
+
+  pub all-start : RingsTo (replicate 65 0) 65
+  all-start = rings-start 64 (at (l .next)) (at (l .prev)) (at (l .on)) (at (replicate 65 0)) (zeros 65)
+
+  pub all-next : (seen : List ℕ) (s : ℕ) (r : Ring) → 64 < s → RingsTo seen s → Walked l s seen r → r .ok ≡ true → RingsTo (r .seen) (s + 1)
+  all-next seen s r ls k w o =
+      rw add-one
+      (rings-next 64 (at (l .next)) (at (l .prev)) (at (l .on)) (at seen) (at (r .seen)) s ls k (sym (w .ok) ∙ o) (w .marks o))
+
+  pub all-refused : (seen : List ℕ) (s : ℕ) (r : Ring) → 64 < s → s < 322 → Walked l s seen r → r .ok ≡ false → AllWalked l r
+  all-refused seen s r ls hs w o =
+      record {
+        yes = λ q. absurd (false≢true (sym o ∙ q));
+        no = λ q a. false≢true (sym o ∙ w .ok ∙ a .ring s ls hs);
+      }
+
+  pub all-over : (seen : List ℕ) (s : ℕ) → s ≡ 322 → RingsTo seen s → AllWalked l (record { ok = true; seen = seen })
+  all-over seen s e k =
+      record { yes = λ q. subst (λ (m : ℕ). RingsTo seen m) e k; no = λ q. absurd (false≢true (sym q)) }
+
+  -- the whole check's two ways out
+  pub not-sound : (r : Ring) → AllWalked l r → r .ok ≡ false → (false ≡ true) ↔ Sound l
+  not-sound r w o = ((λ q. absurd (false≢true q)), (λ h. absurd (w .no o (equivalence 64 322 (at (l .next)) (at (l .prev)) (at (l .on)) .1 h))))
+
+  pub tested-sound : (r : Ring) (b : Bool) → AllWalked l r → r .ok ≡ true → TasksTested l (r .seen) b → (b ≡ true) ↔ Sound l
+  tested-sound r b w o k =
+      let q = equivalence 64 322 (at (l .next)) (at (l .prev)) (at (l .on)) in (
+        (λ e. q .0 (tasks-accepted 64 322 (at (l .next)) (at (l .prev)) (at (l .on)) (at (r .seen)) (w .yes o) (k .yes e))),
+        (λ h. by b (λ e. e)
+            (λ e.
+            let n = k .no e in
+            absurd (false≢true (sym (n .2) ∙ accepted-tasks 64 322 (at (l .next)) (at (l .prev)) (at (l .on)) (at (r .seen)) (w .yes o) (q .1 h) (n .0) (n .1))))),
+      )

@@ -1,0 +1,88 @@
+-- DEMAND 3 OF THE CODE, said of the record: what holds of the record y to which any run ms led from the record x of an
+-- accepted start, refused calls among the run; and of any call m that is then made on y. A reader follows the links himself:
+-- `chainAt` goes from a chain's anchor by the next links, `backAt` by the previous ones (crate chains, Read).
+use mathlib.Core.Path.{_≡_}
+use mathlib.Core.Logic.{_≢_, _⊎_, _↔_}
+use mathlib.Core.List.{List, reverse}
+use Prim.Native.Nat.{ℕ, suc, _≤_, _<_}
+use lib.ListN.{length}
+use Rattle.laws.specs.Members.{In, Distinct}
+use Rattle.laws.specs.Ordered.{Ordered}
+use Rattle.chains.specs.Held.{at}
+use Rattle.chains.specs.Read.{chainAt, backAt}
+use Rattle.rules.specs.State.{timeChain, waiting, dispatchable, on}
+use Rattle.rules.specs.Calls.{tick, run, start}
+use Rattle.rules.specs.History.{Earlier, Sooner}
+use Rattle.exec.specs.Sound.{rigIn, view, Sound}
+use Rattle.runs.specs.Runs.{Made, MadeOn, callsOf, codeOf, servedOf, historyIn}
+use Rattle.exec.specs.declared.Exec.{Exec}
+
+-- the state of a task, and its waking count; who waits in a chain, read forward and backward
+abbrev pub stateIn : Exec → ℕ → ℕ
+stateIn y t = at (y .st .state) t
+
+abbrev pub wakeIn : Exec → ℕ → ℕ
+wakeIn y t = at (y .st .wake) t
+
+abbrev pub forwardIn : Exec → ℕ → List ℕ
+forwardIn y c = chainAt (y .st .links) c
+
+abbrev pub backwardIn : Exec → ℕ → List ℕ
+backwardIn y c = backAt (y .st .links) c
+
+-- the chains have the anchors 65 to 321: the time chain's is 65, and `chainOf flag value` is that of flag 1 to 128, value 0 or 1
+abbrev pub Anchor : ℕ → Type 0
+Anchor c = (64 < c) × (c < 322)
+
+-- every record of a run: "A fresh record is sound and every call keeps it so: 12 never follows from an accepted start."
+pub record Stands (x : Exec) (ms : List Made) (y : Exec) : Type 0 where
+  pub sound : Sound y
+  pub never-12 : (m : Made) → MadeOn y m → codeOf (m .step) ≢ 12
+  -- the rig and its cycles are those of the start, and the record shows what the rules give after the same calls
+  pub rig : y .rig ≡ x .rig
+  pub cycles : y .cycles ≡ x .cycles
+  pub shows : view y ≡ run (rigIn x) (start (rigIn x)) (callsOf ms)
+
+-- "each wait chain read forward lists exactly the tasks that wait there, once each, in order, and backward the reverse"
+pub record Chained (x : Exec) (ms : List Made) (y : Exec) : Type 0 where
+  pub forward : (c : ℕ) → Anchor c → forwardIn y c ≡ run (rigIn x) (start (rigIn x)) (callsOf ms) .chains c
+  pub backward : (c : ℕ) → Anchor c → backwardIn y c ≡ reverse (forwardIn y c)
+  pub once : (c : ℕ) → Anchor c → Distinct (forwardIn y c)
+  -- a task waits exactly when it is in a chain, and then in one alone
+  pub waits :
+      (t : ℕ) →
+      (stateIn y t ≡ waiting) ↔ ((c : ℕ) × Anchor c × In t (forwardIn y c) × ((d : ℕ) → Anchor d → In t (forwardIn y d) → d ≡ c))
+  -- it is in the chain in which its last wait began
+  pub lists : (t c : ℕ) → Anchor c → In t (forwardIn y c) ↔ ((stateIn y t ≡ waiting) × (historyIn x ms t .chain ≡ c))
+  -- "Time chain order: waking count, then who began to wait earlier."
+  pub time : Ordered (Sooner (historyIn x ms)) (forwardIn y timeChain)
+  pub counts : (t : ℕ) → In t (forwardIn y timeChain) → wakeIn y t ≡ historyIn x ms t .count
+  pub ahead : (t : ℕ) → In t (forwardIn y timeChain) → y .st .count < wakeIn y t
+  -- "Each flag has a chain for on and one for off, in order of beginning."
+  pub flags : (c : ℕ) → Anchor c → c ≢ timeChain → Ordered (Earlier (historyIn x ms)) (forwardIn y c)
+
+-- "each activation flag is on exactly when its task is active": "Active is 2 or 3."
+abbrev pub Activated : Exec → Type 0
+Activated y =
+    (t : ℕ) →
+    at (y .rig .activation) t ≢ 0 →
+    (at (y .st .value) (at (y .rig .activation) t) ≡ on) ↔ ((stateIn y t ≡ waiting) ⊎ (stateIn y t ≡ dispatchable))
+
+-- "Each call answers with the number of flags it served, which is at most 79."
+abbrev pub Bounded : Exec → Type 0
+Bounded y = (m : Made) → MadeOn y m → servedOf (m .step) ≤ 79
+
+pub record Demand (x : Exec) (ms : List Made) (y : Exec) : Type 0 where
+  pub stands : Stands x ms y
+  pub chained : Chained x ms y
+  pub activated : Activated y
+  pub bounded : Bounded y
+
+-- THE WAKING CLAUSE: task t has begun to wait for the count c, and y is a record after that
+pub record Wakes (t c : ℕ) (y : Exec) : Type 0 where
+  -- at a lower count it is waiting, so not dispatchable
+  pub waits : y .st .count < c → stateIn y t ≡ waiting
+  -- the tick that makes the count c is accepted and leaves it dispatchable
+  pub wakes :
+      (m : Made) (buffer : List ℕ) → MadeOn y m → m .call ≡ tick buffer → 128 ≤ length buffer → suc (y .st .count) ≡ c →
+      (codeOf (m .step) ≡ 0) × (m .step .exec .st .count ≡ c) × (stateIn (m .step .exec) t ≡ dispatchable)

@@ -1,0 +1,310 @@
+-- Runs of the code keep to the rules; demand 3 of the code, and the waking clause.
+use mathlib.Core.Path.{_≡_, refl, sym, _∙_, ap, subst}
+use mathlib.Core.Logic.{_≢_, ⊎-elim, _↔_}
+use mathlib.Core.Bool.{Bool, cond}
+use mathlib.Core.List.{List, [], _∷_, _++_, reverse}
+use Prim.Native.Nat.{ℕ, suc, _+_, _≤_, _<_}
+use native.Mathlib.Omega.{arith}
+use borrow.Author.Tests.{lt-leb}
+use Rattle.laws.specs.Members.{In, Distinct}
+use Rattle.laws.specs.Ordered.{Ordered}
+use Rattle.chains.specs.Read.{chainsOf, chains-at, sound-chains, read-backward}
+use Rattle.rig.specs.Rules.{Right}
+use Rattle.rig.specs.Forms.{cyclesOf}
+use Rattle.rig.specs.declared.Rig.{Rig}
+use Rattle.rules.specs.Rig as G
+use Rattle.rules.specs.RigOk.{RigOk}
+use Rattle.rules.specs.State as S
+use Rattle.rules.specs.State.{timeChain}
+use Rattle.rules.specs.Calls as R
+use Rattle.rules.specs.Calls.{tick, waitUntil, waitFor, refusal}
+use Rattle.rules.specs.Proper.{ProperRun}
+use Rattle.rules.specs.Refusals.{code-is, refused-unchanged}
+use Rattle.rules.specs.Bound.{served-79, start-served}
+use Rattle.rules.specs.Demand.{flag-on, waits-in-one}
+use Rattle.rules.specs.History.{History, untilCount, begins, notedIf, history, never, historyOf, InOrder}
+use Rattle.rules.specs.History as H
+use Rattle.rules.specs.InOrder.{chains-in-order}
+use Rattle.rules.specs.Waking.{Struck, Spared}
+use Rattle.rules.specs.Waking as W
+use Rattle.rules.specs.WakingLaws as WL
+use Rattle.state.specs.View.{rigOf}
+use Rattle.exec.specs.Sound.{rigIn, view, Sound}
+use Rattle.exec.specs.Call.{Follows, Meets, answerOf, refuse}
+use Rattle.exec.specs.Unique.{record-same}
+use Rattle.exec.specs.RightRig.{rig-ok}
+use Rattle.exec.specs.Promises.{twelve-exactly}
+use Rattle.exec.specs.Starting.{Started, noExec}
+use Rattle.runs.specs.Runs.{Made, MadeOn, Ran, callsOf, codeOf, servedOf, AcceptedStart, noting, historyIn, SparedIn}
+use Rattle.runs.specs.Demands.{Anchor, Stands, Chained, Activated, Bounded, Demand, Wakes, forwardIn, stateIn}
+use Rattle.exec.specs.declared.Exec.{Exec}
+use Rattle.exec.specs.declared.Step.{Step}
+
+-- ---- a refused call hands back the very record, and lent words as they were: of any record, sound or not
+
+pub refused-same : (x : Exec) (k : R.Call) (r : Step) (after : List ℕ) → Meets x k r after → codeOf r ≢ 0
+    → (r .exec ≡ x) × (after ≡ R.lent k)
+refused-same x k r after m n =
+    ⊎-elim
+    (λ p.
+    let f = p .1 in
+    let u = refused-unchanged (rigIn x) (view x) k (λ q. n (ap (λ (a : R.Answer). a .code) (f .answer) ∙ q)) in
+    (record-same (r .exec) x (f .sound) (p .0) (f .rig) (f .cycles) (f .next ∙ u .0), f .lent ∙ u .1))
+    (λ p. (ap (λ (s : Step). s .exec) (p .1), p .2))
+    (m .is)
+
+-- ---- a record that shows the state s of the rules' rig r, and is sound
+
+record Shows (r : G.Rig) (s : S.State) (x : Exec) : Type 0 where
+  sound : Sound x
+  rig : rigIn x ≡ r
+  state : view x ≡ s
+
+-- what a call that is made on it gives
+record Gives (r : G.Rig) (s : S.State) (x : Exec) (m : Made) : Type 0 where
+  next : Shows r (R.step r s (m .call) .next) (m .step .exec)
+  rig : m .step .exec .rig ≡ x .rig
+  cycles : m .step .exec .cycles ≡ x .cycles
+  answer : answerOf (m .step .answer) ≡ R.step r s (m .call) .answer
+
+module _ (r : G.Rig) where
+  gives : (s : S.State) (x : Exec) → Shows r s x → (m : Made) → MadeOn x m → Gives r s x m
+  gives s x h m o = ⊎-elim (λ p. go (p .1)) (λ p. absurd (p .0 (h .sound))) (o .meets .is)
+    where
+      go : Follows x (m .call) (m .step) (m .after) → Gives r s x m
+      go f =
+          record {
+            next =
+                record {
+                  sound = f .sound;
+                  rig = (λ i. rigOf (f .rig i) (f .cycles i)) ∙ h .rig;
+                  state = f .next ∙ (λ i. R.step (h .rig i) (h .state i) (m .call) .next);
+                };
+            rig = f .rig;
+            cycles = f .cycles;
+            answer = f .answer ∙ (λ i. R.step (h .rig i) (h .state i) (m .call) .answer);
+          }
+
+  code-same : (s : S.State) (x : Exec) → Shows r s x → (m : Made) → MadeOn x m → codeOf (m .step) ≡ refusal r s (m .call)
+  code-same s x h m o = ap (λ (a : R.Answer). a .code) (gives s x h m o .answer) ∙ code-is r s (m .call)
+
+  ran-shows : (s : S.State) (x : Exec) → Shows r s x → (ms : List Made) (y : Exec) → Ran x ms y → Shows r (R.run r s (callsOf ms)) y
+  unfolding R.run
+  ran-shows s x h [] y e = subst (λ (z : Exec). Shows r s z) e h
+  ran-shows s x h (m ∷ ms) y p = ran-shows (R.step r s (m .call) .next) (m .step .exec) (gives s x h m (p .0) .next) ms y (p .1)
+
+  ran-rig : (s : S.State) (x : Exec) → Shows r s x → (ms : List Made) (y : Exec) → Ran x ms y → (y .rig ≡ x .rig) × (y .cycles ≡ x .cycles)
+  ran-rig s x h [] y e = (ap (λ (z : Exec). z .rig) (sym e), ap (λ (z : Exec). z .cycles) (sym e))
+  ran-rig s x h (m ∷ ms) y p =
+      let g = gives s x h m (p .0) in
+      let k = ran-rig (R.step r s (m .call) .next) (m .step .exec) (g .next) ms y (p .1) in
+      (k .0 ∙ g .rig, k .1 ∙ g .cycles)
+
+  -- the history that is read off the run is that of the rules
+  noting-same : (s : S.State) (x : Exec) → Shows r s x → (ms : List Made) (y : Exec) → Ran x ms y → (n : ℕ) (h : History)
+      → noting x n ms h ≡ history r s n (callsOf ms) h
+  unfolding noting history
+  noting-same s x w [] y e n h = refl
+  noting-same s x w (m ∷ ms) y p n h =
+      (λ i. noting (m .step .exec) (suc n) ms (notedIf n (code-same s x w m (p .0) i) (w .state i) (m .call) h))
+      ∙ noting-same (R.step r s (m .call) .next) (m .step .exec) (gives s x w m (p .0) .next) ms y (p .1) (suc n)
+      (notedIf n (refusal r s (m .call)) s (m .call) h)
+
+  spared-same : (s : S.State) (x : Exec) → Shows r s x → (ms : List Made) (y : Exec) → Ran x ms y → (t : ℕ) → SparedIn x ms t
+      → Spared r s (callsOf ms) t
+  unfolding Spared
+  spared-same s x h [] y e t q = tt
+  spared-same s x h (m ∷ ms) y p t q = (
+    (λ k. q .0 (subst (λ (v : S.State). Struck (rigIn x) v (m .call) t) (sym (h .state)) (subst (λ (g : G.Rig). Struck g s (m .call) t) (sym (h .rig)) k))),
+    spared-same (R.step r s (m .call) .next) (m .step .exec) (gives s x h m (p .0) .next) ms y (p .1) t (q .1),
+  )
+
+ran-proper : (x : Exec) (ms : List Made) (y : Exec) → Ran x ms y → ProperRun (callsOf ms)
+ran-proper x [] y e = tt
+ran-proper x (m ∷ ms) y p = (p .0 .proper, ran-proper (m .step .exec) ms y (p .1))
+
+-- a run is one run and then another: so what is said of a run's last record is said of all its records
+pub ran-split : (x : Exec) (ms ns : List Made) (z : Exec) → Ran x (ms ++ ns) z → (y : Exec) × Ran x ms y × Ran y ns z
+ran-split x [] ns z p = (x, refl, p)
+ran-split x (m ∷ ms) ns z p = let k = ran-split (m .step .exec) ms ns z (p .1) in (k .0, (p .0, k .1), k .2)
+
+-- ---- what a sound record says, one sentence each
+
+module _ (y : Exec) (h : Sound y) where
+  ok : RigOk (rigIn y)
+  ok = rig-ok (y .rig) (y .cycles) (h .rig)
+
+  sound-12 : (m : Made) → MadeOn y m → codeOf (m .step) ≢ 12
+  sound-12 m o e = twelve-exactly y (m .call) (m .step) (m .after) (o .meets) .0 e h
+
+  sound-79 : Bounded y
+  sound-79 m o =
+      let a = gives (rigIn y) (view y) y (record { sound = h; rig = refl; state = refl }) m o .answer in
+      omega (arith, ap (λ (z : R.Answer). z .report .served) a, served-79 (rigIn y) (view y) (h .state .tasks .sized) (m .call))
+
+  sound-activated : Activated y
+  sound-activated t n = flag-on (rigIn y) ok (view y) (h .state) t n
+
+  read : (c : ℕ) → Anchor c → chainsOf (y .st .links) c ≡ forwardIn y c
+  read c a = chains-at (y .st .links) c (a .0) (a .1)
+
+  inside : (t c : ℕ) → In t (chainsOf (y .st .links) c) → Anchor c
+  inside t c i = let o = h .state .chains .only t c i in (o .0, omega (arith, o .1))
+
+  sound-waits : (t : ℕ) → (stateIn y t ≡ 2) ↔ ((c : ℕ) × Anchor c × In t (forwardIn y c) × ((d : ℕ) → Anchor d → In t (forwardIn y d) → d ≡ c))
+  sound-waits t =
+      let w = waits-in-one (rigIn y) ok (view y) (h .state) t in (
+        (λ e.
+            let k = w .0 e in
+            let a = inside t (k .0) (k .1) in
+            (k .0, a, subst (In t) (read (k .0) a) (k .1), (λ d b i. k .2 d (subst (In t) (sym (read d b)) i)))),
+        (λ k. h .state .chains .listed .two t (k .0, subst (In t) (sym (read (k .0) (k .1))) (k .2))),
+      )
+
+-- ---- FROM AN ACCEPTED START
+
+refused-four : (r : Step) → codeOf r ≡ 0 → r ≡ refuse noExec 4 → ⊥
+refused-four r e q = omega (arith, e, ap codeOf q)
+
+module _ (g : Rig) (table : List (List ℕ)) (x : Exec) (s : AcceptedStart g table x) where
+  begun : Right g (cyclesOf table) × Started g (cyclesOf table) (s .begun)
+  begun = ⊎-elim (λ p. p) (λ p. absurd (refused-four (s .begun) (s .accepted) (p .1))) (s .starts .is)
+
+  -- the start's record holds the rig and its cycles
+  pub started-rig : (x .rig ≡ g) × (x .cycles ≡ cyclesOf table)
+  started-rig = (
+    ap (λ (z : Exec). z .rig) (sym (s .gave)) ∙ begun .1 .rig,
+    ap (λ (z : Exec). z .cycles) (sym (s .gave)) ∙ begun .1 .cycles,
+  )
+
+  -- the start serves one flag at most
+  pub started-served : servedOf (s .begun) ≤ 1
+  started-served = omega (arith, ap (λ a. answerOf a .report .served) (begun .1 .answer), start-served (rigOf g (cyclesOf table)))
+
+  shown : Shows (rigIn x) (R.start (rigIn x)) x
+  shown =
+      let e : rigOf g (cyclesOf table) ≡ rigIn x = λ i. rigOf (sym (started-rig .0) i) (sym (started-rig .1) i) in
+      record {
+        sound = subst Sound (s .gave) (begun .1 .sound);
+        rig = refl;
+        state = ap view (sym (s .gave)) ∙ begun .1 .next ∙ ap R.start e;
+      }
+
+  rig-right : RigOk (rigIn x)
+  rig-right = ok x (shown .sound)
+
+  module _ (ms : List Made) (y : Exec) (ran : Ran x ms y) where
+    there : Shows (rigIn x) (R.run (rigIn x) (R.start (rigIn x)) (callsOf ms)) y
+    there = ran-shows (rigIn x) (R.start (rigIn x)) x shown ms y ran
+
+    stands : Stands x ms y
+    stands =
+        let k = ran-rig (rigIn x) (R.start (rigIn x)) x shown ms y ran in
+        record {
+          sound = there .sound;
+          never-12 = sound-12 y (there .sound);
+          rig = k .0;
+          cycles = k .1;
+          shows = there .state;
+        }
+
+    ordered : InOrder (historyIn x ms) (view y)
+    unfolding historyIn historyOf
+    ordered =
+        subst (λ (z : S.State). InOrder (historyIn x ms) z) (sym (there .state))
+        (subst (λ (h : History). InOrder h (R.run (rigIn x) (R.start (rigIn x)) (callsOf ms)))
+        (sym (noting-same (rigIn x) (R.start (rigIn x)) x shown ms y ran 1 never))
+        (chains-in-order (rigIn x) rig-right (callsOf ms) (ran-proper x ms y ran)))
+
+    chained : Chained x ms y
+    chained =
+        let h = there .sound in
+        let l = sound-chains (y .st .links) (h .links) in
+        let time : chainsOf (y .st .links) timeChain ≡ forwardIn y timeChain = read y h timeChain (omega arith, omega arith) in
+        record {
+          forward = λ c a. sym (read y h c a) ∙ ap (λ (z : S.State). z .chains c) (there .state);
+          backward = λ c a. read-backward (y .st .links) (chainsOf (y .st .links)) l c (a .0) (a .1) ∙ ap reverse (read y h c a);
+          once = λ c a. subst Distinct (read y h c a) (h .state .chains .once c);
+          waits = sound-waits y h;
+          lists = λ t c a. subst (λ (z : List ℕ). In t z ↔ ((stateIn y t ≡ 2) × (historyIn x ms t .chain ≡ c))) (read y h c a) (ordered .lists t c);
+          time = subst (Ordered (H.Sooner (historyIn x ms))) time (ordered .time);
+          counts = λ t i. ordered .counts t (subst (In t) (sym time) i);
+          ahead = λ t i. h .state .chains .ahead t (subst (In t) (sym time) i);
+          flags = λ c a n. subst (Ordered (H.Earlier (historyIn x ms))) (read y h c a) (ordered .flags c n);
+        }
+
+    -- DEMAND 3
+    pub demand : Demand x ms y
+    demand =
+        record {
+          stands = stands;
+          chained = chained;
+          activated = sound-activated y (there .sound);
+          bounded = sound-79 y (there .sound);
+        }
+
+  -- the calls fix the record to which a run leads
+  pub ran-same : (ms ns : List Made) (y z : Exec) → Ran x ms y → Ran x ns z → callsOf ms ≡ callsOf ns → y ≡ z
+  ran-same ms ns y z p q e =
+      let a = demand ms y p .stands in
+      let b = demand ns z q .stands in
+      record-same y z (a .sound) (b .sound) (a .rig ∙ sym (b .rig)) (a .cycles ∙ sym (b .cycles))
+      (a .shows ∙ ap (λ (ks : List R.Call). R.run (rigIn x) (R.start (rigIn x)) ks) e ∙ sym (b .shows))
+
+  -- ---- THE WAKING CLAUSE: after the run `before` a call m is accepted by which the running task begins to wait for the
+  -- count c; then whatever calls `between` are made that spare it
+  module _ (before : List Made) (y : Exec) (ran : Ran x before y) (m : Made) (made : MadeOn y m) (taken : codeOf (m .step) ≡ 0)
+      (between : List Made) (z : Exec) (went : Ran (m .step .exec) between z) (spared : SparedIn (m .step .exec) between (y .st .running)) where
+    pub waking : (c : ℕ) → begins (view y) (m .call) ≡ untilCount c → Wakes (y .st .running) c z
+    waking c b =
+        record {
+          waits = λ l. ap (λ (u : S.State). S.stateOf u t) (end .state) ∙ w .waits (subst (λ (u : S.State). u .count < c) (end .state) l);
+          wakes = λ k buffer o e n q.
+              let v = gives r (R.run r (R.step r now (m .call) .next) (callsOf between)) z end k o in
+              let f : R.step r (R.run r (R.step r now (m .call) .next) (callsOf between)) (k .call)
+              ≡ R.step r (R.run r (R.step r now (m .call) .next) (callsOf between)) (tick buffer) = ap (R.step r _) e in
+              let a = w .wakes buffer n (ap (λ (u : S.State). suc (u .count)) (sym (end .state)) ∙ q) in (
+                ap (λ (u : R.Answer). u .code) (v .answer) ∙ ap (λ (u : R.Step). u .answer .code) f ∙ a .0,
+                ap (λ (u : S.State). u .count) (v .next .state) ∙ ap (λ (u : R.Step). u .next .count) f ∙ a .1,
+                ap (λ (u : S.State). S.stateOf u t) (v .next .state) ∙ ap (λ (u : R.Step). S.stateOf (u .next) t) f ∙ a .2,
+              );
+        }
+      where
+        r : G.Rig
+        r = rigIn x
+
+        now : S.State
+        now = R.run r (R.start r) (callsOf before)
+
+        t : ℕ
+        t = y .st .running
+
+        at-y : Shows r now y
+        at-y = there before y ran
+
+        next : Shows r (R.step r now (m .call) .next) (m .step .exec)
+        next = gives r now y at-y m made .next
+
+        end : Shows r (R.run r (R.step r now (m .call) .next) (callsOf between)) z
+        end = ran-shows r (R.step r now (m .call) .next) (m .step .exec) next between z went
+
+        w : W.Wakes r t c (R.step r now (m .call) .next) (callsOf between)
+        w =
+            subst (λ (n : ℕ). W.Wakes r n c (R.step r now (m .call) .next) (callsOf between)) (ap (λ (u : S.State). u .running) (sym (at-y .state)))
+            (WL.waking r rig-right (callsOf before) (callsOf between) (m .call) c (ran-proper x before y ran) (made .proper)
+            (ran-proper (m .step .exec) between z went) (sym (code-same r now y at-y m made) ∙ taken)
+            (ap (λ (u : S.State). begins u (m .call)) (sym (at-y .state)) ∙ b)
+            (subst (λ (n : ℕ). Spared r (R.step r now (m .call) .next) (callsOf between) n) (ap (λ (u : S.State). u .running) (at-y .state))
+            (spared-same r (R.step r now (m .call) .next) (m .step .exec) next between z went t spared)))
+
+    -- the two waits: until a count c above the count, for n cycles
+    pub waking-until : (c : ℕ) → m .call ≡ waitUntil c → y .st .count < c → Wakes (y .st .running) c z
+    unfolding begins
+    waking-until c e l =
+        waking c (ap (begins (view y)) e ∙ ap (λ (b : Bool). cond b H.nothing (untilCount c)) (lt-leb c (y .st .count) l))
+
+    pub waking-for : (n : ℕ) → m .call ≡ waitFor n → 1 ≤ n → Wakes (y .st .running) (y .st .count + n) z
+    unfolding begins
+    waking-for n e l =
+        waking (y .st .count + n)
+        (ap (begins (view y)) e ∙ ap (λ (b : Bool). cond b H.nothing (untilCount (y .st .count + n))) (lt-leb (y .st .count + n) (y .st .count) (omega arith)))

@@ -1,0 +1,40 @@
+use Rattle.state.specs.Effects.{pushed-one, finished-is}
+use native.Mathlib.Omega.{arith}
+use borrow.Author.Needs.{needs}
+use Rattle.state.proofs.State.finished.Statement.{statement}
+use Rattle.state.proofs.State.finished.Tie as tie
+use Rattle.state.proofs.State.finished.Reads as reads
+use Rattle.state.proofs.State.finished.Lts as lts
+use Rattle.steps.proofs.Queue.empty.Reads as empty-reads
+use Rattle.steps.proofs.Queue.push.Reads as push-reads
+
+-- src/lib.rt:134:17
+cast-t : tie.Need-cast-t
+cast-t c = search needs
+
+-- src/lib.rt:135:17
+element-copy-out-f : tie.Need-element-copy-out-f
+element-copy-out-f c = search needs
+
+-- src/lib.rt:136:17
+empty-requires : tie.Need-empty-requires
+empty-requires c κs = search needs
+
+-- src/lib.rt:136:13
+push-requires : tie.Need-push-requires
+push-requires c κs = omega (arith, c .empty .ensures .1)
+
+-- src/lib.rt:137:9
+element-write-self : tie.Need-element-write-self
+element-write-self c = search needs
+
+-- src/lib.rt:130:5
+returns : tie.Need-returns
+returns c =
+    let a = c .before .before .before .args in
+    finished-is (a .t1) (a .t2) (c .push .result) (pushed-one _ _ _ _ (c .before .empty .ensures .0) (c .push .ensures))
+
+pub finished-spec : {M : Type 1} → statement M
+finished-spec =
+    tie.close
+    (tie.spec cast-t element-copy-out-f empty-requires push-requires element-write-self returns)

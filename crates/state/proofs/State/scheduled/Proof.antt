@@ -1,0 +1,77 @@
+use borrow.Author.Tests.{not-true, not-false}
+use mathlib.Core.Path.{sym, _∙_}
+use Rattle.state.specs.Effects.{scheduled-no, scheduled-yes}
+use borrow.Author.Needs.{needs}
+use Rattle.state.proofs.State.scheduled.Statement.{statement}
+use Rattle.state.proofs.State.scheduled.Tie as tie
+use Rattle.state.proofs.State.scheduled.Reads as reads
+use Rattle.state.proofs.State.scheduled.Lts as lts
+use Rattle.steps.proofs.Queue.empty.Reads as empty-reads
+use Rattle.steps.proofs.Queue.push.Reads as push-reads
+use Rattle.steps.proofs.met.Reads as met-reads
+use Rattle.steps.proofs.relax.Reads as relax-reads
+
+-- src/lib.rt:176:13
+empty-requires : tie.Need-empty-requires
+empty-requires c κs = search needs
+
+-- src/lib.rt:177:9
+relax-requires : tie.Need-relax-requires
+relax-requires c κs = search needs
+
+-- src/lib.rt:178:9
+element-write-self : tie.Need-element-write-self
+element-write-self c = search needs
+
+-- src/lib.rt:179:13
+met-requires : tie.Need-met-requires
+met-requires c κs = search needs
+
+-- src/lib.rt:180:13
+returns : tie.Need-returns
+returns c =
+    let a = c .before .before .before .before .before .before .before .before .before .before .before .before .before .before .args in
+    let n = c .before .before .before .before .before .before .before .before .before .before .before .before .before in
+    let x = c .before .before .before .before .before .before .before .relax in
+    scheduled-no (a .t1) (a .t2) (a .t) (x .last .1 .1 .1 .1 .0) (x .ensures) (n .empty .result) (n .empty .ensures .0) (sym (c .before .met .ensures) ∙ not-true _ (c .if1 .taken))
+
+-- src/lib.rt:185:17
+element-copy-out-f : tie.Need-element-copy-out-f
+element-copy-out-f c = search needs
+
+-- src/lib.rt:186:13
+push-requires : tie.Need-push-requires
+push-requires c κs = search needs
+
+-- src/lib.rt:187:9
+element-write-self-2 : tie.Need-element-write-self-2
+element-write-self-2 c = search needs
+
+-- src/lib.rt:188:9
+relax-requires-2 : tie.Need-relax-requires-2
+relax-requires-2 c κs = search needs
+
+-- src/lib.rt:172:5
+returns-2 : tie.Need-returns-2
+returns-2 c =
+    let a = c .before .before .before .before .before .before .before .before .before .before .before .before .before .before .before .before .before .before .before .before .before .before .args in
+    let n = c .before .before .before .before .before .before .before .before .before .before .before .before .before .before .before .before .before .before .before .before .before in
+    let x = c .before .before .before .before .before .before .before .before .before .before .before .before .before .before .before .relax in
+    let y = c .relax2 in
+    scheduled-yes (a .t1) (a .t2) (a .t) (x .last .1 .1 .1 .1 .0) (x .ensures) (n .empty .result) (n .empty .ensures .0) (sym (c .before .before .before .before .before .before .before .before .before .met .ensures) ∙ not-false _ (c .before .before .before .before .before .before .before .before .if1 .left))
+    (c .before .before .before .before .before .before .push .result) (c .before .before .before .before .before .before .push .ensures) (y .last .1 .1 .1 .1 .0) (y .ensures)
+
+pub scheduled-spec : {M : Type 1} → statement M
+scheduled-spec =
+    tie.close
+    (tie.spec
+    empty-requires
+    relax-requires
+    element-write-self
+    met-requires
+    returns
+    element-copy-out-f
+    push-requires
+    element-write-self-2
+    relax-requires-2
+    returns-2)

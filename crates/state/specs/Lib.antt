@@ -1,0 +1,9 @@
+pub mod View
+pub mod Set
+pub mod Post
+pub mod Waking
+pub mod Due
+pub mod Offers
+pub mod Serving
+pub mod Waiting
+pub mod Effects

@@ -1,0 +1,283 @@
+// The state of the executive, and what the calls do to it: each method with its rule as contract.
+use chains::Links;
+use rig::Cycle;
+use rig::Rig;
+use steps::Queue;
+ghost use Prim.Native.Nat.{_+_, _<_, _≤_};
+ghost use Rattle.chains.specs.Held.{Sound};
+ghost use Rattle.state.specs.Post.{Whole, FlagOk, Begins, MayWait, Timed, TickOk, CancelOk, Woken, WokenDue, WaitsOn, WaitsUntil, Dispatched, Offered, Served, Emptied, Finished, Terminated, Cancelled, Scheduled, Ticked, Blank, Fits, Room};
+
+// Tables by number, place 0 unused; a condition at 16 * task + position.
+pub struct State {
+    pub count: u32,
+    pub value: [u8; 129],
+    pub cond: [u8; 1040],
+    pub state: [u8; 65],
+    pub wake: [u32; 65],
+    pub links: Links,
+    pub running: u8,
+}
+
+// A state and what is queued.
+pub struct Work {
+    pub st: State,
+    pub queue: Queue,
+}
+
+// A state and how many flags were served on the way to it.
+pub struct Done {
+    pub st: State,
+    pub served: u32,
+}
+
+impl State {
+    // Nothing has happened yet.
+    pub fn blank() -> State
+        ensures { λ r. ⌜ Blank r ⌝ }
+    {
+        let links = chains::fresh();
+        State {
+            count: 0,
+            value: [0; 129],
+            cond: [0; 1040],
+            state: [0; 65],
+            wake: [0; 65],
+            links: links,
+            running: 0,
+        }
+    }
+
+    // All who wait in the chain of anchor s become dispatchable.
+    pub fn wake_chain(mut self, s: usize) -> State
+        requires { ⌜ Sound (self .links) ⌝ }
+        requires { ⌜ (64 < s) × (s < 322) ⌝ }
+        ensures { λ r. ⌜ Woken self s r ⌝ }
+    {
+        let mut k = self.links;
+        let mut v = k.next[s] as usize;
+        while v != s {
+            k = chains::unlink(k, v);
+            self.state[v] = 3;
+            v = k.next[s] as usize;
+        }
+        self.links = k;
+        self
+    }
+
+    // The tasks due at the count become dispatchable: they leave the time chain from its front.
+    pub fn wake_due(mut self) -> State
+        requires { ⌜ Sound (self .links) ⌝ }
+        requires { ⌜ Timed self ⌝ }
+        ensures { λ r. ⌜ WokenDue self r ⌝ }
+    {
+        let count = self.count;
+        let mut k = self.links;
+        let mut v = k.next[65] as usize;
+        while v != 65 {
+            if count < self.wake[v] {
+                break;
+            }
+            k = chains::unlink(k, v);
+            self.state[v] = 3;
+            v = k.next[65] as usize;
+        }
+        self.links = k;
+        self
+    }
+
+    // The running task waits for a service of flag f with value v.
+    pub fn wait_on(mut self, f: usize, v: usize) -> State
+        requires { ⌜ MayWait self ⌝ }
+        requires { ⌜ FlagOk f v ⌝ }
+        ensures { λ r. ⌜ WaitsOn self f v r ⌝ }
+    {
+        let t = self.running as usize;
+        let l = chains::append(self.links, 64 + 2 * f + v, t);
+        self.state[t] = 2;
+        self.links = l;
+        self.running = 0;
+        self
+    }
+
+    // The running task waits until a count.
+    pub fn wait_until(mut self, count: u32) -> State
+        requires { ⌜ MayWait self ⌝ }
+        ensures { λ r. ⌜ WaitsUntil self count r ⌝ }
+    {
+        let t = self.running as usize;
+        self.wake[t] = count;
+        let w = self.wake;
+        let l = chains::place(self.links, w, 65, t);
+        self.state[t] = 2;
+        self.links = l;
+        self.running = 0;
+        self
+    }
+
+    // Who runs.
+    pub fn dispatched(mut self, rig: Rig) -> State
+        requires { ⌜ self .running ≤ 64 ⌝ }
+        ensures { λ r. ⌜ Dispatched self rig r ⌝ }
+    {
+        let n = self.running as usize;
+        let c = steps::chosen(&rig.privileged, &rig.priority, &self.state, n);
+        self.running = c as u8;
+        self
+    }
+
+    // The running task is inactive, its activation flag queued off.
+    pub fn finished(mut self, rig: Rig) -> Work
+        requires { ⌜ self .running ≤ 64 ⌝ }
+        ensures { λ r. ⌜ Finished self rig r ⌝ }
+    {
+        let t = self.running as usize;
+        let f = rig.activation[t];
+        let q = Queue::empty().push(f, 0);
+        self.state[t] = 1;
+        self.running = 0;
+        Work { st: self, queue: q }
+    }
+
+    // The same for task t, taken out of any chain.
+    pub fn terminated(mut self, rig: Rig, t: usize) -> Work
+        requires { ⌜ Sound (self .links) ⌝ }
+        requires { ⌜ (0 < t) × (t ≤ 64) ⌝ }
+        ensures { λ r. ⌜ Terminated self rig t r ⌝ }
+    {
+        let f = rig.activation[t];
+        let q = Queue::empty().push(f, 0);
+        let l = steps::leave(self.links, t);
+        self.state[t] = 1;
+        self.links = l;
+        Work { st: self, queue: q }
+    }
+
+    // Task t and all its descendants become uninvoked and leave their chains; the activation flags of those that were
+    // active are queued off.
+    pub fn cancelled(mut self, rig: Rig, t: usize) -> Work
+        requires { ⌜ Sound (self .links) ⌝ }
+        requires { ⌜ CancelOk rig ⌝ }
+        ensures { λ r. ⌜ Cancelled self rig t r ⌝ }
+    {
+        let marks = steps::family(&rig.controller, t);
+        let q = Queue::of_offs(&rig.activation, &marks, &self.state);
+        steps::uninvoke(&marks, &mut self.state);
+        let l = steps::desert(self.links, marks);
+        self.links = l;
+        Work { st: self, queue: q }
+    }
+
+    // Task t is inactive with its unlatched conditions undesired, and activated if all its conditions are as desired.
+    pub fn scheduled(mut self, rig: Rig, t: usize) -> Work
+        requires { ⌜ t ≤ 64 ⌝ }
+        ensures { λ r. ⌜ Scheduled self rig t r ⌝ }
+    {
+        let none = Queue::empty();
+        steps::relax(&rig.present, &rig.latched, &rig.desired, t, &mut self.cond);
+        self.state[t] = 1;
+        if !steps::met(&rig.present, &rig.desired, t, &self.cond) {
+            return Work {
+                st: self,
+                queue: none,
+            };
+        }
+        let f = rig.activation[t];
+        let q = none.push(f, 1);
+        self.state[t] = 3;
+        steps::relax(&rig.present, &rig.latched, &rig.desired, t, &mut self.cond);
+        Work { st: self, queue: q }
+    }
+
+    // The count rises by one, the tasks due at it become dispatchable, and the cycle's list is queued.
+    pub fn ticked(mut self, cycles: [Cycle; 64]) -> Work
+        requires { ⌜ Sound (self .links) ⌝ }
+        requires { ⌜ TickOk self ⌝ }
+        ensures { λ r. ⌜ Ticked self cycles r ⌝ }
+    {
+        let count = self.count + 1;
+        self.count = count;
+        let i = (count % 64) as usize;
+        let cycle = cycles[i];
+        let q = Queue::of_cycle(cycle);
+        let s = self.wake_due();
+        Work { st: s, queue: q }
+    }
+}
+
+// Tasks 1 to 64, by rising number: each inactive one that is ready for flag f is activated.
+pub fn offers(w: Work, rig: Rig, f: u8) -> Work
+    requires { ⌜ Fits rig × Room w ⌝ }
+    ensures { λ r. ⌜ Offered w rig f r ⌝ }
+{
+    let mut s = w.st;
+    let mut q = w.queue;
+    let n = rig.alines as usize;
+    let mut i: usize = 0;
+    while i < 64 {
+        let t = i + 1;
+        let a = s.state[t];
+        if steps::ready(
+            &rig.present,
+            &rig.desired,
+            &rig.atask,
+            &rig.aflag,
+            n,
+            t,
+            f,
+            &s.cond,
+            a,
+        ) {
+            s.state[t] = 3;
+            steps::relax(&rig.present, &rig.latched, &rig.desired, t, &mut s.cond);
+            let g = rig.activation[t];
+            q = q.push(g, 1);
+        }
+        i = i + 1;
+    }
+    Work { st: s, queue: q }
+}
+
+// One entry is served: the flag takes the value, and so do its conditions; who waits for it is woken; tasks are activated.
+pub fn serve_flag(st: State, queue: Queue, rig: Rig, f: u8, v: u8) -> Work
+    requires { ⌜ Whole rig st queue × FlagOk f v ⌝ }
+    ensures { λ r. ⌜ Served st queue rig f v r ⌝ }
+{
+    let mut s = st;
+    let n = rig.alines as usize;
+    let i = f as usize;
+    s.value[i] = v;
+    steps::drive(&rig.atask, &rig.apos, &rig.aflag, n, f, v, &mut s.cond);
+    let c = 64 + 2 * i + (v as usize);
+    let s2 = s.wake_chain(c);
+    offers(
+        Work {
+            st: s2,
+            queue: queue,
+        },
+        rig,
+        f,
+    )
+}
+
+// The last queued is taken off and served, until the queue is empty.
+pub fn serve(st: State, queue: Queue, rig: Rig) -> Done
+    requires { ⌜ Begins rig st queue ⌝ }
+    ensures { λ r. ⌜ Emptied rig st queue r ⌝ }
+{
+    let mut s = st;
+    let mut q = queue;
+    let mut k: u32 = 0;
+    while q.n != 0 {
+        let j = q.n - 1;
+        let f = q.flag[j];
+        let v = q.value[j];
+        q.n = j;
+        let x = serve_flag(s, q, rig, f, v);
+        let s2 = x.st;
+        let q2 = x.queue;
+        s = s2;
+        q = q2;
+        k = k + 1;
+    }
+    Done { st: s, served: k }
+}

@@ -1,0 +1,167 @@
+// The loops of the soundness check: each over single tables, with the test that it computes as its contract.
+ghost use mathlib.Core.Path.{_≡_};
+ghost use mathlib.Core.Bool.{not, cond, _||_};
+ghost use Prim.Native.Nat.{ℕ, _<_};
+ghost use lib.Dec.{eqb, leb};
+ghost use lib.ListN.{getD};
+ghost use Rattle.rules.specs.State.{active};
+ghost use Rattle.rules.specs.Calls.{noSuch};
+ghost use Rattle.tests.specs.Tests.{withinB, emptyB, condsB, treeB, waitsB, flagsB};
+
+// Whether n is none of the numbers 1 to many.
+pub fn no_such(many: usize, n: usize) -> bool
+    ensures { λ r. ⌜ r ≡ noSuch many n ⌝ }
+{
+    if n == 0 {
+        return true;
+    }
+    many < n
+}
+
+fn within_ok(entry: u8, many: usize, top: u8, i: usize) -> bool
+    ensures { λ r. ⌜ r ≡ leb entry (cond (noSuch many i) 0 top) ⌝ }
+{
+    if no_such(many, i) {
+        return entry == 0;
+    }
+    entry <= top
+}
+
+// The entries of 1 to many are at most top, the others 0.
+pub fn within(table: &[u8], many: usize, top: u8) -> bool
+    ensures { λ r. ⌜ r ≡ withinB (now (table .entry)) many top ⌝ }
+{
+    let mut i: usize = 0;
+    while i < table.len() {
+        if !within_ok(table[i], many, top, i) {
+            return false;
+        }
+        i = i + 1;
+    }
+    true
+}
+
+fn empty_ok(entry: u32, many: usize, i: usize) -> bool
+    ensures { λ r. ⌜ r ≡ (not (noSuch many i) || eqb entry 0) ⌝ }
+{
+    if no_such(many, i) {
+        return entry == 0;
+    }
+    true
+}
+
+// The entries of other numbers than 1 to many are 0.
+pub fn empty(table: &[u32; 65], many: usize) -> bool
+    ensures { λ r. ⌜ r ≡ emptyB (now (table .entry)) many ⌝ }
+{
+    let mut i: usize = 0;
+    while i < 65 {
+        if !empty_ok(table[i], many, i) {
+            return false;
+        }
+        i = i + 1;
+    }
+    true
+}
+
+fn cond_ok(present: u8, value: u8) -> bool
+    ensures { λ r. ⌜ r ≡ leb value (cond (eqb present 1) 1 0) ⌝ }
+{
+    if present == 1 {
+        return value <= 1;
+    }
+    value == 0
+}
+
+// A condition has the value 0 or 1, and one that is not there 0.
+pub fn conds<'a>(present: &'a [u8; 1040], conds: &'a [u8; 1040]) -> bool
+    ensures { λ r. ⌜ r ≡ condsB (now (present .entry)) (now (conds .entry)) ⌝ }
+{
+    let mut i: usize = 0;
+    while i < 1040 {
+        if !cond_ok(present[i], conds[i]) {
+            return false;
+        }
+        i = i + 1;
+    }
+    true
+}
+
+fn tree_ok(t: usize, state: u8, above: u8) -> bool
+    ensures { λ r. ⌜ r ≡ (eqb t 1 || (eqb state 0 || not (eqb above 0))) ⌝ }
+{
+    if t == 1 {
+        return true;
+    }
+    if state == 0 {
+        return true;
+    }
+    above != 0
+}
+
+// Each invoked task but task 1 has an invoked controller.
+pub fn tree<'a>(controller: &'a [u8; 65], states: &'a [u8; 65]) -> bool
+    requires { ⌜ ((t : ℕ) → t < 65 → getD (now controller) t 0 < 65) ⌝ }
+    ensures { λ r. ⌜ r ≡ treeB (now (controller .entry)) (now (states .entry)) ⌝ }
+{
+    let mut t: usize = 0;
+    while t < 65 {
+        let c = controller[t] as usize;
+        if !tree_ok(t, states[t], states[c]) {
+            return false;
+        }
+        t = t + 1;
+    }
+    true
+}
+
+fn wait_ok(state: u8, on: u16) -> bool
+    ensures { λ r. ⌜ r ≡ cond (eqb state 2) (not (eqb on 0)) (eqb on 0) ⌝ }
+{
+    if state == 2 { on != 0 } else { on == 0 }
+}
+
+// Who is waiting is in a chain, and no other is.
+pub fn waits<'a>(states: &'a [u8; 65], on: &'a [u16; 65]) -> bool
+    ensures { λ r. ⌜ r ≡ waitsB (now (states .entry)) (now (on .entry)) ⌝ }
+{
+    let mut t: usize = 0;
+    while t < 65 {
+        if !wait_ok(states[t], on[t]) {
+            return false;
+        }
+        t = t + 1;
+    }
+    true
+}
+
+fn active_of(state: u8) -> u8
+    ensures { λ r. ⌜ r ≡ active state ⌝ }
+{
+    if state < 2 { 0 } else { 1 }
+}
+
+fn flag_ok(activation: u8, value: u8, state: u8) -> bool
+    ensures { λ r. ⌜ r ≡ (eqb activation 0 || eqb value (active state)) ⌝ }
+{
+    if activation == 0 {
+        return true;
+    }
+    value == active_of(state)
+}
+
+// An activation flag is on exactly when its task is active.
+pub fn flags<'a>(activation: &'a [u8; 65], states: &'a [u8; 65], values: &'a [u8; 129]) -> bool
+    requires { ⌜ ((t : ℕ) → t < 65 → getD (now activation) t 0 < 129) ⌝ }
+    ensures { λ r. ⌜ r ≡ flagsB (now (activation .entry)) (now (states .entry)) (now (values .entry)) ⌝ }
+{
+    let mut t: usize = 0;
+    while t < 65 {
+        let f = activation[t] as usize;
+        if !flag_ok(activation[t], values[f], states[t]) {
+            return false;
+        }
+        t = t + 1;
+    }
+    true
+}
