@@ -12,7 +12,7 @@ use lib.ListN.{length, getD, set, replicate, length-set, length-replicate}
 use borrow.Author.Tests.{eqb-true, eqb-false, eq-eqb, ne-eqb, le-leb, lt-leb, leb-true, ltb-true, ltb-false, lt-ltb, le-ltb}
 use lib.Seq.{getD-set-same, getD-set-other}
 use Rattle.laws.specs.Cases.{by}
-use Rattle.laws.specs.All.{all, all-all, all-not, and-left, and-right}
+use Rattle.laws.specs.All.{all, all-all, all-not, all-same, and-left, and-right}
 use Rattle.laws.specs.Tables.{getD-set}
 use Rattle.laws.specs.First.{firstFalse}
 use Rattle.rig.specs.Forms.{noRig}
@@ -26,15 +26,10 @@ use Rattle.rigrows.specs.RoundTrip.{written, some-line}
 use Rattle.rigbuild.specs.declared.Marks.{Marks}
 use Rattle.rigbuild.specs.Built.{Built, built, numbers, zeros, noMarks, noTable, nothing, underOne, aboveAfter, withAbove, withCounts, byKind, store, build}
 use Rattle.rigbuild.specs.Cases.{Cases, by-cases}
+use Rattle.rigbuild.specs.Leaves.{zero-at}
 use Rattle.rigbuild.specs.MarkTests.{markedOne, markTests}
 use Rattle.rigbuild.specs.Read.{tasksOf, flagsOf, lineUnder, linesUnder, noneAbove, howMany, hasTask, hasTaskOne, flagsIn, fewFlagsOne, lineTests, judged, wholeFile, byLines}
 use Rattle.rigbuild.specs.Laws.{by-whole}
-
--- two tests that agree below n
-pub all-same : (n : ℕ) (p q : ℕ → Bool) → ((i : ℕ) → i < n → p i ≡ q i) → all n p ≡ all n q
-unfolding all
-all-same zero p q h = refl
-all-same (suc n) p q h = rw (all-same n p q (λ i l. h i (omega arith)), h n (omega arith))
 
 -- a number of a faultless line is at most the greatest of its size
 pub number-most : (p : ℕ) (r : Line) → judge p r ≡ 0 → (i k : ℕ) → r .kind ≡ k → i < countOf k → getD (r .nums) i 0 ≤ highOf k i
@@ -473,13 +468,8 @@ build-crowded (r ∷ rs) p b w e i =
 
 -- ---- all five
 
-zero-at : (m i : ℕ) → getD (zeros m) i 0 ≡ 0
-zero-at zero i = refl
-zero-at (suc m) zero = refl
-zero-at (suc m) (suc i) = zero-at m i
-
 -- what stands after the RIG line
-abbrev begun : (ℕ → ℕ) → Built
+abbrev pub begun : (ℕ → ℕ) → Built
 begun v = built (withCounts noRig v) noTable noMarks
 
 rig-under : (tasks flags : ℕ) (v : ℕ → ℕ) → all (countOf 1) (underOne tasks flags 1 v) ≡ true

@@ -27,6 +27,7 @@ use Rattle.rigrows.specs.Judged.{judged-one, judged-two, judged-three, sound-ju
 use Rattle.rigrows.specs.Turns.{said, fault-line, lines-line, lines-end, end-clean, end-empty, end-open, rest-turn, decimals-turn, decimals-bad, put-turn, put-none, put-at, fits-turn, fits-bad, fits-end, timed-same, rank-same}
 use Rattle.rigbuild.specs.Built.{Built, nothing, numbers, zeros, store, build}
 use Rattle.rigbuild.specs.Laws.{store-same}
+use Rattle.rigbuild.specs.Leaves.{zero-at}
 
 -- between lines: what is left has the fault that the whole has, and builds what the whole builds
 pub record InLines (s : List ℕ) (n : ℕ) (b : Built) (prev line at : ℕ) : Type 0 where
@@ -102,11 +103,6 @@ module _ (s : List ℕ) (n : ℕ) (b : Built) (prev line at e : ℕ) (w : InLine
   pub leave-built : b ≡ build nothing (linesOf s)
   unfolding build
   leave-built = sym (ap (build b) (lines-end s n at e (omega arith) we h)) ∙ w .made
-
-zero-at : (m i : ℕ) → getD (zeros m) i 0 ≡ 0
-zero-at zero i = refl
-zero-at (suc m) zero = refl
-zero-at (suc m) (suc i) = zero-at m i
 
 small-set : (v : List ℕ) (f x : ℕ) → f < length v → x ≤ cap → ((i : ℕ) → getD v i 0 ≤ cap) → (i : ℕ) → getD (set v f x) i 0 ≤ cap
 small-set v f x h g w i =

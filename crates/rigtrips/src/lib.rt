@@ -1,0 +1,1 @@
+// Round trips of rig files: laws alone, no code.
