@@ -3,6 +3,7 @@ ghost use mathlib.Core.Path.{_≡_};
 ghost use Prim.Native.Nat.{_≤_, _<_};
 ghost use Rattle.chains.specs.Held.{at, Sound, Leaves, Joins, Inserts, Places, Puts, Empty};
 
+#[repr(C)]
 pub struct Links {
     pub next: [u16; 322],
     pub prev: [u16; 322],

@@ -18,6 +18,7 @@ ghost use Rattle.exec.specs.Starting.{noExec, Starts};
 
 // The rig and its cycles stay as they are from the start on; calls change the state. Numbers only: a record may stand in
 // memory of any bytes, and each is answered.
+#[repr(C)]
 pub struct Exec {
     pub rig: Rig,
     pub cycles: [Cycle; 64],

@@ -10,6 +10,7 @@ ghost use Rattle.rig.specs.Tests.{listedB, rowTests, rowsB, cyclesRiseB,
 ghost use Rattle.rig.specs.Forms.{cyclesOf, tableOf, noRig, noCycles};
 
 // A B line: sender and receiver with their sub-addresses, words, period and phase.
+#[repr(C)]
 pub struct Row {
     pub sender: u8,
     pub sendersub: u8,
@@ -21,12 +22,14 @@ pub struct Row {
 }
 
 // The flags of one minor cycle in file order, and 0 behind the last.
+#[repr(C)]
 pub struct Cycle {
     pub flags: [u8; 15],
 }
 
 // Tasks and flags stand at their number, place 0 unused; a condition at 16 * task + position, present 1 where it has a
 // C line; A lines and rows in file order. The cycles stand beside the rig.
+#[repr(C)]
 pub struct Rig {
     pub tasks: u8,
     pub flags: u8,

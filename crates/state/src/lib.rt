@@ -8,6 +8,7 @@ ghost use Rattle.chains.specs.Held.{Sound};
 ghost use Rattle.state.specs.Post.{Whole, FlagOk, Begins, MayWait, Timed, TickOk, CancelOk, Woken, WokenDue, WaitsOn, WaitsUntil, Dispatched, Offered, Served, Emptied, Finished, Terminated, Cancelled, Scheduled, Ticked, Blank, Fits, Room};
 
 // Tables by number, place 0 unused; a condition at 16 * task + position.
+#[repr(C)]
 pub struct State {
     pub count: u32,
     pub value: [u8; 129],
