@@ -2,14 +2,16 @@
  * The random comparison: another runner against the second program, output
  * byte for byte.
  *
- *   compare [--entries COMMAND] [--words COMMAND] [--keep DIR] [--most N] COMMAND [SEED [COUNT]]
+ *   compare [--also COMMAND] [--entries COMMAND] [--words COMMAND] [--keep DIR] [--most N] COMMAND [SEED [COUNT]]
  *
  * COMMAND is the other runner; it is split at spaces and run once for each
  * input, with the input as standard input.  The right output is made in this
- * process.  --entries names a program that reads the lines of entries.h (one
- * twentieth of COUNT inputs more), --words one that prints what wordlist.h
- * says.  Without --entries the second program's own block and tick entries
- * are run in this process alone, to be counted.
+ * process.  --also names one more runner, for the same inputs.  --entries
+ * names a program that reads the lines of entries.h (one twentieth of COUNT
+ * inputs more), --words one that prints what wordlist.h says.  Without
+ * --entries the second program's own block and tick entries are run in this
+ * process alone, to be counted.  Where COMMAND is - no runner is compared,
+ * and only the lines of entries.h must be hit often enough.
  *
  * A failing input is kept in DIR (the present one without --keep) beside the
  * output it must have and the output it got; after N differences (5 without
@@ -90,6 +92,11 @@ static command split(char *line)
     for (char *word = strtok(line, " "); word != NULL && n < WORDS_MAX; word = strtok(NULL, " "))
         c.word[n++] = word;
     return c;
+}
+
+static bool is_given(const command *c)
+{
+    return c->word[0] != NULL;
 }
 
 static void become(const command *c, const char *input, const char *output)
@@ -185,32 +192,36 @@ static void compare_one(comparison *k, const command *c, const char *name, const
 
 /* ---- The parts of a comparison ---- */
 
-static void compare_inputs(comparison *k, const command *c, uint64_t count, tally *t)
+/* A kind of generated inputs: how one is made, what it is called, and the programs that must print the same for it. */
+typedef struct {
+    void (*make)(uint64_t seed, uint64_t index, text *out);
+    const char *(*kind_name)(uint64_t index);
+    const char *label;
+    bool entries;
+    const command *other[2];
+} input_kind;
+
+static const char *entries_name(uint64_t index)
 {
-    static text input, right;
-    for (uint64_t i = 0; i < count && k->differences < k->most; i++) {
-        char name[64];
-        text_clear(&input);
-        text_clear(&right);
-        gen_input(k->seed, i, &input);
-        tally_run(t, &input, false, &right);
-        snprintf(name, sizeof name, "failing-%llu-%llu", (unsigned long long)k->seed, (unsigned long long)i);
-        compare_one(k, c, name, gen_kind_name(i), &input, &right);
-    }
+    (void)index;
+    return "entries";
 }
 
-static void compare_entries(comparison *k, const command *c, uint64_t count, tally *t)
+static void compare_inputs(comparison *k, const input_kind *kind, uint64_t count, tally *t)
 {
     static text input, right;
     for (uint64_t i = 0; i < count && k->differences < k->most; i++) {
-        char name[64];
         text_clear(&input);
         text_clear(&right);
-        gen_entries_input(k->seed, i, &input);
-        tally_run(t, &input, true, &right);
-        snprintf(name, sizeof name, "failing-entries-%llu-%llu", (unsigned long long)k->seed, (unsigned long long)i);
-        if (c != NULL)
-            compare_one(k, c, name, "entries", &input, &right);
+        kind->make(k->seed, i, &input);
+        tally_run(t, &input, kind->entries, &right);
+        for (unsigned n = 0; n < sizeof kind->other / sizeof kind->other[0]; n++) {
+            char name[64];
+            snprintf(name, sizeof name, "failing-%s%llu-%llu", kind->label, (unsigned long long)k->seed,
+                     (unsigned long long)i);
+            if (is_given(kind->other[n]))
+                compare_one(k, kind->other[n], name, kind->kind_name(i), &input, &right);
+        }
     }
 }
 
@@ -243,20 +254,65 @@ static void remove_folder(const comparison *k)
     rmdir(k->folder);
 }
 
+/* ---- The command line ---- */
+
+typedef struct {
+    command runner, also, entries, words;
+    uint64_t count;
+} wishes;
+
 static int usage(void)
 {
-    fputs("usage: compare [--entries COMMAND] [--words COMMAND] [--keep DIR] [--most N] COMMAND [SEED [COUNT]]\n", stderr);
+    fputs("usage: compare [--also COMMAND] [--entries COMMAND] [--words COMMAND] [--keep DIR] [--most N]\n"
+          "               COMMAND [SEED [COUNT]]\n",
+          stderr);
     return 2;
 }
 
-static int report(const comparison *k, const tally *t, uint64_t count, bool entries_compared)
+static bool take_option(const char *name, char *value, wishes *w, comparison *k)
+{
+    if (strcmp(name, "--also") == 0)
+        w->also = split(value);
+    else if (strcmp(name, "--entries") == 0)
+        w->entries = split(value);
+    else if (strcmp(name, "--words") == 0)
+        w->words = split(value);
+    else if (strcmp(name, "--keep") == 0)
+        k->keep = value;
+    else if (strcmp(name, "--most") == 0)
+        k->most = (unsigned)strtoul(value, NULL, 10);
+    else
+        return false;
+    return true;
+}
+
+static bool take_words(int argc, char **argv, wishes *w, comparison *k)
+{
+    int at = 1;
+    for (; at + 1 < argc && strncmp(argv[at], "--", 2) == 0; at += 2)
+        if (!take_option(argv[at], argv[at + 1], w, k))
+            return false;
+    if (at >= argc || argc - at > 3)
+        return false;
+    if (strcmp(argv[at], "-") != 0) {
+        w->runner = split(argv[at]);
+        if (!is_given(&w->runner))
+            return false;
+    }
+    k->seed = argc - at > 1 ? strtoull(argv[at + 1], NULL, 10) : 1;
+    w->count = argc - at > 2 ? strtoull(argv[at + 2], NULL, 10) : DEFAULT_COUNT;
+    return true;
+}
+
+static int report(const comparison *k, const tally *t, const wishes *w)
 {
     unsigned seldom = 0;
     tally_print(t, stdout);
-    if (!entries_compared)
+    if (!is_given(&w->entries))
         printf("(W, D and J were run in this process alone: no --entries)\n");
-    if (k->differences == 0 && count >= DEFAULT_COUNT)
-        seldom = tally_missing(t, LEAST_HITS, stdout);
+    if (k->differences == 0 && w->count >= DEFAULT_COUNT)
+        seldom = is_given(&w->runner) ? tally_missing(t, LEAST_HITS, stdout)
+                                      : tally_missing_calls(t, "WDJ", LEAST_HITS, stdout);
     printf("seed %llu: %llu inputs, %u different%s\n", (unsigned long long)k->seed, (unsigned long long)t->inputs,
            k->differences, seldom > 0 ? ", not all hit often enough" : "");
     return k->differences > 0 ? 1 : seldom > 0 ? 3 : 0;
@@ -265,33 +321,19 @@ static int report(const comparison *k, const tally *t, uint64_t count, bool entr
 int main(int argc, char **argv)
 {
     static tally t;
+    static const command none;
     comparison k = {.keep = ".", .most = 5};
-    command runner, entries = {{NULL}}, words = {{NULL}};
-    int at = 1;
-    for (; at + 1 < argc && strncmp(argv[at], "--", 2) == 0; at += 2) {
-        if (strcmp(argv[at], "--entries") == 0)
-            entries = split(argv[at + 1]);
-        else if (strcmp(argv[at], "--words") == 0)
-            words = split(argv[at + 1]);
-        else if (strcmp(argv[at], "--keep") == 0)
-            k.keep = argv[at + 1];
-        else if (strcmp(argv[at], "--most") == 0)
-            k.most = (unsigned)strtoul(argv[at + 1], NULL, 10);
-        else
-            return usage();
-    }
-    if (at >= argc || argc - at > 3)
+    wishes w = {.count = 0};
+    if (!take_words(argc, argv, &w, &k))
         return usage();
-    runner = split(argv[at]);
-    if (runner.word[0] == NULL)
-        return usage();
-    k.seed = argc - at > 1 ? strtoull(argv[at + 1], NULL, 10) : 1;
-    uint64_t count = argc - at > 2 ? strtoull(argv[at + 2], NULL, 10) : DEFAULT_COUNT;
+    const input_kind runs = {gen_input, gen_kind_name, "", false, {&w.runner, &w.also}};
+    const input_kind entries = {gen_entries_input, entries_name, "entries-", true, {&w.entries, &none}};
     open_folder(&k);
-    compare_inputs(&k, &runner, count, &t);
-    compare_entries(&k, entries.word[0] != NULL ? &entries : NULL, count / ENTRIES_SHARE, &t);
-    if (words.word[0] != NULL && k.differences < k.most)
-        compare_words(&k, &words);
+    if (is_given(&w.runner))
+        compare_inputs(&k, &runs, w.count, &t);
+    compare_inputs(&k, &entries, w.count / ENTRIES_SHARE, &t);
+    if (is_given(&w.words) && k.differences < k.most)
+        compare_words(&k, &w.words);
     remove_folder(&k);
-    return report(&k, &t, count, entries.word[0] != NULL);
+    return report(&k, &t, &w);
 }

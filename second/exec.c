@@ -344,13 +344,15 @@ answer exec_tick(exec *e, uint16_t *words, size_t room)
         return refused(NOT_SOUND);
     if (e->count == COUNT_MAX)
         return refused(COUNT_ABOVE);
-    if (room < TICK_WORDS)
+    if (MUTATED(ROOM_EXACTLY) ? room != TICK_WORDS : room < TICK_WORDS)
         return refused(BAD_LENGTH);
     e->count++;
     wake_due(e);
     queue_cycle(e, &s);
     answer a = settle(e, &s, true);
     a.words = (uint16_t)write_due_rows(e, words);
+    if (MUTATED(TICK_CLEARS_PAST))
+        memset(words + a.words, 0, (room - a.words) * sizeof *words);
     return a;
 }
 
@@ -359,27 +361,36 @@ answer exec_tick(exec *e, uint16_t *words, size_t room)
 static enum refusal judge_block(const exec *e, uint32_t row, size_t area_words, size_t data_words)
 {
     enum refusal refusal = judge_call(e);
-    if (refusal != ACCEPTED)
+    if (refusal != ACCEPTED && !(MUTATED(BLOCKS_WITHOUT_TASK) && refusal == NONE_RUNNING))
         return refusal;
     if (row < 1 || row > e->rig.rows)
         return NO_SUCH;
-    size_t whole = (size_t)BLOCK_WORDS * e->rig.rows;
-    bool fits = MUTATED(AREA_AT_LEAST) ? area_words >= whole : area_words == whole;
-    if (!fits || data_words != e->rig.row[row - 1].words)
-        return BAD_LENGTH;
-    return ACCEPTED;
+    size_t whole = (size_t)BLOCK_WORDS * e->rig.rows, own = e->rig.row[row - 1].words;
+    bool area_fits = MUTATED(AREA_AT_LEAST) ? area_words >= whole : area_words == whole;
+    bool data_fits = MUTATED(DATA_AT_LEAST) ? data_words >= own : data_words == own;
+    return area_fits && data_fits ? ACCEPTED : BAD_LENGTH;
+}
+
+/* Where a row's block begins in the area. */
+static size_t block_place(uint32_t row)
+{
+    return (size_t)(MUTATED(BLOCKS_OVERLAP) ? ROW_WORDS_MAX : BLOCK_WORDS) * (row - 1);
 }
 
 answer exec_write_block(exec *e, uint32_t row, uint16_t *area, size_t area_words,
                         const uint16_t *data, size_t data_words)
 {
     enum refusal refusal = judge_block(e, row, area_words, data_words);
+    if (MUTATED(REFUSED_WRITE_TAGS) && refusal == BAD_LENGTH)
+        area[block_place(row)] = (uint16_t)e->count;
     if (refusal != ACCEPTED)
         return refused(refusal);
-    uint16_t *block = area + (size_t)BLOCK_WORDS * (row - 1);
+    uint16_t *block = area + block_place(row);
     if (!MUTATED(TAG_NOT_WRITTEN))
         block[0] = (uint16_t)(e->count % 65536);
     memcpy(block + 1, data, data_words * sizeof *data);
+    if (MUTATED(WRITE_FILLS_BLOCK))
+        memset(block + 1 + data_words, 0, (ROW_WORDS_MAX - data_words) * sizeof *data);
     return go_on();
 }
 
@@ -387,8 +398,11 @@ answer exec_read_block(exec *e, uint32_t row, const uint16_t *area, size_t area_
                        uint16_t *data, size_t data_words)
 {
     enum refusal refusal = judge_block(e, row, area_words, data_words);
+    if (MUTATED(REFUSED_READ_CLEARS) && refusal != ACCEPTED)
+        memset(data, 0, data_words * sizeof *data);
     if (refusal != ACCEPTED)
         return refused(refusal);
-    memcpy(data, area + (size_t)BLOCK_WORDS * (row - 1) + 1, data_words * sizeof *data);
+    const uint16_t *block = area + block_place(row);
+    memcpy(data, block + (MUTATED(READ_FROM_TAG) ? 0 : 1), data_words * sizeof *data);
     return go_on();
 }

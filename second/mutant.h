@@ -10,8 +10,11 @@
 #define MUTANT 0
 #endif
 
-/* Number, name and what is wrong.  1 to 5 are the paper's "Slips seen on benches". */
-#define MUTANT_LIST(M) \
+/*
+ * Number, name and what is wrong.  1 to 5 are the paper's "Slips seen on benches".
+ * Those on a line that begins with E must be told apart by the lines of entries.h alone.
+ */
+#define MUTANT_LIST(M, E) \
     M(1, WORDS_UNREDUCED, "32 words put unreduced into the count field") \
     M(2, EQUAL_RANK_TAKES, "an equal-priority task that wakes takes the processor") \
     M(3, PHASE_BEFORE_TICK, "the phase is compared with the count before the tick") \
@@ -43,18 +46,27 @@
     M(29, CROWDED_CYCLE_AT_ONCE, "the 16th flag of a cycle is refused at its line") \
     M(30, SIZES_BEFORE_SHAPE, "a field's size is judged before the next field's shape") \
     M(31, LENGTH_OF_INPUT, "the whole input counts toward the file's length") \
-    M(32, AREA_AT_LEAST, "a compool area longer than 33 words a row is taken") \
-    M(33, TAG_NOT_WRITTEN, "a block is written without its tag") \
+    E(32, AREA_AT_LEAST, "a compool area longer than 33 words a row is taken") \
+    E(33, TAG_NOT_WRITTEN, "a block is written without its tag") \
     M(34, SERVES_INSIDE, "an activation's flag is served before the next task is tested") \
     M(35, TERMINATE_LEAVES_LINKED, "terminate leaves the task in its line") \
     M(36, STATE_BEFORE_CONTROLLER, "a task's state is judged before its controller") \
     M(37, WAKES_FIRST_ONLY, "a service wakes only the first task that waits for it") \
     M(38, LAST_LINE_RUNS, "a last script line without LF is run") \
     M(39, SPARE_ZEROS, "script numbers may have spare zeros") \
-    M(40, ACTIVATION_SIGNALLED, "activation flags may be signalled")
+    M(40, ACTIVATION_SIGNALLED, "activation flags may be signalled") \
+    E(41, BLOCKS_OVERLAP, "a row's block starts at 32 words a row") \
+    E(42, WRITE_FILLS_BLOCK, "a block write clears the words past the row's own") \
+    E(43, REFUSED_WRITE_TAGS, "a refused block write leaves its tag") \
+    E(44, READ_FROM_TAG, "a block read begins with the tag") \
+    E(45, REFUSED_READ_CLEARS, "a refused block read clears the buffer") \
+    E(46, DATA_AT_LEAST, "a buffer longer than the row's words is taken") \
+    E(47, BLOCKS_WITHOUT_TASK, "blocks are read and written while no task is running") \
+    E(48, ROOM_EXACTLY, "a tick takes a buffer of exactly 128 words alone") \
+    E(49, TICK_CLEARS_PAST, "a tick clears the words past those written")
 
 #define MUTANT_NAME(number, name, text) MUTANT_##name = number,
-enum { MUTANT_LIST(MUTANT_NAME) MUTANT_END };
+enum { MUTANT_LIST(MUTANT_NAME, MUTANT_NAME) MUTANT_END };
 #undef MUTANT_NAME
 
 #define MUTATED(name) (MUTANT == MUTANT_##name)

@@ -71,70 +71,75 @@ static size_t run_entries_line(exec *e, const in_line *line, char *out)
     return run_line(e, line, out);
 }
 
-static void run_script(exec *e, in_stream *in, out_stream *out, line_runner *run)
-{
-    in_line line;
-    while (!out->failed && in_next_line(in, &line))
-        out_advance(out, run(e, &line, out_room(out, OUTPUT_LINE_MAX)));
-}
-
-static int close_streams(const in_stream *in, out_stream *out)
-{
-    out_flush(out);
-    return in->failed || out->failed ? -1 : 0;
-}
-
-static int run_input(int in_fd, int out_fd, line_runner *run)
-{
-    static in_stream in;
-    static out_stream out;
-    static exec e;
-    static rig r;
+/* A run of the program: its streams, and the rig that was read. */
+typedef struct {
+    in_stream in;
+    out_stream out;
+    rig rig;
     input_parts parts;
-    in_open(&in, in_fd);
-    out_open(&out, out_fd);
-    rig_verdict v = read_rig(&in, &parts, &r);
-    if (in.failed)
+} session;
+
+static int close_streams(session *s)
+{
+    out_flush(&s->out);
+    return s->in.failed || s->out.failed ? -1 : 0;
+}
+
+/* Reads the rig and hands an accepted one on; a refused one prints its line. */
+static int with_rig(int in, int out, void (*go_on)(session *s))
+{
+    static session s;
+    in_open(&s.in, in);
+    out_open(&s.out, out);
+    rig_verdict v = read_rig(&s.in, &s.parts, &s.rig);
+    if (s.in.failed)
         return -1;
-    if (v.refusal != ACCEPTED) {
-        out_advance(&out, print_refused_rig(out_room(&out, OUTPUT_LINE_MAX), &v));
-        return close_streams(&in, &out);
-    }
-    (void)exec_start(&e, &r); /* a rig that was read keeps the rules */
-    out_advance(&out, print_started(out_room(&out, OUTPUT_LINE_MAX), &e));
-    if (parts.has_script)
-        run_script(&e, &in, &out, run);
-    return close_streams(&in, &out);
+    if (v.refusal == ACCEPTED)
+        go_on(&s);
+    else
+        out_advance(&s.out, print_refused_rig(out_room(&s.out, OUTPUT_LINE_MAX), &v));
+    return close_streams(&s);
+}
+
+static void run_script(session *s, line_runner *run)
+{
+    static exec e;
+    in_line line;
+    (void)exec_start(&e, &s->rig); /* a rig that was read keeps the rules */
+    out_advance(&s->out, print_started(out_room(&s->out, OUTPUT_LINE_MAX), &e));
+    while (s->parts.has_script && !s->out.failed && in_next_line(&s->in, &line))
+        out_advance(&s->out, run(&e, &line, out_room(&s->out, OUTPUT_LINE_MAX)));
+}
+
+static void run_lines(session *s)
+{
+    run_script(s, run_line);
+}
+
+static void run_entries_lines(session *s)
+{
+    run_script(s, run_entries_line);
+}
+
+static void echo_rig(session *s)
+{
+    static uint8_t file[RIG_FILE_MAX];
+    size_t length = 0;
+    (void)rig_write(&s->rig, file, sizeof file, &length);
+    out_write(&s->out, file, length);
 }
 
 int runner_run(int in, int out)
 {
-    return run_input(in, out, run_line);
+    return with_rig(in, out, run_lines);
 }
 
 int runner_run_entries(int in, int out)
 {
-    return run_input(in, out, run_entries_line);
+    return with_rig(in, out, run_entries_lines);
 }
 
-int runner_echo_rig(int in_fd, int out_fd)
+int runner_echo_rig(int in, int out)
 {
-    static in_stream in;
-    static out_stream out;
-    static rig r;
-    static uint8_t file[RIG_FILE_MAX];
-    input_parts parts;
-    size_t length = 0;
-    in_open(&in, in_fd);
-    out_open(&out, out_fd);
-    rig_verdict v = read_rig(&in, &parts, &r);
-    if (in.failed)
-        return -1;
-    if (v.refusal != ACCEPTED) {
-        out_advance(&out, print_refused_rig(out_room(&out, OUTPUT_LINE_MAX), &v));
-    } else {
-        (void)rig_write(&r, file, sizeof file, &length);
-        out_write(&out, file, length);
-    }
-    return close_streams(&in, &out);
+    return with_rig(in, out, echo_rig);
 }

@@ -243,10 +243,12 @@ static unsigned missing(uint64_t hit, uint64_t least, FILE *to, const char *what
     return 1;
 }
 
-static unsigned missing_calls(const tally *t, uint64_t least, FILE *to)
+unsigned tally_missing_calls(const tally *t, const char *of, uint64_t least, FILE *to)
 {
     unsigned n = 0;
     for (unsigned i = 0; i < VERBS; i++) {
+        if (strchr(of, verbs[i].verb) == NULL)
+            continue;
         const uint64_t *by = t->call[(unsigned char)verbs[i].verb];
         n += missing(by[ACCEPTED], least, to, verbs[i].name, "accepted");
         for (const char *l = verbs[i].refusals; *l != 0; l++) {
@@ -255,12 +257,13 @@ static unsigned missing_calls(const tally *t, uint64_t least, FILE *to)
             n += missing(by[refusal_of(*l)], least, to, verbs[i].name, which);
         }
     }
-    return n + missing(t->call['?'][BAD_SHAPE], least, to, "script line", "refused by 1");
+    return n;
 }
 
 unsigned tally_missing(const tally *t, uint64_t least, FILE *to)
 {
-    unsigned n = missing_calls(t, least, to);
+    unsigned n = tally_missing_calls(t, "SXZFKURLNGQWDJ", least, to);
+    n += missing(t->call['?'][BAD_SHAPE], least, to, "script line", "refused by 1");
     for (unsigned r = BAD_SHAPE; r <= BAD_RIG; r++)
         n += missing(t->start[r], least, to, "rig refused by", (const char *[]){"1", "2", "3", "4"}[r - 1]);
     for (unsigned i = RULE_TASK_ABOVE; i < RIG_RULE_COUNT; i++)

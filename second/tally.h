@@ -41,4 +41,7 @@ void tally_print(const tally *t, FILE *to);
 /* Prints what was hit fewer than `least` times; answers how many such there are. */
 unsigned tally_missing(const tally *t, uint64_t least, FILE *to);
 
+/* The same of the calls with one of the verbs `of` alone: accepted, and by each refusal that a run can give. */
+unsigned tally_missing_calls(const tally *t, const char *of, uint64_t least, FILE *to);
+
 #endif

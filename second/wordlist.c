@@ -76,22 +76,25 @@ static void image_line(out_stream *o, uint32_t image)
     end(o, at);
 }
 
+/* Four fields, the refusal and, if there is none, the word. */
+static void edge_line(out_stream *o, char kind, const uint32_t field[4], enum refusal refusal, uint16_t word)
+{
+    char *at = print_field(fields(begin(o, kind), field, 4), refusal);
+    end(o, refusal == ACCEPTED ? print_field(at, word) : at);
+}
+
 static void edge_command(out_stream *o, const command_fields *f)
 {
     uint16_t word = 0;
     enum refusal refusal = command_word(f, &word);
-    char *at = begin(o, 'c');
-    at = FIELDS(at, f->address, f->transmit, f->subaddress, f->last, refusal);
-    end(o, refusal == ACCEPTED ? print_field(at, word) : at);
+    edge_line(o, 'c', (const uint32_t[]){f->address, f->transmit, f->subaddress, f->last}, refusal, word);
 }
 
 static void edge_status_word(out_stream *o, const status_fields *f)
 {
     uint16_t word = 0;
     enum refusal refusal = status_word(f, &word);
-    char *at = begin(o, 's');
-    at = FIELDS(at, f->address, f->error, f->status, f->failure, refusal);
-    end(o, refusal == ACCEPTED ? print_field(at, word) : at);
+    edge_line(o, 's', (const uint32_t[]){f->address, f->error, f->status, f->failure}, refusal, word);
 }
 
 static void edge_judge(out_stream *o, uint32_t image, uint32_t expected)

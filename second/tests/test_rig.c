@@ -21,13 +21,15 @@ static rig_verdict read_spaced(const char *spaced, rig *r)
     return v;
 }
 
-static void refused(const char *spaced, unsigned refusal, unsigned line)
+/* A file that is refused with that number at that line; by 4 also for that rule. */
+static void refused(const char *spaced, unsigned refusal, unsigned line, rig_rule rule)
 {
     static rig r;
     rig_verdict v = read_spaced(spaced, &r);
-    if (v.refusal != refusal || v.line != line) {
+    if (v.refusal != refusal || v.line != line || v.rule != rule) {
         CHECK_IS(v.refusal, refusal);
         CHECK_IS(v.line, line);
+        CHECK_IS(v.rule, rule);
         check_that(false, spaced, __FILE__, __LINE__);
     }
 }
@@ -51,125 +53,138 @@ static void morning_is_read(void)
 #define R1 "RIG 1 1 1 0\n"
 #define T1 "T 1 0 0 0 0\n"
 
+/* Files with a faulty line. */
+static const struct {
+    const char *spaced;
+    unsigned refusal, line;
+} faulty[] = {
+    {"", 1, 1},
+    {"\n", 1, 1},
+    {"RIG 1 1 1 0", 1, 1},
+    {R1 "T 1 0 0 0 0", 1, 2},
+    {R1 "\n", 1, 2},
+    {R1 "T 1 0 0 0\n", 1, 2},
+    {R1 "T 1 0 0 0 0 0\n", 1, 2},
+    {R1 "T 1 0 0 0 \n", 1, 2},
+    {R1 "T  1 0 0 0 0\n", 1, 2},
+    {R1 "T 01 0 0 0 0\n", 1, 2},
+    {R1 "T 1 00 0 0 0\n", 1, 2},
+    {R1 "T 1 -1 0 0 0\n", 1, 2},
+    {R1 "T 1 +1 0 0 0\n", 1, 2},
+    {R1 "T 1 0 0 0 0\r\n", 1, 2},
+    {R1 "t 1 0 0 0 0\n", 1, 2},
+    {R1 "TT 1 0 0 0 0\n", 1, 2},
+    {R1 "T\n", 1, 2},
+    {R1 "RUN\r\n", 1, 2},
+    {R1 "T 999 0 0 0 x\n", 1, 2}, /* shape over the whole line, then sizes */
+    {"RIG 2 99 999 99 \n", 1, 1},
+    {R1 T1 "M 1 0\n\n", 2, 3}, /* the first faulty line decides */
+    {"RIG 0 1 1 0\n", 2, 1},
+    {"RIG 2 1 1 0\n", 2, 1},
+    {"RIG 1 0 1 0\n", 2, 1},
+    {"RIG 1 65 1 0\n", 2, 1},
+    {"RIG 1 1 0 0\n", 2, 1},
+    {"RIG 1 1 129 0\n", 2, 1},
+    {"RIG 1 1 1 32\n", 2, 1},
+    {"RIG 4294967297 1 1 0\n", 2, 1}, /* never wrapped */
+    {"RIG 18446744073709551617 1 1 0\n", 2, 1},
+    {"RIG 1 1 340282366920938463463374607431768211457 0\n", 2, 1},
+    {R1 "T 0 0 0 0 0\n", 2, 2},
+    {R1 "T 65 0 0 0 0\n", 2, 2},
+    {R1 "T 1 65 0 0 0\n", 2, 2},
+    {R1 "T 1 0 256 0 0\n", 2, 2},
+    {R1 "T 1 0 0 2 0\n", 2, 2},
+    {R1 "T 1 0 0 0 129\n", 2, 2},
+    {R1 T1 "C 1 16 0 0\n", 2, 3},
+    {R1 T1 "C 1 0 2 0\n", 2, 3},
+    {R1 T1 "C 1 0 0 2\n", 2, 3},
+    {R1 T1 "A 1 0 0\n", 2, 3},
+    {R1 T1 "A 1 0 129\n", 2, 3},
+    {R1 T1 "M 64 1\n", 2, 3},
+    {R1 T1 "B 32 1 1 1 1 1 0\n", 2, 3},
+    {R1 T1 "B 0 0 1 1 1 1 0\n", 2, 3},
+    {R1 T1 "B 0 31 1 1 1 1 0\n", 2, 3},
+    {R1 T1 "B 0 1 1 1 0 1 0\n", 2, 3},
+    {R1 T1 "B 0 1 1 1 33 1 0\n", 2, 3},
+    {R1 T1 "B 0 1 1 1 1 3 0\n", 2, 3},
+    {R1 T1 "B 0 1 1 1 1 128 0\n", 2, 3},
+    {R1 T1 "B 0 1 1 1 1 2 2\n", 2, 3},
+    {R1 "T 65 0 0 0 0\n" R1, 2, 2},
+    {"T 65 0 0 0 0\n", 2, 1}, /* sizes before order */
+    {T1 R1, 3, 1},
+    {R1 R1, 3, 2},
+    {R1 T1 T1, 3, 3},
+    {R1 T1 R1, 3, 3},
+    {R1 "C 1 0 0 0\n" T1, 3, 3}, /* C straight after RIG is in order, a T after it not */
+    {R1 T1 "C 1 1 0 0\nC 1 0 0 0\n", 3, 4},
+    {R1 T1 "A 1 1 1\nA 1 0 1\n", 3, 4},
+    {R1 T1 "A 1 0 2\nA 1 0 1\n", 3, 4},
+    {R1 T1 "A 1 0 1\nA 1 0 1\n", 3, 4},
+    {R1 T1 "M 1 1\nM 0 1\n", 3, 4},
+    {R1 T1 "M 1 2\nM 1 1\n", 3, 4},
+    {R1 T1 "B 0 1 1 1 1 1 0\nM 0 1\n", 3, 4},
+};
+
+static void each_refused_by(unsigned refusal)
+{
+    for (unsigned i = 0; i < sizeof faulty / sizeof faulty[0]; i++)
+        if (faulty[i].refusal == refusal)
+            refused(faulty[i].spaced, refusal, faulty[i].line, RULE_KEPT);
+}
+
 static void refused_by_1(void)
 {
-    refused("", 1, 1);
-    refused("\n", 1, 1);
-    refused("RIG 1 1 1 0", 1, 1);
-    refused(R1 "T 1 0 0 0 0", 1, 2);
-    refused(R1 "\n", 1, 2);
-    refused(R1 "T 1 0 0 0\n", 1, 2);
-    refused(R1 "T 1 0 0 0 0 0\n", 1, 2);
-    refused(R1 "T 1 0 0 0 \n", 1, 2);
-    refused(R1 "T  1 0 0 0 0\n", 1, 2);
-    refused(R1 "T 01 0 0 0 0\n", 1, 2);
-    refused(R1 "T 1 00 0 0 0\n", 1, 2);
-    refused(R1 "T 1 -1 0 0 0\n", 1, 2);
-    refused(R1 "T 1 +1 0 0 0\n", 1, 2);
-    refused(R1 "T 1 0 0 0 0\r\n", 1, 2);
-    refused(R1 "t 1 0 0 0 0\n", 1, 2);
-    refused(R1 "TT 1 0 0 0 0\n", 1, 2);
-    refused(R1 "T\n", 1, 2);
-    refused(R1 "RUN\r\n", 1, 2);
-    refused(R1 "T 999 0 0 0 x\n", 1, 2); /* shape over the whole line, then sizes */
-    refused("RIG 2 99 999 99 \n", 1, 1);
-    refused(R1 T1 "M 1 0\n\n", 2, 3); /* the first faulty line decides */
+    each_refused_by(BAD_SHAPE);
 }
 
 static void refused_by_2(void)
 {
-    refused("RIG 0 1 1 0\n", 2, 1);
-    refused("RIG 2 1 1 0\n", 2, 1);
-    refused("RIG 1 0 1 0\n", 2, 1);
-    refused("RIG 1 65 1 0\n", 2, 1);
-    refused("RIG 1 1 0 0\n", 2, 1);
-    refused("RIG 1 1 129 0\n", 2, 1);
-    refused("RIG 1 1 1 32\n", 2, 1);
-    refused("RIG 4294967297 1 1 0\n", 2, 1); /* never wrapped */
-    refused("RIG 18446744073709551617 1 1 0\n", 2, 1);
-    refused("RIG 1 1 340282366920938463463374607431768211457 0\n", 2, 1);
-    refused(R1 "T 0 0 0 0 0\n", 2, 2);
-    refused(R1 "T 65 0 0 0 0\n", 2, 2);
-    refused(R1 "T 1 65 0 0 0\n", 2, 2);
-    refused(R1 "T 1 0 256 0 0\n", 2, 2);
-    refused(R1 "T 1 0 0 2 0\n", 2, 2);
-    refused(R1 "T 1 0 0 0 129\n", 2, 2);
-    refused(R1 T1 "C 1 16 0 0\n", 2, 3);
-    refused(R1 T1 "C 1 0 2 0\n", 2, 3);
-    refused(R1 T1 "C 1 0 0 2\n", 2, 3);
-    refused(R1 T1 "A 1 0 0\n", 2, 3);
-    refused(R1 T1 "A 1 0 129\n", 2, 3);
-    refused(R1 T1 "M 64 1\n", 2, 3);
-    refused(R1 T1 "B 32 1 1 1 1 1 0\n", 2, 3);
-    refused(R1 T1 "B 0 0 1 1 1 1 0\n", 2, 3);
-    refused(R1 T1 "B 0 31 1 1 1 1 0\n", 2, 3);
-    refused(R1 T1 "B 0 1 1 1 0 1 0\n", 2, 3);
-    refused(R1 T1 "B 0 1 1 1 33 1 0\n", 2, 3);
-    refused(R1 T1 "B 0 1 1 1 1 3 0\n", 2, 3);
-    refused(R1 T1 "B 0 1 1 1 1 128 0\n", 2, 3);
-    refused(R1 T1 "B 0 1 1 1 1 2 2\n", 2, 3);
-    refused(R1 "T 65 0 0 0 0\n" R1, 2, 2);
+    each_refused_by(BAD_SIZE);
 }
 
 static void refused_by_3(void)
 {
-    refused(T1 R1, 3, 1);
-    refused(R1 R1, 3, 2);
-    refused(R1 T1 T1, 3, 3);
-    refused(R1 T1 R1, 3, 3);
-    refused(R1 "C 1 0 0 0\n" T1, 3, 3); /* C straight after RIG is in order, a T after it not */
-    refused(R1 T1 "C 1 1 0 0\nC 1 0 0 0\n", 3, 4);
-    refused(R1 T1 "A 1 1 1\nA 1 0 1\n", 3, 4);
-    refused(R1 T1 "A 1 0 2\nA 1 0 1\n", 3, 4);
-    refused(R1 T1 "A 1 0 1\nA 1 0 1\n", 3, 4);
-    refused(R1 T1 "M 1 1\nM 0 1\n", 3, 4);
-    refused(R1 T1 "M 1 2\nM 1 1\n", 3, 4);
-    refused(R1 T1 "B 0 1 1 1 1 1 0\nM 0 1\n", 3, 4);
-    refused("T 65 0 0 0 0\n", 2, 1); /* sizes before order */
-}
-
-/* A file that breaks the named rule and no other. */
-static void breaks(const char *spaced, rig_rule rule)
-{
-    static rig r;
-    rig_verdict v = read_spaced(spaced, &r);
-    if (v.refusal != BAD_RIG || v.rule != rule || v.line != 0) {
-        CHECK_IS(v.refusal, BAD_RIG);
-        CHECK_IS(v.rule, rule);
-        CHECK_IS(v.line, 0);
-        check_that(false, spaced, __FILE__, __LINE__);
-    }
+    each_refused_by(BAD_ORDER);
 }
 
 #define R3 "RIG 1 3 9 0\n"
 #define T3 "T 1 0 0 0 1\nT 2 1 0 0 2\nT 3 1 0 0 0\n"
 
+/* Files that break the named rule and no other. */
+static const struct {
+    const char *spaced;
+    rig_rule rule;
+} breaking[] = {
+    {R3 T3 "T 4 0 0 0 0\n", RULE_TASK_ABOVE},
+    {R3 T3 "C 4 0 0 0\nA 4 0 3\n", RULE_TASK_ABOVE},
+    {R3 T3 "A 4 0 3\n", RULE_TASK_ABOVE},
+    {R3 "T 1 0 0 0 0\nT 2 4 0 0 0\nT 3 1 0 0 0\n", RULE_TASK_ABOVE},
+    {R3 "T 1 0 0 0 10\nT 2 1 0 0 0\nT 3 1 0 0 0\n", RULE_FLAG_ABOVE},
+    {R3 T3 "C 2 0 0 0\nA 2 0 10\n", RULE_FLAG_ABOVE},
+    {R3 T3 "M 0 10\n", RULE_FLAG_ABOVE},
+    {R3 "T 1 0 0 0 0\nT 3 1 0 0 0\n", RULE_T_MISSING},
+    {R3, RULE_T_MISSING},
+    {R3 "T 1 1 0 0 0\nT 2 1 0 0 0\nT 3 1 0 0 0\n", RULE_FIRST_CONTROLLER},
+    {R3 "T 1 0 0 0 0\nT 2 0 0 0 0\nT 3 1 0 0 0\n", RULE_CONTROLLER},
+    {R3 "T 1 0 0 0 0\nT 2 2 0 0 0\nT 3 1 0 0 0\n", RULE_CONTROLLER},
+    {R3 "T 1 0 0 0 0\nT 2 3 0 0 0\nT 3 1 0 0 0\n", RULE_CONTROLLER},
+    {"RIG 1 4 1 0\nT 1 0 0 0 0\nT 2 1 0 0 0\nT 3 1 0 0 0\nT 4 2 0 0 0\n", RULE_CONTROLLER},
+    {R3 "T 1 0 0 0 1\nT 2 1 0 0 1\nT 3 1 0 0 0\n", RULE_ACTIVATION_SHARED},
+    {R3 T3 "M 5 2\n", RULE_ACTIVATION_MINOR},
+    {R3 T3 "A 2 0 3\n", RULE_A_WITHOUT_C},
+    {R3 T3 "C 2 0 0 0\nA 2 1 3\n", RULE_A_WITHOUT_C},
+    {R3 T3 "C 2 0 0 0\n", RULE_C_WITHOUT_A},
+    {R3 T3 "C 2 0 0 1\nA 2 0 3\nA 2 0 4\nM 9 3\n", RULE_MINOR_NOT_ALONE},
+    {R3 T3 "C 2 0 0 1\nA 2 0 3\nA 2 0 4\nM 9 4\n", RULE_MINOR_NOT_ALONE},
+    {R3 T3 "C 2 0 1 1\nA 2 0 3\nM 9 3\n", RULE_MINOR_LATCHED},
+    {R3 T3 "C 2 0 0 0\nA 2 0 3\nM 9 3\n", RULE_MINOR_DESIRES_OFF},
+    {R3 T3 "B 5 1 5 2 1 1 0\n", RULE_SAME_ENDS},
+};
+
 static void refused_by_4(void)
 {
-    breaks(R3 T3 "T 4 0 0 0 0\n", RULE_TASK_ABOVE);
-    breaks(R3 T3 "C 4 0 0 0\nA 4 0 3\n", RULE_TASK_ABOVE);
-    breaks(R3 T3 "A 4 0 3\n", RULE_TASK_ABOVE);
-    breaks(R3 "T 1 0 0 0 0\nT 2 4 0 0 0\nT 3 1 0 0 0\n", RULE_TASK_ABOVE);
-    breaks(R3 "T 1 0 0 0 10\nT 2 1 0 0 0\nT 3 1 0 0 0\n", RULE_FLAG_ABOVE);
-    breaks(R3 T3 "C 2 0 0 0\nA 2 0 10\n", RULE_FLAG_ABOVE);
-    breaks(R3 T3 "M 0 10\n", RULE_FLAG_ABOVE);
-    breaks(R3 "T 1 0 0 0 0\nT 3 1 0 0 0\n", RULE_T_MISSING);
-    breaks(R3, RULE_T_MISSING);
-    breaks(R3 "T 1 1 0 0 0\nT 2 1 0 0 0\nT 3 1 0 0 0\n", RULE_FIRST_CONTROLLER);
-    breaks(R3 "T 1 0 0 0 0\nT 2 0 0 0 0\nT 3 1 0 0 0\n", RULE_CONTROLLER);
-    breaks(R3 "T 1 0 0 0 0\nT 2 2 0 0 0\nT 3 1 0 0 0\n", RULE_CONTROLLER);
-    breaks(R3 "T 1 0 0 0 0\nT 2 3 0 0 0\nT 3 1 0 0 0\n", RULE_CONTROLLER);
-    breaks("RIG 1 4 1 0\nT 1 0 0 0 0\nT 2 1 0 0 0\nT 3 1 0 0 0\nT 4 2 0 0 0\n", RULE_CONTROLLER);
-    breaks(R3 "T 1 0 0 0 1\nT 2 1 0 0 1\nT 3 1 0 0 0\n", RULE_ACTIVATION_SHARED);
-    breaks(R3 T3 "M 5 2\n", RULE_ACTIVATION_MINOR);
-    breaks(R3 T3 "A 2 0 3\n", RULE_A_WITHOUT_C);
-    breaks(R3 T3 "C 2 0 0 0\nA 2 1 3\n", RULE_A_WITHOUT_C);
-    breaks(R3 T3 "C 2 0 0 0\n", RULE_C_WITHOUT_A);
-    breaks(R3 T3 "C 2 0 0 1\nA 2 0 3\nA 2 0 4\nM 9 3\n", RULE_MINOR_NOT_ALONE);
-    breaks(R3 T3 "C 2 0 0 1\nA 2 0 3\nA 2 0 4\nM 9 4\n", RULE_MINOR_NOT_ALONE);
-    breaks(R3 T3 "C 2 0 1 1\nA 2 0 3\nM 9 3\n", RULE_MINOR_LATCHED);
-    breaks(R3 T3 "C 2 0 0 0\nA 2 0 3\nM 9 3\n", RULE_MINOR_DESIRES_OFF);
-    breaks(R3 T3 "B 5 1 5 2 1 1 0\n", RULE_SAME_ENDS);
+    for (unsigned i = 0; i < sizeof breaking / sizeof breaking[0]; i++)
+        refused(breaking[i].spaced, BAD_RIG, 0, breaking[i].rule);
 }
 
 static void add_lines(text *t, unsigned n, const char *line)
