@@ -1,9 +1,13 @@
 # What the commands at the top of the repository share: finding the kit, building a program once, running it.
-# Programs are for x86-64; on another processor the kit has an emulator beside its compiler.
+# Programs are for x86-64; on another processor the kit has an emulator beside its compiler, and C is cross-compiled.
 
 missing() {
     echo "${0##*/}: $1 is missing. $2" >&2
     exit 2
+}
+
+is_x86_64() {
+    [ "$(uname -m)" = x86_64 ]
 }
 
 need_kit() {
@@ -15,33 +19,84 @@ need_c() {
     command -v make >/dev/null || missing "make" "On Debian: apt-get install make"
 }
 
-# built NAME: target/bin/NAME is there and newer than every source
-built() {
-    [ -x "target/bin/$1" ] && [ -z "$(find crates crates.txt -newer "target/bin/$1" -type f 2>/dev/null | head -1)" ]
+# need_x86_c: a C compiler for x86-64, whatever the processor here
+need_x86_c() {
+    need_c
+    is_x86_64 || command -v x86_64-linux-gnu-gcc >/dev/null ||
+        missing "a C compiler for x86-64" "On Debian: apt-get install gcc-x86-64-linux-gnu libc6-dev-amd64-cross"
 }
 
-# build NAME: prove the program and what it needs, with a line for each crate on standard error
-build() {
-    built "$1" && return 0
+# make_x86 WORDS...: make with the compiler for x86-64; off that processor programs are linked whole, so that the
+# emulator needs no libraries for them
+make_x86() {
+    if is_x86_64; then
+        make -s "$@"
+    else
+        make -s CC=x86_64-linux-gnu-gcc LDFLAGS=-static "$@"
+    fi
+}
+
+# is_new FILE: it is there and newer than every source
+is_new() {
+    [ -f "$1" ] && [ -z "$(find crates crates.txt -newer "$1" -type f 2>/dev/null | head -1)" ]
+}
+
+# prove FILE WORDS...: unless FILE is new, make it by `rt WORDS...`, with a line for each crate on standard error
+prove() {
+    local file=$1
+    shift
+    is_new "$file" && return 0
     need_kit
-    echo "proving $1 and what it is built on; the first time takes some minutes" >&2
+    echo "proving $2 and what it is built on; the first time takes some minutes" >&2
     mkdir -p target
-    if ! rt check "$1" 2>&1 | tee target/build.log | grep --line-buffered -E '^rt: [a-z_]+ (proved|NOT)' >&2; then
-        echo "${0##*/}: $1 could not be built; target/build.log says why" >&2
+    if ! (set -o pipefail && rt "$@" 2>&1 | tee target/build.log | prove_lines) || [ ! -f "$file" ]; then
+        echo "${0##*/}: $2 could not be built; target/build.log says why" >&2
         exit 2
     fi
-    [ -x "target/bin/$1" ] || { echo "${0##*/}: $1 could not be built; target/build.log says why" >&2; exit 2; }
-    touch "target/bin/$1"
+    touch "$file"
+}
+
+prove_lines() {
+    grep --line-buffered -E '^rt: [a-z_]+ (proved|NOT)' >&2 || true
+}
+
+# build NAME: target/bin/NAME, the program and all that it needs proved
+build() {
+    prove "target/bin/$1" check "$1"
+}
+
+# build_host: host/build/host, the example in C, linked with the proved library
+build_host() {
+    need_x86_c
+    prove target/staticlib/libhost.a staticlib host
+    make_x86 -C host
+}
+
+# tools_of_kit: the folder of the kit's own tools for this processor
+tools_of_kit() {
+    need_kit
+    local home=${RATTLE_HOME:-$(cd "$(dirname "$(readlink -f "$(command -v rt)")")/.." && pwd -P)}
+    echo "$home/on/$(uname -m)/toolchain"
 }
 
 # command_of NAME: the words that run target/bin/NAME here
 command_of() {
-    if [ "$(uname -m)" = x86_64 ]; then
+    local tools
+    if is_x86_64; then
         echo "$PWD/target/bin/$1"
         return
     fi
-    need_kit
-    home=${RATTLE_HOME:-$(cd "$(dirname "$(readlink -f "$(command -v rt)")")/.." && pwd -P)}
-    tools=$home/on/$(uname -m)/toolchain
+    tools=$(tools_of_kit)
     echo "$tools/bin/qemu-x86_64 $tools/lib/ld-linux-x86-64.so.2 --library-path $tools/lib $PWD/target/bin/$1"
+}
+
+# command_of_c FILE: the words that run a program of make_x86 here
+command_of_c() {
+    local tools
+    if is_x86_64; then
+        echo "$PWD/$1"
+        return
+    fi
+    tools=$(tools_of_kit)
+    echo "$tools/bin/qemu-x86_64 $PWD/$1"
 }
