@@ -185,7 +185,10 @@ static void compare_one(comparison *k, const command *c, const char *name, const
     if (ended_well && got.length == right->length && memcmp(got.bytes, right->bytes, got.length) == 0)
         return;
     k->differences++;
-    printf("DIFFERENT: %s (%s)\n", name, kind);
+    printf("DIFFERENT: %s (%s)\n    of:", name, kind);
+    for (char *const *word = c->word; *word != NULL; word++)
+        printf(" %s", *word);
+    printf("\n");
     print_first_difference(right, &got);
     keep_failure(k, name, input, right, &got);
 }
@@ -217,8 +220,8 @@ static void compare_inputs(comparison *k, const input_kind *kind, uint64_t count
         tally_run(t, &input, kind->entries, &right);
         for (unsigned n = 0; n < sizeof kind->other / sizeof kind->other[0]; n++) {
             char name[64];
-            snprintf(name, sizeof name, "failing-%s%llu-%llu", kind->label, (unsigned long long)k->seed,
-                     (unsigned long long)i);
+            snprintf(name, sizeof name, "failing-%s%s%llu-%llu", n > 0 ? "also-" : "", kind->label,
+                     (unsigned long long)k->seed, (unsigned long long)i);
             if (is_given(kind->other[n]))
                 compare_one(k, kind->other[n], name, kind->kind_name(i), &input, &right);
         }

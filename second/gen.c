@@ -229,3 +229,13 @@ void gen_mixed_load(uint64_t seed, unsigned lines, text *out)
     add_run(out);
     gen_race_script(&c, &r, lines, out);
 }
+
+void gen_growth_load(uint64_t seed, unsigned lines, const growth *size, text *out)
+{
+    static rig r;
+    chance c = chance_of(seed, 0);
+    gen_growth_rig(&c, size, &r);
+    gen_print_rig(&r, out);
+    add_run(out);
+    gen_growth_script(&c, &r, lines, out);
+}

@@ -26,6 +26,13 @@ void gen_entries_input(uint64_t seed, uint64_t index, text *out);
 void gen_ticks_load(uint64_t seed, unsigned ticks, text *out);
 void gen_mixed_load(uint64_t seed, unsigned lines, text *out);
 
+/* The same for a rig of that size (2 tasks at least): so many lines, nearly all of which do the same work whatever the size. */
+typedef struct {
+    unsigned tasks, a_lines, rows;
+} growth;
+
+void gen_growth_load(uint64_t seed, unsigned lines, const growth *size, text *out);
+
 /* ---- Right rigs (gen_rig.c) ---- */
 
 typedef enum { SIZE_SMALL, SIZE_MEDIUM, SIZE_FULL } rig_size;
@@ -43,6 +50,16 @@ void gen_race_rig(chance *c, rig *out);
 
 /* 64 tasks and a cycle of 15 flags, whose tick can serve 79. */
 void gen_full_serving_rig(chance *c, rig *out);
+
+/*
+ * A rig of just that size.  Of the tasks under task 1 every third stays
+ * inactive; the others start when they are scheduled.
+ */
+void gen_growth_rig(chance *c, const growth *size, rig *out);
+
+enum { SIGNALLED_MAX = 40, NEVER_SIGNALLED = FLAGS_MAX }; /* flags of a growth rig's conditions */
+
+bool growth_stays(unsigned task);
 
 void gen_print_rig(const rig *r, text *out);
 
@@ -62,6 +79,9 @@ void gen_full_serving_script(chance *c, const rig *r, text *out);
 
 /* Plays a race rig: keeps its tasks ready, starts runners together, cancels them together. */
 void gen_race_script(chance *c, const rig *r, unsigned lines, text *out);
+
+/* Plays a growth rig: puts its tasks to waits of both kinds, then ticks, signals and reads by turns. */
+void gen_growth_script(chance *c, const rig *r, unsigned lines, text *out);
 
 /* The lines of entries.h among the runner's. */
 void gen_entries_script(chance *c, const rig *r, unsigned lines, text *out);

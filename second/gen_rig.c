@@ -427,6 +427,54 @@ void gen_full_serving_rig(chance *c, rig *out)
     make_rows(c, out, likely(c, 30) ? SIZE_FULL : SIZE_SMALL);
 }
 
+/* ---- Rigs of a given size, to measure how cost grows ---- */
+
+enum { FIRST_ACTIVATION = SIGNALLED_MAX + 1, FIRST_MINOR = FIRST_ACTIVATION + TASKS_MAX, MINORS = 20 };
+
+/* So many A lines for one task, over positions 0 to 15: latched conditions on flags that the script signals. */
+static void give_a_lines(chance *c, rig *r, unsigned task, unsigned lines)
+{
+    bool stays = growth_stays(task);
+    if (stays && lines > 0) {
+        add_condition(r, task, 0, true, true);
+        add_one_flag(r, task, 0, NEVER_SIGNALLED);
+        lines--;
+    }
+    for (unsigned p = 1; p < POSITIONS && lines > 0; p++) {
+        flag_set set = {{0}};
+        unsigned here = (lines + POSITIONS - 1 - p) / (POSITIONS - p);
+        for (unsigned n = 0; n < here; n++) {
+            unsigned flag = pick(c, 1, SIGNALLED_MAX);
+            n -= set.marked[flag];
+            set.marked[flag] = 1;
+        }
+        add_condition(r, task, p, true, stays);
+        add_flags(r, task, p, &set);
+        lines -= here;
+    }
+}
+
+bool growth_stays(unsigned task)
+{
+    return task % 3 == 0;
+}
+
+void gen_growth_rig(chance *c, const growth *size, rig *out)
+{
+    memset(out, 0, sizeof *out);
+    out->tasks = (uint8_t)size->tasks;
+    out->flags = FLAGS_MAX;
+    for (unsigned t = 1; t <= size->tasks; t++)
+        out->task[t] = (rig_task){.controller = t > 1, .priority = t > 1 ? 20 : 10, .activation = (uint8_t)(SIGNALLED_MAX + t)};
+    for (unsigned t = 2; t <= size->tasks; t++)
+        give_a_lines(c, out, t, (size->a_lines - out->a_lines) / (size->tasks - t + 1));
+    for (unsigned k = 0; k < CYCLES; k++)
+        out->cycle[k] = (rig_cycle){.flags = 1, .flag = {(uint8_t)(FIRST_MINOR + k % MINORS)}};
+    for (unsigned k = 0; k < size->rows; k++)
+        out->row[out->rows++] = (rig_row){.sender_sub = 1, .receiver = (uint8_t)(1 + k % ADDRESS_MAX), .receiver_sub = 1,
+                                          .words = (uint8_t)(1 + k % ROW_WORDS_MAX), .period = 4, .phase = (uint8_t)(k % 4)};
+}
+
 void gen_print_rig(const rig *r, text *out)
 {
     static uint8_t file[RIG_FILE_MAX];

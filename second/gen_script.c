@@ -453,6 +453,28 @@ void gen_race_script(chance *c, const rig *r, unsigned lines, text *out)
     }
 }
 
+void gen_growth_script(chance *c, const rig *r, unsigned lines, text *out)
+{
+    static player p;
+    unsigned flag = 0;
+    play(&p, c, r, out);
+    for (unsigned t = 2; t <= r->tasks; t++) {
+        call(&p, 'S', t, 0);
+        if (p.e.running == t && t % 3 == 1)
+            call(&p, 'R', COUNT_MAX - t, 0);
+        else if (p.e.running == t)
+            call(&p, 'N', NEVER_SIGNALLED, 1);
+    }
+    for (unsigned i = 0; i < lines; i += 5) {
+        flag = flag % SIGNALLED_MAX + 1;
+        call(&p, 'K', 0, 0);
+        call(&p, 'G', flag, 1);
+        call(&p, 'Q', flag, 0);
+        call(&p, 'G', flag, 0);
+        call(&p, 'R', 0, 0);
+    }
+}
+
 /* ---- Entries ---- */
 
 static void entries_line(player *p)

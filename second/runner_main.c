@@ -2,17 +2,19 @@
 #include <stdio.h>
 #include <string.h>
 
+#include "rigtimes.h"
 #include "runner.h"
 #include "wordlist.h"
 #include "wordsums.h"
 
 static int usage(FILE *to, int status)
 {
-    fputs("usage: runner            rig, RUN and script on standard input; answers on standard output\n"
-          "       runner --echo-rig read a rig and write it back\n"
-          "       runner --entries  as the first, with the lines of entries.h besides\n"
-          "       runner --words    print all bus words and verdicts, as wordlist.h says\n"
-          "       runner --sums     print sums over them, as wordsums.h says\n",
+    fputs("usage: runner               rig, RUN and script on standard input; answers on standard output\n"
+          "       runner --echo-rig    read a rig and write it back\n"
+          "       runner --entries     as the first, with the lines of entries.h besides\n"
+          "       runner --words       print all bus words and verdicts, as wordlist.h says\n"
+          "       runner --sums        print sums over them, as wordsums.h says\n"
+          "       runner --rig-times   read and write a rig many times over, as rigtimes.h says\n",
           to);
     return status;
 }
@@ -30,6 +32,8 @@ int main(int argc, char **argv)
         done = wordlist_print(1);
     else if (argc == 2 && strcmp(argv[1], "--sums") == 0)
         done = wordsums_print();
+    else if (argc == 2 && strcmp(argv[1], "--rig-times") == 0)
+        done = rigtimes_print(0);
     else if (argc == 2 && strcmp(argv[1], "--help") == 0)
         return usage(stdout, 0);
     else

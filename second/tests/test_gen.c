@@ -46,6 +46,32 @@ static void right_rigs_are_right(void)
     }
 }
 
+/* A growth rig has just the size asked for, and its script is accepted throughout. */
+static void growth_rigs_have_their_size(void)
+{
+    static const growth sizes[] = {{2, 0, 0}, {16, 256, 16}, {16, 1024, 64}, {64, 256, 64}, {64, 1024, 64}, {64, 1024, 0}};
+    text in = {NULL, 0, 0}, out = {NULL, 0, 0};
+    static rig r;
+    for (unsigned i = 0; i < sizeof sizes / sizeof sizes[0]; i++) {
+        static tally t;
+        chance c = chance_of(8, i);
+        gen_growth_rig(&c, &sizes[i], &r);
+        CHECK_IS(rig_broken_rule(&r), RULE_KEPT);
+        CHECK_IS(r.tasks, sizes[i].tasks);
+        CHECK_IS(r.a_lines, sizes[i].a_lines);
+        CHECK_IS(r.rows, sizes[i].rows);
+        text_clear(&in);
+        gen_growth_load(8, 100, &sizes[i], &in);
+        memset(&t, 0, sizeof t);
+        tally_run(&t, &in, false, &out);
+        CHECK_IS(t.call['K'][ACCEPTED], 20);
+        CHECK_IS(t.call['G'][ACCEPTED], 40);
+        CHECK_IS(t.call['S'][ACCEPTED], sizes[i].tasks - 1);
+    }
+    text_free(&in);
+    text_free(&out);
+}
+
 /* Each rule is met by the input made for it, and the runner prints what the comparison expects. */
 static void rounds_of_inputs(void)
 {
@@ -76,5 +102,6 @@ void gen_tests(void)
 {
     RUN(same_seed_same_input);
     RUN(right_rigs_are_right);
+    RUN(growth_rigs_have_their_size);
     RUN(rounds_of_inputs);
 }
