@@ -81,6 +81,10 @@ def fill(text, holes):
     return re.sub('⟪(.*?)⟫', lambda m: holes[m.group(1)], text)
 
 
+def cites(text, name):
+    return re.search(rf'(?<![\w\-.]){re.escape(name)}(?![\w\-])', text)
+
+
 class Names:
     """Where the modules of a crate's functions, types and definitions are, seen from `crate`."""
 
@@ -249,10 +253,11 @@ class Entry:
         own = {p.name: p.v for p in self.parameters}
         uses = []
         for path, names, alias in re.findall(r'^ghost use (\S+?)(?:\.\{(.*)\}| as (\w+));$', self.source, re.M):
-            cited = [n for n in (names.split(', ') if names else [alias]) if re.search(rf'(?<![\w\-.]){re.escape(n)}(?![\w\-])', text)]
-            if cited == ['[]'] or not cited:
-                continue
-            uses.append(f'use {path} as spec-{alias}' if alias else f'use {path}.{{' + ', '.join(f'{n} as spec-{n}' for n in cited) + '}')
+            cited = [n for n in (names.split(', ') if names else [alias]) if n != '[]' and cites(text, n)]
+            if alias and cited:
+                uses.append(f'use {path} as spec-{alias}')
+            elif cited:
+                uses.append(f'use {path}.{{' + ', '.join(f'{n} as spec-{n}' for n in cited) + '}')
             own |= {n: 'spec-' + n for n in cited}
         return re.sub(r'(?<![\w\-.])[A-Za-z]\w*(?![\w\-])', lambda m: own.get(m.group(0), m.group(0)), text), uses
 

@@ -13,7 +13,21 @@ use Rattle.exec.specs.Promises.{twelve-exactly, refused-unchanged, stays-sound}
 use Rattle.exec.specs.declared.Exec.{Exec}
 use Rattle.exec.specs.declared.Step.{Step}
 use Rattle.host.specs.Told.{coded, Replies, BeginsFrom}
+use Rattle.host.specs.declared.Reply.{Reply}
 use Rattle.host.specs.declared.Coded.{Coded}
+
+-- the numbers of a step of the rules
+abbrev pub numbersOf : R.Step → Reply
+numbersOf s =
+    record {
+      refusal = s .answer .code;
+      line = 0;
+      served = s .answer .report .served;
+      words = s .answer .report .words;
+      value = s .answer .report .value;
+      count = s .next .count;
+      running = s .next .running;
+    }
 
 module _ (x : Exec) (k : R.Call) (r : Coded) (after : List ℕ) (p : Replies x k r after) where
   number : r .reply .refusal ≡ answerOf (p .step .answer) .code
@@ -21,6 +35,18 @@ module _ (x : Exec) (k : R.Call) (r : Coded) (after : List ℕ) (p : Replies x k
 
   same-record : r .exec ≡ p .step .exec
   same-record = ap (λ (c : Coded). c .exec) (p .told)
+
+  -- of a sound record, a host is told the numbers of the rules' step, and its buffer holds that step's words
+  pub told-rules : Sound x → (r .reply ≡ numbersOf (R.step (rigIn x) (view x) k)) × (after ≡ R.step (rigIn x) (view x) k .lent)
+  told-rules h =
+      ⊎-elim
+      (λ m.
+      let f = m .1 in
+      let e : coded (p .step) .reply ≡ numbersOf (R.step (rigIn x) (view x) k) =
+      λ i. numbersOf (record { next = f .next i; answer = f .answer i; lent = after }) in
+      (ap (λ (c : Coded). c .reply) (p .told) ∙ e, f .lent))
+      (λ m. absurd (m .0 h))
+      (p .meets .is)
 
   -- "A refused call returns the record unchanged and writes nothing"
   pub refused-keeps : r .reply .refusal ≢ 0 → (r .exec ≡ x) × (after ≡ R.lent k)
