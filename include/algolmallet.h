@@ -32,7 +32,8 @@
 extern "C" {
 #endif
 
-/* Opaque: what is in it is the library's. A host may copy it as bytes, to keep a state and come back to it. */
+/* Opaque: what is in it is the library's. A host may copy it as bytes, to keep a state and come back to it; the few bytes that
+ * alignment leaves between fields hold anything, so equal states need not be equal bytes. */
 typedef struct algolmallet_record algolmallet_record;
 
 /* The paper's refusal numbers, each "given exactly when". "For a call, 12 comes first, then the smallest number." */
