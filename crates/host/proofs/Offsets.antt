@@ -1,0 +1,35 @@
+-- THE LAYOUT that the C header declares: the size and the alignment of the record, and where each field of a reply begins, computed
+-- of the types that the exported functions' code has. A field that is added, moved or widened is refused here.
+use mathlib.Core.Path.{_≡_, refl}
+use mathlib.Core.List.{List, [], _∷_}
+use mathlib.Core.Option.{Option, some, none}
+use Prim.Native.Nat.{ℕ, zero, suc, _+_}
+use mir.Syntax.{Ty}
+use prog.Memory.{size, align, fieldOf}
+use Rattle.host.specs.Told.{recordSize, recordAlign}
+use Rattle.exec.proofs.Exec.Laws as record-laws
+use Rattle.host.proofs.Reply.Laws as reply-laws
+
+-- where field k begins; no type has one at a million
+abbrev at : Ty → ℕ → ℕ
+at τ k = elim (fieldOf τ k) as (λ _. ℕ) [ none ↦ 1000000 | some p ↦ p .1 ]
+
+-- where n fields begin, from field k on
+abbrev offsets : Ty → ℕ → ℕ → List ℕ
+offsets τ k zero = []
+offsets τ k (suc n) = at τ k ∷ offsets τ (suc k) n
+
+pub record-size : size record-laws.mir ≡ recordSize
+record-size = refl
+
+pub record-align : align record-laws.mir ≡ recordAlign
+record-align = refl
+
+pub reply-size : size reply-laws.mir ≡ 28
+reply-size = refl
+
+pub reply-align : align reply-laws.mir ≡ 4
+reply-align = refl
+
+pub reply-fields : offsets reply-laws.mir 0 7 ≡ 0 ∷ 4 ∷ 8 ∷ 12 ∷ 16 ∷ 20 ∷ 24 ∷ []
+reply-fields = refl

@@ -1,0 +1,147 @@
+/* Algolmallet for C hosts: the executive of an avionics training bench, on a record that the host keeps.
+ *
+ * Link with target/staticlib/libhost.a, which `rt staticlib host` proves and writes; it is for x86-64. The archive has the
+ * entries below and nothing else that can be seen from outside, keeps no memory of its own, uses no heap, and needs of the
+ * host only memcpy and memset. The names in quotes are the build paper's words.
+ *
+ * WHAT A HOST DOES. It keeps memory for one record, has algolmallet_start fill it from a rig file, and lends it to each
+ * call, "to be changed where it stands". Any bytes are a record: memory that was never started, or that was damaged, is
+ * refused by 12 and left as it is.
+ *
+ * WHAT A HOST OWES. No entry can test these, and the proofs rest on them:
+ *   - every pointer is valid and not null (also of a buffer with 0 words) and aligned for what it points to, the record by
+ *     algolmallet_record_align();
+ *   - behind a pointer is as much memory as the entry is told, and algolmallet_record_size() bytes behind the record's;
+ *   - the record and the buffers of one call lie apart;
+ *   - one caller at a time for each record; calls on different records do not touch each other;
+ *   - a bool is true or false.
+ * A call may use some 80 KB of stack.
+ *
+ * WHAT IS PROVED of each entry, for every record and every argument: the record after it, its reply and every word of the
+ * lent buffers are those that the paper's rules give (crates/host/specs/Told.antt). "A refused call returns the record
+ * unchanged and writes nothing." No call traps.
+ */
+#ifndef ALGOLMALLET_H
+#define ALGOLMALLET_H
+
+#include <stdbool.h>
+#include <stddef.h>
+#include <stdint.h>
+
+#ifdef __cplusplus
+extern "C" {
+#endif
+
+/* Opaque: what is in it is the library's. A host may copy it as bytes, to keep a state and come back to it; the few bytes that
+ * alignment leaves between fields hold anything, so equal states need not be equal bytes. */
+typedef struct algolmallet_record algolmallet_record;
+
+/* The paper's refusal numbers, each "given exactly when". "For a call, 12 comes first, then the smallest number." */
+enum algolmallet_refusal {
+    ALGOLMALLET_ACCEPTED = 0,
+    /* "a line .. has the wrong shape, or no LF; empty file (line 1)" */
+    ALGOLMALLET_WRONG_SHAPE = 1,
+    /* "a number is outside its size; file too long (line 0, tested first)" */
+    ALGOLMALLET_OUTSIDE_SIZE = 2,
+    /* "a record is out of order or repeated" */
+    ALGOLMALLET_OUT_OF_ORDER = 3,
+    /* "a whole-file rule is broken (line 0)" */
+    ALGOLMALLET_RULE_BROKEN = 4,
+    /* "any call on a record but the tick .., while no task is running" */
+    ALGOLMALLET_NOBODY_RUNS = 5,
+    /* "no such task, flag or row" */
+    ALGOLMALLET_NO_SUCH = 6,
+    /* "caller is not the named task's controller; signal of an activation or minor-cycle flag; wait on or reading of a
+     * minor-cycle flag" */
+    ALGOLMALLET_NOT_ALLOWED = 7,
+    /* "schedule of an invoked task, cancel of an uninvoked one, terminate of one not active" */
+    ALGOLMALLET_WRONG_STATE = 8,
+    /* "waking count above 2,147,483,647; tick at that count" */
+    ALGOLMALLET_COUNT_TOO_HIGH = 9,
+    /* "a lent buffer has not the length that this paper states for it" */
+    ALGOLMALLET_WRONG_LENGTH = 10,
+    /* "a word's field, an expected address or a status image is outside its size": of the word entries, no call's */
+    ALGOLMALLET_WORD_OUTSIDE_SIZE = 11,
+    /* "the record handed in is not sound" */
+    ALGOLMALLET_NOT_SOUND = 12
+};
+
+/* What a call answers. After a refusal `served`, `words` and `value` are 0. */
+typedef struct {
+    uint32_t refusal; /* enum algolmallet_refusal */
+    uint32_t line;    /* of a start refused by 1 to 4: the rig file's line, 0 for the whole file; else 0 */
+    uint32_t served;  /* flag changes served, "at most 79" */
+    uint32_t words;   /* bus words written by a tick */
+    uint32_t value;   /* of a flag read, 0 or 1 */
+    uint32_t count;   /* the count after the call, as the record has it; 0 after a refused start */
+    uint32_t running; /* the running task after the call, as the record has it, 0 for none */
+} algolmallet_reply;
+
+/* The library's side of these offsets is proved in crates/host/proofs/Offsets.antt. */
+#ifdef __cplusplus
+#define ALGOLMALLET_HOLDS(fact, text) static_assert(fact, text)
+#else
+#define ALGOLMALLET_HOLDS(fact, text) _Static_assert(fact, text)
+#endif
+ALGOLMALLET_HOLDS(sizeof(algolmallet_reply) == 28, "the size of a reply");
+ALGOLMALLET_HOLDS(offsetof(algolmallet_reply, served) == 8, "the layout of a reply");
+ALGOLMALLET_HOLDS(offsetof(algolmallet_reply, running) == 24, "the layout of a reply");
+ALGOLMALLET_HOLDS(sizeof(size_t) == 8, "the library is for x86-64");
+#undef ALGOLMALLET_HOLDS
+
+/* The bytes of a record, and what its address must be a multiple of (what malloc gives always is). */
+size_t algolmallet_record_size(void);
+size_t algolmallet_record_align(void);
+
+/* Reads a rig file of `length` bytes and starts: "count 0, flags and conditions off, all tasks uninvoked; then task 1 is
+ * scheduled". What the memory held before does not matter. Refused by 1 to 4, with the line; then the memory holds "a record
+ * of all zeros, which every call refuses by 12". */
+algolmallet_reply algolmallet_start(algolmallet_record *r, const uint8_t *rig_file, size_t length);
+
+/* "unlatched conditions take the undesired value; inactive; if all conditions are as desired, none included, the task is
+ * activated". Refused by 12, 5, 6, 7, 8. */
+algolmallet_reply algolmallet_schedule(algolmallet_record *r, uint32_t task);
+
+/* "the named task and all its descendants become uninvoked and leave their chains; then activation flags of those that were
+ * active are queued off, by rising task number". Refused by 12, 5, 6, 7, 8. */
+algolmallet_reply algolmallet_cancel(algolmallet_record *r, uint32_t task);
+
+/* As finish, "for the named active task, taken out of any chain". Refused by 12, 5, 6, 7, 8. */
+algolmallet_reply algolmallet_terminate(algolmallet_record *r, uint32_t task);
+
+/* "(the running task): inactive, activation flag queued off". Refused by 12, 5. */
+algolmallet_reply algolmallet_finish(algolmallet_record *r);
+
+/* "the count rises by one; tasks due at it become dispatchable; the M list of cycle (count modulo 64) is queued, each flag
+ * on, in file order and served; bus words are written and their number answered". The buffer has room for at least 128
+ * words; "words past those written stay". "A tick needs no running task." Refused by 12, 9, 10. */
+algolmallet_reply algolmallet_tick(algolmallet_record *r, uint16_t *words, size_t room);
+
+/* "if the waking count is at or below the count, no wait; else waiting": until a count, or for a number of cycles from now.
+ * Refused by 12, 5, 9. */
+algolmallet_reply algolmallet_wait_until(algolmallet_record *r, uint32_t count);
+algolmallet_reply algolmallet_wait_for(algolmallet_record *r, uint32_t cycles);
+
+/* A wait for a flag's value. Latched: "no wait if it has it". Unlatched: "always waits for the next service of that flag with
+ * that value". Refused by 12, 5, 6, 7. */
+algolmallet_reply algolmallet_latched(algolmallet_record *r, uint32_t flag, bool value);
+algolmallet_reply algolmallet_unlatched(algolmallet_record *r, uint32_t flag, bool value);
+
+/* "the flag and value are queued", and served. Refused by 12, 5, 6, 7. */
+algolmallet_reply algolmallet_signal(algolmallet_record *r, uint32_t flag, bool value);
+
+/* Answers the flag's value. Refused by 12, 5, 6, 7. */
+algolmallet_reply algolmallet_read_flag(algolmallet_record *r, uint32_t flag);
+
+/* "Row k's block starts at word 33(k - 1) of the lent area: a tag word, then its data. The area has exactly 33 words a row;
+ * the caller's buffer has exactly the row's words." Read "copies the data out"; write "stores the data and the count modulo
+ * 65,536 as tag and touches no other word". Refused by 12, 5, 6, 10. */
+algolmallet_reply algolmallet_read_block(algolmallet_record *r, uint32_t row, const uint16_t *area, size_t area_words,
+                                         uint16_t *buffer, size_t words);
+algolmallet_reply algolmallet_write_block(algolmallet_record *r, uint32_t row, uint16_t *area, size_t area_words,
+                                          const uint16_t *data, size_t words);
+
+#ifdef __cplusplus
+}
+#endif
+#endif
