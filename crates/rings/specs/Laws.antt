@@ -86,11 +86,12 @@ module _ (l : Links) (s : ℕ) (seen : List ℕ) (ls : 64 < s) where
         record {
           ok = sym (k .same ∙ ring-end N P O 64 s ls left u e);
           marks = λ o. sym (k .marks ∙ ap (marked (at m)) (walk-end N P O 64 s ls left u e));
+          size = k .size;
         }
 
     refused : ringb N P O 64 s left u ≡ false → Walked l s seen (record { ok = false; seen = m })
     unfolding N P O
-    refused e = record { ok = sym (k .same ∙ e); marks = λ o. absurd (false≢true o) }
+    refused e = record { ok = sym (k .same ∙ e); marks = λ o. absurd (false≢true o); size = k .size }
 
     pub ring-spent : v ≢ s → left ≡ 0 → Walked l s seen (record { ok = false; seen = m })
     unfolding N P O
@@ -131,10 +132,10 @@ module _ (l : Links) where
       rw add-one
       (rings-next 64 (at (l .next)) (at (l .prev)) (at (l .on)) (at seen) (at (r .seen)) s ls k (sym (w .ok) ∙ o) (w .marks o))
 
-  pub all-refused : (seen : List ℕ) (s : ℕ) (r : Ring) → 64 < s → s < 322 → Walked l s seen r → r .ok ≡ false → AllWalked l r
+  pub all-refused : (seen : List ℕ) (s : ℕ) (r : Ring) → 64 < s → s < 322 → Walked l s seen r → r .ok ≡ false → AllWalked l (record { ok = false; seen = r .seen })
   all-refused seen s r ls hs w o =
       record {
-        yes = λ q. absurd (false≢true (sym o ∙ q));
+        yes = λ q. absurd (false≢true q);
         no = λ q a. false≢true (sym o ∙ w .ok ∙ a .ring s ls hs);
       }
 

@@ -3,6 +3,7 @@ use mathlib.Core.Path.{_≡_}
 use mathlib.Core.Bool.{Bool, true, false}
 use mathlib.Core.List.{List}
 use Prim.Native.Nat.{ℕ, _≤_}
+use lib.ListN.{length}
 use Rattle.chains.specs.Ops.{walk}
 use Rattle.chains.specs.Check.{ringb, marked, Rings, Accepted, taskb}
 use Rattle.chains.specs.Held.{at}
@@ -17,6 +18,7 @@ linksOf n p o = record { next = n; prev = p; on = o }
 pub record Walked (l : Links) (s : ℕ) (seen : List ℕ) (r : Ring) : Type 0 where
   pub ok : r .ok ≡ ringb (at (l .next)) (at (l .prev)) (at (l .on)) 64 s 64 s
   pub marks : r .ok ≡ true → at (r .seen) ≡ marked (at seen) (walk (at (l .next)) 64 64 s)
+  pub size : length (r .seen) ≡ 65
 
 -- every ring is tested, and the tasks on them are marked
 pub record AllWalked (l : Links) (r : Ring) : Type 0 where

@@ -17,10 +17,10 @@ use Rattle.rings.proofs.step_ok.Reads as step-ok-reads
 use Rattle.rings.proofs.wide.Reads as wide-reads
 
 abbrev Inv-loop : tie.InvT-loop
-Inv-loop next prev on s m₀ left₀ u₀ v₀ m left u v = RingAt (linksOf next prev on) s m₀ m left u v
+Inv-loop next prev on s seen₀ left₀ u₀ v₀ seen left u v = RingAt (linksOf next prev on) s seen₀ seen left u v
 
 abbrev μ-loop : tie.MeasureT-loop
-μ-loop next prev on s m₀ left₀ u₀ v₀ m left u v = left
+μ-loop next prev on s seen₀ left₀ u₀ v₀ seen left u v = left
 
 -- where the step is right, v is a task
 right : (c : tie.Else2 Inv-loop μ-loop) → stepb (at (c .before .before .before .before .before .before .before .args .prev .now)) (at (c .before .before .before .before .before .before .before .args .on .now)) 64 (c .before .before .before .before .before .before .before .args .s) (c .before .before .before .before .loop .u) (c .before .before .before .before .loop .v) ≡ true
@@ -49,15 +49,14 @@ wide-requires c κs = search needs
 loop-holds : tie.Need-loop-holds Inv-loop μ-loop
 loop-holds c =
     let s = c .before .before in
-    let z : length (s .args .seen) ≡ 65 = search needs in
-    rw (c .wide .ensures) (ring-start (linksOf (s .args .next .now) (s .args .prev .now) (s .args .on .now)) (s .args .s) (s .args .seen) (s .pre .0) z)
+    rw (c .wide .ensures) (ring-start (linksOf (s .args .next .now) (s .args .prev .now) (s .args .on .now)) (s .args .s) (s .args .seen .now) (s .pre .0) (s .pre .2))
 
 -- src/lib.rt:50:13
 returns : tie.Need-returns Inv-loop μ-loop
 returns c =
     let d = c .before .before in
     let s = c .before .before .before .before .before in
-    ring-spent (linksOf (s .args .next .now) (s .args .prev .now) (s .args .on .now)) (s .args .s) (s .args .seen) (s .pre .0) (d .loop .m) (d .loop .left) (d .loop .u) (d .loop .v) (d .loop .inv) (c .before .loop-test .taken) (c .if1 .taken)
+    ring-spent (linksOf (s .args .next .now) (s .args .prev .now) (s .args .on .now)) (s .args .s) (s .args .seen .now) (s .pre .0) (d .loop .seen) (d .loop .left) (d .loop .u) (d .loop .v) (d .loop .inv) (c .before .loop-test .taken) (c .if1 .taken)
 
 -- src/lib.rt:52:13
 step-ok-requires : tie.Need-step-ok-requires Inv-loop μ-loop
@@ -68,11 +67,11 @@ returns-2 : tie.Need-returns-2 Inv-loop μ-loop
 returns-2 c =
     let d = c .before .before .before .before in
     let s = c .before .before .before .before .before .before .before in
-    ring-wrong (linksOf (s .args .next .now) (s .args .prev .now) (s .args .on .now)) (s .args .s) (s .args .seen) (s .pre .0) (d .loop .m) (d .loop .left) (d .loop .u) (d .loop .v) (d .loop .inv) (c .before .before .before .loop-test .taken) (sym (c .before .step-ok .ensures) ∙ not-true (c .before .step-ok .result) (c .if2 .taken))
+    ring-wrong (linksOf (s .args .next .now) (s .args .prev .now) (s .args .on .now)) (s .args .s) (s .args .seen .now) (s .pre .0) (d .loop .seen) (d .loop .left) (d .loop .u) (d .loop .v) (d .loop .inv) (c .before .before .before .loop-test .taken) (sym (c .before .step-ok .ensures) ∙ not-true (c .before .step-ok .result) (c .if2 .taken))
 
 -- src/lib.rt:55:9
-array-write-m : tie.Need-array-write-m Inv-loop μ-loop
-array-write-m c = omega (arith, task c)
+element-write-seen : tie.Need-element-write-seen Inv-loop μ-loop
+element-write-seen c = omega (arith, task c)
 
 -- src/lib.rt:56:9
 sub-left : tie.Need-sub-left Inv-loop μ-loop
@@ -101,7 +100,7 @@ loop-again c =
     let d = c .before .before .before .before .before .before in
     let s = c .before .before .before .before .before .before .before .before .before in
     rw (c .wide2 .ensures)
-    (ring-turn (linksOf (s .args .next .now) (s .args .prev .now) (s .args .on .now)) (s .args .s) (s .args .seen) (s .pre .0) (d .loop .m) (d .loop .left) (d .loop .u) (d .loop .v) (d .loop .inv)
+    (ring-turn (linksOf (s .args .next .now) (s .args .prev .now) (s .args .on .now)) (s .args .s) (s .args .seen .now) (s .pre .0) (d .loop .seen) (d .loop .left) (d .loop .u) (d .loop .v) (d .loop .inv)
     (c .before .before .before .before .before .loop-test .taken) (c .before .before .before .before .if1 .left) (right e))
 
 -- src/lib.rt:60:18
@@ -122,7 +121,7 @@ returns-3 c =
     let d = c .before .before .before in
     let s = c .before .before .before .before .before .before in
     rw (c .wide3 .ensures)
-    (ring-over (linksOf (s .args .next .now) (s .args .prev .now) (s .args .on .now)) (s .args .s) (s .args .seen) (s .pre .0) (d .loop .m) (d .loop .left) (d .loop .u) (d .loop .v) (d .loop .inv) (c .before .before .loop-test .left))
+    (ring-over (linksOf (s .args .next .now) (s .args .prev .now) (s .args .on .now)) (s .args .s) (s .args .seen .now) (s .pre .0) (d .loop .seen) (d .loop .left) (d .loop .u) (d .loop .v) (d .loop .inv) (c .before .before .loop-test .left))
 
 pub walk-ring-spec : {M : Type 1} → statement M
 walk-ring-spec =
@@ -137,7 +136,7 @@ walk-ring-spec =
     returns
     step-ok-requires
     returns-2
-    array-write-m
+    element-write-seen
     sub-left
     mul-wide-2
     element-copy-out-wide-2
