@@ -240,7 +240,8 @@ pub fn wake(links: Links, state: &mut [u8; 65], s: usize) -> Links
 }
 
 // The last queued is taken off and served, until the queue is empty. States and links are locals: two fields of one
-// struct cannot be lent at once, and a call by value would copy the state for each flag.
+// struct cannot be lent at once, and a call by value would copy the state for each flag. The links are copied only where
+// somebody waits.
 pub fn serve(mut st: State, queue: Queue, rig: Rig) -> Done
     requires { ⌜ Begins rig st queue ⌝ }
     ensures { λ r. ⌜ Emptied rig st queue r ⌝ }
@@ -258,7 +259,6 @@ pub fn serve(mut st: State, queue: Queue, rig: Rig) -> Done
         st.value[f as usize] = v;
         steps::drive(&rig.atask, &rig.apos, &rig.aflag, n, f, v, &mut st.cond);
         let c = 64 + 2 * (f as usize) + (v as usize);
-        // the links are copied only where somebody waits
         if links.next[c] as usize != c {
             links = wake(links, &mut state, c);
         }
