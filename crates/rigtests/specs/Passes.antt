@@ -1,6 +1,6 @@
 -- The tests of a table's entries as the loops that do not leave early compute them, and that together they say what the tests
 -- of Tests.antt say.
-use mathlib.Core.Path.{_≡_, refl, sym, _∙_, ap}
+use mathlib.Core.Path.{_≡_, refl, sym, _∙_, ap, subst}
 use mathlib.Core.Bool.{Bool, true, false, cond, _&&_, _||_}
 use mathlib.Core.List.{List}
 use Prim.Native.Nat.{ℕ, _+_, _-_, _*_, _≤_, _<_}
@@ -136,35 +136,47 @@ module _ (low n high : ℕ) where
   pub within-above : high < n → within low n high ≡ false
   within-above a = rw (lt-leb n high a) (and-no (leb low n))
 
--- of two lines whose positions and flags are below 256, the later has the larger key
+-- of two lines whose positions and flags are bytes, the later has the larger key
 module _ (t p f u q h : ℕ) (np : p < 256) (nf : f < 256) (nq : q < 256) (nh : h < 256) where
-  pub key-rises : lineKey t p f < lineKey u q h → risesTest t p f u q h ≡ true
+  key-rises : lineKey t p f < lineKey u q h → risesTest t p f u q h ≡ true
   key-rises l =
       by-eqb t u (λ b. cond b (cond (eqb p q) (ltb f h) (ltb p q)) (ltb t u) ≡ true)
       (λ e. by-eqb p q (λ b. cond b (ltb f h) (ltb p q) ≡ true) (λ d. lt-ltb f h (omega arith)) (λ d. lt-ltb p q (omega arith)))
       (λ e. lt-ltb t u (omega arith))
 
-  pub key-not : lineKey u q h ≤ lineKey t p f → risesTest t p f u q h ≡ false
+  key-not : lineKey u q h ≤ lineKey t p f → risesTest t p f u q h ≡ false
   key-not l =
       by-eqb t u (λ b. cond b (cond (eqb p q) (ltb f h) (ltb p q)) (ltb t u) ≡ false)
       (λ e. by-eqb p q (λ b. cond b (ltb f h) (ltb p q) ≡ false) (λ d. le-ltb f h (omega arith)) (λ d. le-ltb p q (omega arith)))
       (λ e. le-ltb t u (omega arith))
 
--- a line and the one before it
-module _ (atask apos aflag : List ℕ) (k : ℕ) (some : 1 ≤ k)
-    (np : at apos (k - 1) < 256) (nf : at aflag (k - 1) < 256) (nq : at apos k < 256) (nh : at aflag k < 256) where
-  abbrev keyAt : ℕ → ℕ
-  keyAt j = lineKey (at atask j) (at apos j) (at aflag j)
+-- A turn of the loop over the lines: a line and the one before it, by their keys as the code has them.
+module _ (atask apos aflag : List ℕ) (bad new k a b : ℕ) (some : 1 ≤ k)
+    (before : (a ≡ lineKey (at atask (k - 1)) (at apos (k - 1)) (at aflag (k - 1))) × ((at apos (k - 1) < 256) × (at aflag (k - 1) < 256)))
+    (this : (b ≡ lineKey (at atask k) (at apos k) (at aflag k)) × ((at apos k < 256) × (at aflag k < 256))) where
+  abbrev Lines : ℕ → ℕ → Type 0
+  Lines x i = Passed x i (lineRises atask apos aflag)
 
-  same : k - 1 + 1 ≡ k
-  same = omega (arith, some)
+  this-one : k - 1 + 1 ≡ k
+  this-one = omega (arith, some)
 
-  pub line-rises : keyAt (k - 1) < keyAt k → lineRises atask apos aflag (k - 1) ≡ true
-  line-rises l =
-      rw same
-      (key-rises (at atask (k - 1)) (at apos (k - 1)) (at aflag (k - 1)) (at atask k) (at apos k) (at aflag k) np nf nq nh l)
+  after : k - 1 + 1 ≡ k + 1 - 1
+  after = omega (arith, some)
 
-  pub line-not : keyAt k ≤ keyAt (k - 1) → lineRises atask apos aflag (k - 1) ≡ false
-  line-not l =
-      rw same
-      (key-not (at atask (k - 1)) (at apos (k - 1)) (at aflag (k - 1)) (at atask k) (at apos k) (at aflag k) np nf nq nh l)
+  pub lines-next : Lines bad (k - 1) → a < b → new ≡ bad → Lines new (k + 1 - 1)
+  lines-next p l q =
+      subst (Lines new) after
+      (passed-next (k - 1) (lineRises atask apos aflag) p
+      (rw this-one
+      (key-rises (at atask (k - 1)) (at apos (k - 1)) (at aflag (k - 1)) (at atask k) (at apos k) (at aflag k)
+      (before .1 .0) (before .1 .1) (this .1 .0) (this .1 .1) (omega (arith, before .0, this .0, l))))
+      q)
+
+  pub lines-not : b ≤ a → new ≡ 1 → Lines new (k + 1 - 1)
+  lines-not l q =
+      subst (Lines new) after
+      (passed-not (k - 1) (lineRises atask apos aflag)
+      (rw this-one
+      (key-not (at atask (k - 1)) (at apos (k - 1)) (at aflag (k - 1)) (at atask k) (at apos k) (at aflag k)
+      (before .1 .0) (before .1 .1) (this .1 .0) (this .1 .1) (omega (arith, before .0, this .0, l))))
+      q)

@@ -3,8 +3,8 @@
 ghost use mathlib.Core.Path.{_≡_};
 ghost use mathlib.Core.Bool.{not, cond, _&&_, _||_};
 ghost use Prim.Native.Nat.{ℕ, _+_, _-_, _*_, _<_, _≤_};
-ghost use lib.Dec.{eqb, ltb, leb};
-ghost use lib.ListN.{length, getD};
+ghost use lib.Dec.{eqb};
+ghost use lib.ListN.{length};
 ghost use Rattle.laws.specs.All.{all};
 ghost use Rattle.laws.specs.Owners.{owners, marks};
 ghost use Rattle.rigtests.specs.Tests.{at, place, within, smallOne, smallB, conditionsB, linesRiseB, flagTest, cycleRises, conditionTasksB, linesB, cycleSmall, climb, controllersB, notMinorB, placeOf, namedB, taskZeroTest, taskZerosB, lineZerosB};
@@ -49,7 +49,8 @@ pub fn small(l: &[u8; 65], top: u8) -> bool
     true
 }
 
-// Of these loops none leaves early: one that sets `bad` and goes on is tested many entries at once.
+// Here and below a loop over a long table marks what fails and goes on: one that does not leave early tests many entries at
+// once. Each entry is at most top.
 fn at_most(l: &[u8; 1040], top: u8) -> bool
     ensures { λ r. ⌜ r ≡ all 1040 (smallOne (now (l .entry)) top) ⌝ }
 {
@@ -64,6 +65,7 @@ fn at_most(l: &[u8; 1040], top: u8) -> bool
     bad == 0
 }
 
+// Each entry is at most the other table's at its place.
 fn under<'a>(a: &'a [u8; 1040], b: &'a [u8; 1040]) -> bool
     ensures { λ r. ⌜ r ≡ all 1040 (underOne (now (a .entry)) (now (b .entry))) ⌝ }
 {
@@ -94,13 +96,15 @@ pub fn conditions<'a>(
     under(desired, present)
 }
 
-// An A line's numbers as one, which is larger for a later line: by task, then position, then flag.
+// An A line's numbers as one, larger for a later line: by task, then position, then flag. That the last two are bytes is said
+// to the caller.
 fn key(t: u8, p: u8, f: u8) -> u32
     ensures { λ r. ⌜ (r ≡ lineKey t p f) × ((p < 256) × (f < 256)) ⌝ }
 {
     65536 * (t as u32) + 256 * (p as u32) + (f as u32)
 }
 
+// Each A line has a larger key than the one before it.
 pub fn lines_rise<'a>(
     n: usize,
     atask: &'a [u8; 1024],
@@ -147,7 +151,7 @@ pub fn cycle_rises(flags: [u8; 15]) -> bool
     true
 }
 
-// The entries at the places from to to are 0.
+// The entries are 0 from one place up to another.
 fn zeros(l: &[u8], from: usize, to: usize) -> bool
     requires { ⌜ to ≤ length (now l) ⌝ }
     ensures { λ r. ⌜ r ≡ all to (zeroFrom from (now (l .entry))) ⌝ }
@@ -174,6 +178,7 @@ pub fn condition_tasks(tasks: u8, present: &[u8; 1040]) -> bool
     zeros(present, top, 1040)
 }
 
+// Each of the first n entries is one of low to high.
 fn between(l: &[u8; 1024], n: usize, low: u8, high: u8) -> bool
     requires { ⌜ n ≤ 1024 ⌝ }
     ensures { λ r. ⌜ r ≡ all n (betweenOne low high (now (l .entry))) ⌝ }

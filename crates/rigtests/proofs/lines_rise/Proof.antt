@@ -1,10 +1,10 @@
 use borrow.Author.Needs.{needs}
 use mathlib.Core.Logic.{⊎-elim}
-use mathlib.Core.Path.{_≡_, subst}
-use Prim.Native.Nat.{ℕ, _+_, _-_, _≤_}
+use mathlib.Core.Path.{_≡_}
+use Prim.Native.Nat.{_-_, _≤_}
 use native.Mathlib.Omega.{arith}
-use Rattle.rigtests.specs.Tests.{at, lineRises, linesRiseB}
-use Rattle.rigtests.specs.Passes.{Passed, passed-none, passed-next, passed-not, line-rises, line-not}
+use Rattle.rigtests.specs.Tests.{lineRises, linesRiseB}
+use Rattle.rigtests.specs.Passes.{Passed, passed-none, lines-next, lines-not}
 use Rattle.rigtests.proofs.lines_rise.Statement.{statement}
 use Rattle.rigtests.proofs.lines_rise.Tie as tie
 use Rattle.rigtests.proofs.lines_rise.Reads as reads
@@ -78,14 +78,12 @@ loop-again : tie.Need-loop-again Inv-loop μ-loop
 loop-again c =
     let s = c .before .before .before .before .before .before .before .before .before .before .before .args in
     let d = c .before .before .before .before .before .before .before .before .before .before .loop in
-    let a = c .before .before .before .before .before .key .ensures in
-    let b = c .before .key2 .ensures in
-    let e : d .k - 1 + 1 ≡ d .k + 1 - 1 = omega (arith, d .inv .1 .0) in (
-      subst (λ (j : ℕ). Passed (c .if1 .bad) j (lineRises (s .atask .now) (s .apos .now) (s .aflag .now))) e
-          (⊎-elim
-          (λ w. passed-not _ _ (line-not (s .atask .now) (s .apos .now) (s .aflag .now) (d .k) (d .inv .1 .0) (a .1 .0) (a .1 .1) (b .1 .0) (b .1 .1) (omega (arith, a .0, b .0, w .0 .taken))) (w .1))
-          (λ w. passed-next _ _ (d .inv .0) (line-rises (s .atask .now) (s .apos .now) (s .aflag .now) (d .k) (d .inv .1 .0) (a .1 .0) (a .1 .1) (b .1 .0) (b .1 .1) (omega (arith, a .0, b .0, w .0 .left))) (w .1))
-          (c .if1 .came)),
+    let a = c .before .before .before .before .before .key in
+    let b = c .before .key2 in (
+      ⊎-elim
+          (λ w. lines-not (s .atask .now) (s .apos .now) (s .aflag .now) (d .bad) _ (d .k) _ _ (d .inv .1 .0) (a .ensures) (b .ensures) (w .0 .taken) (w .1))
+          (λ w. lines-next (s .atask .now) (s .apos .now) (s .aflag .now) (d .bad) _ (d .k) _ _ (d .inv .1 .0) (a .ensures) (b .ensures) (d .inv .0) (w .0 .left) (w .1))
+          (c .if1 .came),
       search needs,
     )
 
