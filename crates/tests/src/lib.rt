@@ -64,13 +64,15 @@ pub fn empty(table: &[u32; 65], many: usize) -> bool
     true
 }
 
+// The largest value of a condition.
 fn allowed(present: u8) -> u8
     ensures { λ r. ⌜ r ≡ cond (eqb present 1) 1 0 ⌝ }
 {
     if present == 1 { 1 } else { 0 }
 }
 
-// A condition has the value 0 or 1, and one that is not there 0.
+// A condition has the value 0 or 1, and one that is not there 0. The loop marks what fails and goes on: one that does not
+// leave early tests many entries at once.
 pub fn conds<'a>(present: &'a [u8; 1040], conds: &'a [u8; 1040]) -> bool
     ensures { λ r. ⌜ r ≡ condsB (now (present .entry)) (now (conds .entry)) ⌝ }
 {
