@@ -4,13 +4,12 @@ use mathlib.Core.Path.{_≡_, refl, sym, _∙_, ap, subst}
 use mathlib.Core.Bool.{Bool, true, false, cond, _&&_, _||_}
 use mathlib.Core.List.{List}
 use Prim.Native.Nat.{ℕ, _+_, _-_, _*_, _≤_, _<_}
-use native.Mathlib.Numerals.{add-one}
 use native.Mathlib.Omega.{arith}
 use lib.Dec.{eqb, leb, ltb, leb·zero}
 use borrow.Author.Tests.{eqb-true, eqb-false, leb-true, leb-false, ltb-true, ltb-false, le-leb, lt-leb, lt-ltb, le-ltb}
-use Rattle.laws.specs.Cases.{by, by-eqb, and-go, and-stop, and-yes, and-no, or-yes}
-use Rattle.laws.specs.All.{all, all-zero, all-not, all-all, all-same}
-use Rattle.laws.specs.Decides.{Is, is-eqb, is-leb, is-ltb, is-and, is-else, is-all, is-said, is-same}
+use Rattle.laws.specs.Cases.{by, by-eqb, and-go, and-stop, and-no, or-yes}
+use Rattle.laws.specs.All.{all, all-all, all-same, all-three, Passed, passed-next, passed-not}
+use Rattle.laws.specs.Decides.{is-eqb, is-leb, is-ltb, is-and, is-else, is-all, is-said, is-same}
 use Rattle.rigtests.specs.Tests.{at, within, smallOne, conditionsB, risesTest, lineRises, conditionTasksB, lineOne, linesB, lineZeroOne, lineZerosB}
 
 -- at most the other table's entry at its place
@@ -27,34 +26,6 @@ betweenOne low high l k = within low (at l k) high
 -- an A line's numbers as one
 abbrev pub lineKey : ℕ → ℕ → ℕ → ℕ
 lineKey t p f = 65536 * t + 256 * p + f
-
--- What such a loop keeps: `bad` is 0 exactly when each entry so far has passed. Where it begins, an entry that passes, one that
--- does not.
-abbrev pub Passed : ℕ → ℕ → (ℕ → Bool) → Type 0
-Passed bad i test = eqb bad 0 ≡ all i test
-
-pub passed-none : (test : ℕ → Bool) → Passed 0 0 test
-passed-none test = sym (all-zero test)
-
-pub passed-next : {bad new : ℕ} (i : ℕ) (test : ℕ → Bool) → Passed bad i test → test i ≡ true → new ≡ bad → Passed new (i + 1) test
-unfolding all
-passed-next i test p e q = rw q (p ∙ sym (rw add-one (rw e (and-yes (all i test)))))
-
-pub passed-not : {new : ℕ} (i : ℕ) (test : ℕ → Bool) → test i ≡ false → new ≡ 1 → Passed new (i + 1) test
-passed-not i test e q = rw q (sym (all-not (i + 1) test i (omega arith) e))
-
--- all of two tests at once
-is-self : (b : Bool) → Is b (b ≡ true)
-is-self b = ((λ e. e), (λ e. e))
-
-all-and : (n : ℕ) (p q : ℕ → Bool) → all n (λ k. p k && q k) ≡ (all n p && all n q)
-all-and n p q =
-    is-same
-    (is-said (is-all n (λ k h. is-and (is-self (p k)) (is-self (q k)))) (λ f. ((λ k h. f k h .0), (λ k h. f k h .1))) (λ w k h. (w .0 k h, w .1 k h)))
-    (is-and (is-all n (λ k h. is-self (p k))) (is-all n (λ k h. is-self (q k))))
-
-all-three : (n : ℕ) (p q r : ℕ → Bool) → all n (λ k. p k && (q k && r k)) ≡ (all n p && (all n q && all n r))
-all-three n p q r = all-and n p (λ k. q k && r k) ∙ ap (λ (x : Bool). all n p && x) (all-and n q r)
 
 pub conditions-each : (present latched desired : List ℕ)
     → conditionsB present latched desired ≡ (all 1040 (smallOne present 1) && (all 1040 (underOne latched present) && all 1040 (underOne desired present)))

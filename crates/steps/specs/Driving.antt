@@ -1,36 +1,15 @@
 -- A lines are driven in two parts, one after the other; and lines that are not of the flag change nothing.
 use mathlib.Core.Path.{_≡_, refl, sym, _∙_, ap}
-use mathlib.Core.Bool.{Bool, true, false, _||_}
+use mathlib.Core.Bool.{Bool, true, false}
 use mathlib.Core.List.{List}
 use Prim.Native.Nat.{ℕ, zero, suc, _+_, _<_, _≤_}
 use native.Mathlib.Omega.{arith}
-use native.Mathlib.Nat.{add-zero}
-use native.Mathlib.Numerals.{add-one}
 use lib.Dec.{eqb}
 use Rattle.laws.specs.Any.{any, any-not}
 use Rattle.laws.specs.Cases.{if-no}
-use Rattle.laws.specs.Iter.{iter, iter-next}
+use Rattle.laws.specs.Iter.{iter, iter-plus}
 use Rattle.rules.specs.Conditions.{drive}
 use Rattle.steps.specs.Post.{Lines}
-
--- k turns, and then d turns that count on from k
-iter-plus : {S : Type 0} (k d : ℕ) (step : ℕ → S → S) (s : S) → iter d (λ i. step (k + i)) (iter k step s) ≡ iter (k + d) step s
-unfolding iter
-iter-plus k zero step s = ap (λ n. iter n step s) (sym (add-zero k))
-iter-plus k (suc d) step s =
-    ap (step (k + d)) (iter-plus k d step s) ∙ sym (iter-next (k + d) step s) ∙ ap (λ n. iter n step s) (next k d)
-  where
-    next : (a b : ℕ) → a + b + 1 ≡ a + suc b
-    next a b = omega arith
-
--- a line that is not of the flag does not make one
-pub any-skip : (i : ℕ) (p : ℕ → Bool) → p i ≡ false → any i p ≡ any (i + 1) p
-unfolding any
-any-skip i p e = rw (add-one, e) (sym (or-false (any i p)))
-  where
-    or-false : (a : Bool) → (a || false) ≡ a
-    or-false true = refl
-    or-false false = refl
 
 -- fewer lines
 pub lines-fewer : (n m : ℕ) (atask apos : List ℕ) → m ≤ n → Lines n atask apos → Lines m atask apos

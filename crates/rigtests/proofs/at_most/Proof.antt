@@ -4,8 +4,8 @@ use mathlib.Core.Logic.{⊎-elim}
 use mathlib.Core.Path.{_≡_}
 use Prim.Native.Nat.{_≤_, _-_}
 use native.Mathlib.Omega.{arith}
+use Rattle.laws.specs.All.{Passed, passed-none, passed-next, passed-not}
 use Rattle.rigtests.specs.Tests.{smallOne}
-use Rattle.rigtests.specs.Passes.{Passed, passed-none, passed-next, passed-not}
 use Rattle.rigtests.proofs.at_most.Statement.{statement}
 use Rattle.rigtests.proofs.at_most.Tie as tie
 use Rattle.rigtests.proofs.at_most.Reads as reads

@@ -3,7 +3,8 @@ use mathlib.Core.Logic.{⊎-elim}
 use mathlib.Core.Path.{_≡_, _∙_}
 use Prim.Native.Nat.{_≤_, _-_}
 use native.Mathlib.Omega.{arith}
-use Rattle.rigtests.specs.Passes.{betweenOne, Passed, passed-none, passed-next, passed-not, within-yes, within-below, within-above}
+use Rattle.laws.specs.All.{Passed, passed-none, passed-next, passed-not}
+use Rattle.rigtests.specs.Passes.{betweenOne, within-yes, within-below, within-above}
 use Rattle.rigtests.proofs.between.Statement.{statement}
 use Rattle.rigtests.proofs.between.Tie as tie
 use Rattle.rigtests.proofs.between.Reads as reads

@@ -3,8 +3,9 @@ use mathlib.Core.Logic.{⊎-elim}
 use mathlib.Core.Path.{_≡_}
 use Prim.Native.Nat.{_-_, _≤_}
 use native.Mathlib.Omega.{arith}
+use Rattle.laws.specs.All.{Passed, passed-none}
 use Rattle.rigtests.specs.Tests.{lineRises, linesRiseB}
-use Rattle.rigtests.specs.Passes.{Passed, passed-none, lines-next, lines-not}
+use Rattle.rigtests.specs.Passes.{lines-next, lines-not}
 use Rattle.rigtests.proofs.lines_rise.Statement.{statement}
 use Rattle.rigtests.proofs.lines_rise.Tie as tie
 use Rattle.rigtests.proofs.lines_rise.Reads as reads

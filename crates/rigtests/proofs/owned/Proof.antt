@@ -5,9 +5,9 @@ use mathlib.Core.Bool.{not}
 use borrow.Author.Tests.{eq-eqb, ne-eqb}
 use Prim.Native.Nat.{_≤_, _-_}
 use native.Mathlib.Omega.{arith}
+use Rattle.laws.specs.All.{Passed, passed-none, passed-next, passed-not}
 use Rattle.laws.specs.Cases.{or-skip, or-yes}
 use Rattle.rigtests.specs.Tables.{hasOwnerOne, hasOwnerB}
-use Rattle.rigtests.specs.Passes.{Passed, passed-none, passed-next, passed-not}
 use Rattle.rigtests.proofs.owned.Statement.{statement}
 use Rattle.rigtests.proofs.owned.Tie as tie
 use Rattle.rigtests.proofs.owned.Reads as reads

@@ -4,7 +4,8 @@ use mathlib.Core.Logic.{⊎-elim}
 use mathlib.Core.Path.{_≡_}
 use Prim.Native.Nat.{_≤_, _-_}
 use native.Mathlib.Omega.{arith}
-use Rattle.rigtests.specs.Passes.{underOne, Passed, passed-none, passed-next, passed-not}
+use Rattle.laws.specs.All.{Passed, passed-none, passed-next, passed-not}
+use Rattle.rigtests.specs.Passes.{underOne}
 use Rattle.rigtests.proofs.under.Statement.{statement}
 use Rattle.rigtests.proofs.under.Tie as tie
 use Rattle.rigtests.proofs.under.Reads as reads

@@ -4,8 +4,9 @@ use mathlib.Core.Path.{sym, _∙_}
 use Prim.Native.Nat.{_≤_, _-_}
 use native.Mathlib.Omega.{arith}
 use borrow.Author.Tests.{eq-eqb, ne-eqb, le-ltb}
+use Rattle.laws.specs.All.{Passed, passed-next, passed-not}
 use Rattle.laws.specs.Cases.{or-skip}
-use Rattle.rigtests.specs.Passes.{zeroFrom, Passed, passed-next, passed-not, zeros-start, zeros-end}
+use Rattle.rigtests.specs.Passes.{zeroFrom, zeros-start, zeros-end}
 use Rattle.rigtests.proofs.zeros.Statement.{statement}
 use Rattle.rigtests.proofs.zeros.Tie as tie
 use Rattle.rigtests.proofs.zeros.Reads as reads

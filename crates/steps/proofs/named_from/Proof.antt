@@ -7,7 +7,7 @@ use native.Mathlib.Omega.{arith}
 use lib.Dec.{eqb}
 use Rattle.laws.specs.Any.{any, any-zero, any-at}
 use Rattle.steps.specs.View.{past}
-use Rattle.steps.specs.Driving.{any-skip}
+use Rattle.laws.specs.Any.{any-skip}
 use Rattle.steps.proofs.named_from.Statement.{statement}
 use Rattle.steps.proofs.named_from.Tie as tie
 use Rattle.steps.proofs.named_from.Reads as reads

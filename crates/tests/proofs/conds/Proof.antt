@@ -4,8 +4,8 @@ use mathlib.Core.Logic.{⊎-elim}
 use mathlib.Core.Path.{_≡_}
 use Prim.Native.Nat.{_≤_, _-_}
 use native.Mathlib.Omega.{arith}
+use Rattle.laws.specs.All.{Passed, passed-none, passed-next, passed-not}
 use Rattle.tests.specs.Tests.{condOne}
-use Rattle.tests.specs.Laws.{Passed, passed-none, passed-next, passed-not}
 use Rattle.tests.proofs.conds.Statement.{statement}
 use Rattle.tests.proofs.conds.Tie as tie
 use Rattle.tests.proofs.conds.Reads as reads
