@@ -23,7 +23,7 @@ use Rattle.script.specs.declared.Said.the-variants.{Schedule, Cancel, Terminate
 use Rattle.bench.specs.declared.Turn.{Turn}
 
 -- the letter of a verb
-unfoldable pub letterOf : Said → ℕ
+abbrev pub letterOf : Said → ℕ
 letterOf (Schedule t) = 83
 letterOf (Cancel t) = 88
 letterOf (Terminate t) = 90
@@ -61,12 +61,15 @@ unfoldable pub extra : ℕ → Report → List ℕ → List ℕ
 extra verb report words = cond (eqb verb 75) (take (report .words) words) (cond (eqb verb 81) (report .value ∷ []) [])
 
 -- the numbers of a line: answer, count, running task after the call; if accepted, what the call put out
-unfoldable pub numbersOf : ℕ → Exec → Answer → List ℕ → List ℕ
-numbersOf verb x (Accepted report) words = 0 ∷ x .st .count ∷ x .st .running ∷ extra verb report words
-numbersOf verb x (Refused n) words = n ∷ x .st .count ∷ x .st .running ∷ []
+unfoldable pub numbersOf : ℕ → Answer → ℕ → ℕ → List ℕ → List ℕ
+numbersOf verb (Accepted report) count running words = 0 ∷ count ∷ running ∷ extra verb report words
+numbersOf verb (Refused n) count running words = n ∷ count ∷ running ∷ []
 
-unfoldable pub answerText : ℕ → Step → List ℕ → List ℕ
-answerText verb s words = lineText (verb ∷ []) (numbersOf verb (s .exec) (s .answer) words)
+unfoldable pub textOf : ℕ → Answer → ℕ → ℕ → List ℕ → List ℕ
+textOf verb a count running words = lineText (verb ∷ []) (numbersOf verb a count running words)
+
+abbrev pub answerText : ℕ → Step → List ℕ → List ℕ
+answerText verb s words = textOf verb (s .answer) (s .exec .st .count) (s .exec .st .running) words
 
 -- the turn made a call: the record is the one that the call handed back, and its line was written at `at`
 pub record Answered (e : Exec) (verb : ℕ) (k : R.Call) (out : List ℕ) (at : ℕ) (r : Turn) (after : List ℕ) : Type 0 where

@@ -6,11 +6,11 @@ use mathlib.Core.List.{List, [], _∷_, _++_, append-assoc}
 use Prim.Native.Nat.{ℕ, _+_, _*_, _≤_, _<_, min}
 use native.Mathlib.Omega.{arith}
 use lib.Dec.{eqb, leb}
-use lib.ListN.{length, take, length-append, length-take, length-set, set}
+use lib.ListN.{length, take, replicate, length-append, length-take, length-set, set}
 use lib.Seq.{take-all}
 use borrow.Author.Tests.{eq-eqb, ne-eqb, leb-true, leb-false}
 use Rattle.laws.specs.Cases.{by, if-yes, if-no}
-use Rattle.exec.specs.Call.{Meets}
+use Rattle.exec.specs.Call.{bit, Meets}
 use Rattle.exec.specs.declared.Exec.{Exec}
 use Rattle.exec.specs.declared.Report.{Report}
 use Rattle.exec.specs.declared.Step.{Step}
@@ -18,7 +18,9 @@ use Rattle.exec.specs.declared.Answer.{Answer}
 use Rattle.exec.specs.declared.Answer.the-variants.{Accepted, Refused}
 use Rattle.script.specs.Output.{fieldsText, lineText}
 use Rattle.script.specs.Written.{Wrote, wrote-then, wrote-as, wrote-none, byte-wrote, fields-none, fields-append, fields-length}
-use Rattle.bench.specs.Turn.{extra, numbersOf, answerText, room, Answered, Unasked}
+use Rattle.script.specs.declared.Said.{Said}
+use Rattle.script.specs.declared.Said.the-variants.{Schedule, Cancel, Terminate, Finish, Tick, Until, Cycles, Latched, Unlatched, Signal, Ask, Wrong}
+use Rattle.bench.specs.Turn.{letterOf, askedBy, extra, numbersOf, textOf, answerText, Answered, Unasked, Takes}
 use Rattle.bench.specs.declared.Turn.{Turn}
 use Rattle.rules.specs.Calls as R
 
@@ -26,41 +28,84 @@ abbrev pub numberOf : Answer → ℕ
 numberOf (Accepted report) = 0
 numberOf (Refused n) = n
 
--- the answer's line was written
-pub record Shown (s : Step) (verb : ℕ) (words out : List ℕ) (at : ℕ) (r : Turn) (after : List ℕ) : Type 0 where
-  pub exec : r .exec ≡ s .exec
-  pub wrote : Wrote out at (answerText verb s words) after (r .at)
+-- the call that a line asks for was made; only a tick writes to the words that it is lent
+abbrev pub Made : Exec → Said → List ℕ → Step → List ℕ → Type 0
+Made e (Schedule t) before s after = Meets e (R.schedule t) s []
+Made e (Cancel t) before s after = Meets e (R.cancel t) s []
+Made e (Terminate t) before s after = Meets e (R.terminate t) s []
+Made e Finish before s after = Meets e R.finish s []
+Made e Tick before s after = Meets e (R.tick before) s after
+Made e (Until t) before s after = Meets e (R.waitUntil t) s []
+Made e (Cycles n) before s after = Meets e (R.waitFor n) s []
+Made e (Latched f v) before s after = Meets e (R.latched f (bit v)) s []
+Made e (Unlatched f v) before s after = Meets e (R.unlatched f (bit v)) s []
+Made e (Signal f v) before s after = Meets e (R.signal f (bit v)) s []
+Made e (Ask f) before s after = Meets e (R.readFlag f) s []
+Made e Wrong before s after = Unit {0}
 
 -- no other verb prints words
 pub extra-other : (verb : ℕ) (report : Report) (ws vs : List ℕ) → verb ≢ 75 → extra verb report ws ≡ extra verb report vs
 unfolding extra
 extra-other verb report ws vs n = rw (ne-eqb verb 75 n)
 
-numbers-other : (verb : ℕ) (x : Exec) (a : Answer) (ws vs : List ℕ) → verb ≢ 75 → numbersOf verb x a ws ≡ numbersOf verb x a vs
+numbers-other : (verb : ℕ) (a : Answer) (count running : ℕ) (ws vs : List ℕ) → verb ≢ 75
+    → numbersOf verb a count running ws ≡ numbersOf verb a count running vs
 unfolding numbersOf
-numbers-other verb x (Accepted p) ws vs n = ap (λ (l : List ℕ). 0 ∷ x .st .count ∷ x .st .running ∷ l) (extra-other verb p ws vs n)
-numbers-other verb x (Refused k) ws vs n = refl
+numbers-other verb (Accepted p) count running ws vs n = ap (λ (l : List ℕ). 0 ∷ count ∷ running ∷ l) (extra-other verb p ws vs n)
+numbers-other verb (Refused k) count running ws vs n = refl
 
-text-other : (verb : ℕ) (s : Step) (ws vs : List ℕ) → verb ≢ 75 → answerText verb s ws ≡ answerText verb s vs
-unfolding answerText
-text-other verb s ws vs n = ap (lineText (verb ∷ [])) (numbers-other verb (s .exec) (s .answer) ws vs n)
+text-other : (verb : ℕ) (a : Answer) (count running : ℕ) (ws vs : List ℕ) → verb ≢ 75
+    → textOf verb a count running ws ≡ textOf verb a count running vs
+unfolding textOf
+text-other verb a count running ws vs n = ap (lineText (verb ∷ [])) (numbers-other verb a count running ws vs n)
 
--- a call that lends nothing
-pub answered : (e : Exec) (verb : ℕ) (k : R.Call) (s : Step) (ws out : List ℕ) (at : ℕ) (r : Turn) (after : List ℕ) → verb ≢ 75
-    → Meets e k s [] → Shown s verb ws out at r after → Answered e verb k out at r after
-answered e verb k s ws out at r after n m w =
-    record {
-      step = s;
-      words = [];
-      meets = m;
-      exec = w .exec;
-      wrote = wrote-as out after (answerText verb s ws) (answerText verb s []) at (r .at) (text-other verb s ws [] n) (w .wrote);
-    }
+-- the line of a call
+module _ (e : Exec) (s : Step) (ws out : List ℕ) (at p : ℕ) (after : List ℕ) where
+  lending-none : (verb : ℕ) (k : R.Call) → verb ≢ 75 → Meets e k s [] → Wrote out at (answerText verb s ws) after p
+      → Answered e verb k out at (record { exec = s .exec; at = p }) after
+  lending-none verb k n m w =
+      record {
+        step = s;
+        words = [];
+        meets = m;
+        exec = refl;
+        wrote =
+            wrote-as out after (answerText verb s ws) (answerText verb s []) at p
+            (text-other verb (s .answer) (s .exec .st .count) (s .exec .st .running) ws [] n) w;
+      }
 
--- a tick
-pub answered-words : (e : Exec) (verb : ℕ) (k : R.Call) (s : Step) (ws out : List ℕ) (at : ℕ) (r : Turn) (after : List ℕ)
-    → Meets e k s ws → Shown s verb ws out at r after → Answered e verb k out at r after
-answered-words e verb k s ws out at r after m w = record { step = s; words = ws; meets = m; exec = w .exec; wrote = w .wrote }
+  pub answered : (said : Said) → letterOf said ≢ 63 → Made e said (replicate 128 0) s ws → Wrote out at (answerText (letterOf said) s ws) after p
+      → Takes e (letterOf said) (askedBy said) out at (record { exec = s .exec; at = p }) after
+  unfolding askedBy
+  answered (Schedule t) n m w = lending-none 83 (R.schedule t) (λ q. omega arith) m w
+  answered (Cancel t) n m w = lending-none 88 (R.cancel t) (λ q. omega arith) m w
+  answered (Terminate t) n m w = lending-none 90 (R.terminate t) (λ q. omega arith) m w
+  answered Finish n m w = lending-none 70 R.finish (λ q. omega arith) m w
+  answered Tick n m w = record { step = s; words = ws; meets = m; exec = refl; wrote = w }
+  answered (Until t) n m w = lending-none 85 (R.waitUntil t) (λ q. omega arith) m w
+  answered (Cycles k) n m w = lending-none 82 (R.waitFor k) (λ q. omega arith) m w
+  answered (Latched f v) n m w = lending-none 76 (R.latched f (bit v)) (λ q. omega arith) m w
+  answered (Unlatched f v) n m w = lending-none 78 (R.unlatched f (bit v)) (λ q. omega arith) m w
+  answered (Signal f v) n m w = lending-none 71 (R.signal f (bit v)) (λ q. omega arith) m w
+  answered (Ask f) n m w = lending-none 81 (R.readFlag f) (λ q. omega arith) m w
+  answered Wrong n m w = absurd (n refl)
+
+-- the line that is none
+pub unasked : (e : Exec) (said : Said) (out : List ℕ) (at p : ℕ) (after : List ℕ) → letterOf said ≡ 63 → Wrote out at (63 ∷ 10 ∷ []) after p
+    → Takes e (letterOf said) (askedBy said) out at (record { exec = e; at = p }) after
+unfolding askedBy
+unasked e (Schedule t) out at p after q w = absurd (omega (arith, q))
+unasked e (Cancel t) out at p after q w = absurd (omega (arith, q))
+unasked e (Terminate t) out at p after q w = absurd (omega (arith, q))
+unasked e Finish out at p after q w = absurd (omega (arith, q))
+unasked e Tick out at p after q w = absurd (omega (arith, q))
+unasked e (Until t) out at p after q w = absurd (omega (arith, q))
+unasked e (Cycles n) out at p after q w = absurd (omega (arith, q))
+unasked e (Latched f v) out at p after q w = absurd (omega (arith, q))
+unasked e (Unlatched f v) out at p after q w = absurd (omega (arith, q))
+unasked e (Signal f v) out at p after q w = absurd (omega (arith, q))
+unasked e (Ask f) out at p after q w = absurd (omega (arith, q))
+unasked e Wrong out at p after q w = record { exec = refl; wrote = w }
 
 -- what is printed of words: never more than there are
 pub least-take : (n k : ℕ) (ws : List ℕ) → k ≡ min n (length ws) → take k ws ≡ take n ws
@@ -108,91 +153,83 @@ extra-length verb report ws h =
 
 -- ---- an answer's line: the verb, three numbers, the extra, LF
 
-abbrev pub headOf : Step → List ℕ
-headOf s = numberOf (s .answer) ∷ s .exec .st .count ∷ s .exec .st .running ∷ []
+abbrev pub headOf : Answer → ℕ → ℕ → List ℕ
+headOf a count running = numberOf a ∷ count ∷ running ∷ []
 
-module _ (s : Step) (verb : ℕ) (ws out : List ℕ) (at : ℕ) (h : length ws ≤ 128) (room-left : at + 2048 ≤ length out) where
-  module _ (m : List ℕ) (p : ℕ) (w : Wrote (set out at verb) (at + 1) (fieldsText (headOf s)) m p) where
-    begun : Wrote out at ((verb ∷ []) ++ fieldsText (headOf s)) m p
+module _ (verb : ℕ) (a : Answer) (count running : ℕ) (ws out : List ℕ) (at : ℕ) (h : length ws ≤ 128) (room-left : at + 2048 ≤ length out) where
+  head : List ℕ
+  head = (verb ∷ []) ++ fieldsText (headOf a count running)
+
+  module _ (m : List ℕ) (p : ℕ) (w : Wrote (set out at verb) (at + 1) (fieldsText (headOf a count running)) m p) where
+    begun : Wrote out at head m p
+    unfolding head
     begun =
-        let f = fields-length (headOf s) in
-        wrote-then out (set out at verb) m (verb ∷ []) (fieldsText (headOf s)) at (at + 1) p (omega arith) (byte-wrote out at verb (omega arith)) w
+        let f = fields-length (headOf a count running) in
+        wrote-then out (set out at verb) m (verb ∷ []) (fieldsText (headOf a count running)) at (at + 1) p (omega arith) (byte-wrote out at verb (omega arith)) w
 
     pub after-head : p + 1408 + 1 ≤ length m
+    unfolding head
     after-head =
-        let f = fields-length (headOf s) in
-        let a = begun .place in
-        let b = begun .size in
+        let f = fields-length (headOf a count running) in
+        let b = begun .place in
+        let d = begun .size in
         omega arith
 
     -- refused
-    pub shown-refused : (k : ℕ) → s .answer ≡ Refused k → Shown s verb ws out at (record { exec = s .exec; at = p + 1 }) (set m p 10)
-    unfolding answerText lineText numbersOf
+    pub shown-refused : (k : ℕ) → a ≡ Refused k → Wrote out at (textOf verb a count running ws) (set m p 10) (p + 1)
+    unfolding textOf lineText numbersOf head
     shown-refused k e =
-        let f = fields-length (headOf s) in
-        let a = begun .place in
+        let f = fields-length (headOf a count running) in
+        let b = begun .place in
         let z = after-head in
-        let t : (verb ∷ []) ++ (fieldsText (headOf s) ++ (10 ∷ [])) ≡ answerText verb s ws =
-        ap (λ (x : Answer). (verb ∷ []) ++ (fieldsText (numberOf x ∷ s .exec .st .count ∷ s .exec .st .running ∷ []) ++ (10 ∷ []))) e
-        ∙ sym (ap (λ (x : Answer). lineText (verb ∷ []) (numbersOf verb (s .exec) x ws)) e) in
-        record {
-          exec = refl;
-          wrote =
-              wrote-as out (set m p 10) (((verb ∷ []) ++ fieldsText (headOf s)) ++ (10 ∷ [])) (answerText verb s ws) at (p + 1)
-              (append-assoc (verb ∷ []) (fieldsText (headOf s)) (10 ∷ []) ∙ t)
-              (wrote-then out m (set m p 10) ((verb ∷ []) ++ fieldsText (headOf s)) (10 ∷ []) at p (p + 1) (omega arith) begun
-              (byte-wrote m p 10 (omega arith)));
-        }
+        let t : (verb ∷ []) ++ (fieldsText (headOf a count running) ++ (10 ∷ [])) ≡ textOf verb a count running ws =
+        ap (λ (x : Answer). (verb ∷ []) ++ (fieldsText (headOf x count running) ++ (10 ∷ []))) e
+        ∙ sym (ap (λ (x : Answer). lineText (verb ∷ []) (numbersOf verb x count running ws)) e) in
+        wrote-as out (set m p 10) (head ++ (10 ∷ [])) (textOf verb a count running ws) at (p + 1)
+        (append-assoc (verb ∷ []) (fieldsText (headOf a count running)) (10 ∷ []) ∙ t)
+        (wrote-then out m (set m p 10) head (10 ∷ []) at p (p + 1) (omega arith) begun (byte-wrote m p 10 (omega arith)))
 
     -- accepted
-    module _ (report : Report) (e : s .answer ≡ Accepted report) (o : List ℕ) (q : ℕ) (u : Wrote m p (fieldsText (extra verb report ws)) o q) where
-      both : Wrote out at (((verb ∷ []) ++ fieldsText (headOf s)) ++ fieldsText (extra verb report ws)) o q
+    module _ (report : Report) (e : a ≡ Accepted report) (o : List ℕ) (q : ℕ) (u : Wrote m p (fieldsText (extra verb report ws)) o q) where
+      both : Wrote out at (head ++ fieldsText (extra verb report ws)) o q
+      unfolding head
       both =
-          let f = fields-length (headOf s) in
+          let f = fields-length (headOf a count running) in
           let g = extra-length verb report ws h in
-          let a = begun .place in
-          wrote-then out m o ((verb ∷ []) ++ fieldsText (headOf s)) (fieldsText (extra verb report ws)) at p q (omega arith) begun u
+          let b = begun .place in
+          wrote-then out m o head (fieldsText (extra verb report ws)) at p q (omega arith) begun u
 
       pub after-extra : q < length o
       after-extra =
           let z = after-head in
           let g = extra-length verb report ws h in
-          let a = u .place in
-          let b = u .size in
+          let b = u .place in
+          let d = u .size in
           omega arith
 
-      pub shown-accepted : Shown s verb ws out at (record { exec = s .exec; at = q + 1 }) (set o q 10)
-      unfolding answerText lineText numbersOf
+      pub shown-accepted : Wrote out at (textOf verb a count running ws) (set o q 10) (q + 1)
+      unfolding textOf lineText numbersOf head
       shown-accepted =
           let x = extra verb report ws in
-          let f = fields-length (headOf s) in
+          let f = fields-length (headOf a count running) in
           let g = extra-length verb report ws h in
-          let a = both .place in
+          let b = both .place in
           let z = after-extra in
           let y = both .size in
-          let t : ((verb ∷ []) ++ fieldsText (headOf s)) ++ (fieldsText x ++ (10 ∷ [])) ≡ answerText verb s ws =
-          append-assoc (verb ∷ []) (fieldsText (headOf s)) (fieldsText x ++ (10 ∷ []))
-          ∙ ap (λ (l : List ℕ). (verb ∷ []) ++ l) (sym (append-assoc (fieldsText (headOf s)) (fieldsText x) (10 ∷ [])) ∙ ap (λ (l : List ℕ). l ++ (10 ∷ [])) (sym (fields-append (headOf s) x)))
-          ∙ ap (λ (b : Answer). lineText (verb ∷ []) (numberOf b ∷ s .exec .st .count ∷ s .exec .st .running ∷ x)) e
-          ∙ sym (ap (λ (b : Answer). lineText (verb ∷ []) (numbersOf verb (s .exec) b ws)) e) in
-          record {
-            exec = refl;
-            wrote =
-                wrote-as out (set o q 10) ((((verb ∷ []) ++ fieldsText (headOf s)) ++ fieldsText x) ++ (10 ∷ [])) (answerText verb s ws) at (q + 1)
-                (append-assoc ((verb ∷ []) ++ fieldsText (headOf s)) (fieldsText x) (10 ∷ []) ∙ t)
-                (wrote-then out o (set o q 10) (((verb ∷ []) ++ fieldsText (headOf s)) ++ fieldsText x) (10 ∷ []) at q (q + 1) (omega arith) both
-                (byte-wrote o q 10 z));
-          }
+          let t : head ++ (fieldsText x ++ (10 ∷ [])) ≡ textOf verb a count running ws =
+          append-assoc (verb ∷ []) (fieldsText (headOf a count running)) (fieldsText x ++ (10 ∷ []))
+          ∙ ap (λ (l : List ℕ). (verb ∷ []) ++ l) (sym (append-assoc (fieldsText (headOf a count running)) (fieldsText x) (10 ∷ [])) ∙ ap (λ (l : List ℕ). l ++ (10 ∷ [])) (sym (fields-append (headOf a count running) x)))
+          ∙ ap (λ (b : Answer). lineText (verb ∷ []) (numberOf b ∷ count ∷ running ∷ x)) e
+          ∙ sym (ap (λ (b : Answer). lineText (verb ∷ []) (numbersOf verb b count running ws)) e) in
+          wrote-as out (set o q 10) ((head ++ fieldsText x) ++ (10 ∷ [])) (textOf verb a count running ws) at (q + 1)
+          (append-assoc head (fieldsText x) (10 ∷ []) ∙ t)
+          (wrote-then out o (set o q 10) (head ++ fieldsText x) (10 ∷ []) at q (q + 1) (omega arith) both (byte-wrote o q 10 z))
 
 -- ---- a line that is none
 
-pub unasked-wrote : (e : Exec) (out : List ℕ) (at : ℕ) → at + 2048 ≤ length out
-    → Unasked e out at (record { exec = e; at = at + 1 + 1 }) (set (set out at 63) (at + 1) 10)
-unasked-wrote e out at h =
+pub question-wrote : (out : List ℕ) (at : ℕ) → at + 2048 ≤ length out
+    → Wrote out at (63 ∷ 10 ∷ []) (set (set out at 63) (at + 1) 10) (at + 1 + 1)
+question-wrote out at h =
     let l = length-set out at 63 in
-    record {
-      exec = refl;
-      wrote =
-          wrote-then out (set out at 63) (set (set out at 63) (at + 1) 10) (63 ∷ []) (10 ∷ []) at (at + 1) (at + 1 + 1) (omega arith)
-          (byte-wrote out at 63 (omega arith)) (byte-wrote (set out at 63) (at + 1) 10 (omega arith));
-    }
+    wrote-then out (set out at 63) (set (set out at 63) (at + 1) 10) (63 ∷ []) (10 ∷ []) at (at + 1) (at + 1 + 1) (omega arith)
+    (byte-wrote out at 63 (omega arith)) (byte-wrote (set out at 63) (at + 1) 10 (omega arith))

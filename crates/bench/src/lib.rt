@@ -10,9 +10,8 @@ ghost use Prim.Native.Nat.{ℕ, _+_, _≤_, _<_, min};
 ghost use lib.ListN.{length};
 ghost use Rattle.script.specs.Written.{Wrote};
 ghost use Rattle.script.specs.Output.{fieldsText};
-ghost use Rattle.bench.specs.Turn.{letterOf, askedBy, extra, answerText, Unasked, Takes, room, Turns};
-ghost use Rattle.script.specs.declared.Said.the-variants.{Tick};
-ghost use Rattle.bench.specs.TurnLaws.{Shown, numberOf};
+ghost use Rattle.bench.specs.Turn.{letterOf, extra, textOf, room, Turns};
+ghost use Rattle.bench.specs.TurnLaws.{numberOf, Made};
 
 // The record after a turn, and the place after what the turn wrote.
 pub struct Turn {
@@ -52,66 +51,82 @@ fn number_of(a: Answer) -> u32
 }
 
 // An accepted answer's line goes on with what the call put out; a refused one ends behind the running task.
-fn show(s: Step, verb: u8, words: &[u16], out: &mut [u8], at: usize) -> Turn
+fn show(
+    verb: u8,
+    answer: Answer,
+    count: u32,
+    running: u32,
+    words: &[u16],
+    out: &mut [u8],
+    at: usize,
+) -> usize
     requires { ⌜ (length (now words) ≤ 128) × (at + room ≤ length (now out)) ⌝ }
-    ensures { λ r. ⌜ Shown s verb (now (words .entry)) (now (out .entry)) at r (now (out .exit)) ⌝ }
+    ensures { λ r. ⌜ Wrote (now (out .entry)) at (textOf verb answer count running (now (words .entry))) (now (out .exit)) r ⌝ }
 {
-    let x = s.exec;
-    let answer = s.answer;
-    let count = x.st.count;
-    let running = x.st.running as u32;
     let n = number_of(answer);
     let a = at + 1;
     out[at] = verb;
     let p = script::put_answer(&mut *out, a, n, count, running);
     let Answer::Accepted(report) = answer else {
         out[p] = 10;
-        return Turn { exec: x, at: p + 1 };
+        return p + 1;
     };
     let q = put_extra(verb, report, words, &mut *out, p);
     out[q] = 10;
-    Turn { exec: x, at: q + 1 }
+    q + 1
 }
 
 // A line that says nothing is answered by ? alone.
-fn wrong(e: Exec, out: &mut [u8], at: usize) -> Turn
+fn wrong(out: &mut [u8], at: usize) -> usize
     requires { ⌜ at + room ≤ length (now out) ⌝ }
-    ensures { λ r. ⌜ Unasked e (now (out .entry)) at r (now (out .exit)) ⌝ }
+    ensures { λ r. ⌜ Wrote (now (out .entry)) at (63 ∷ 10 ∷ []) (now (out .exit)) r ⌝ }
 {
     let a = at + 1;
     out[at] = 63;
     out[a] = 10;
-    Turn { exec: e, at: a + 1 }
+    a + 1
 }
 
-// A tick writes its bus words to a buffer of 128.
-fn tick(e: Exec, out: &mut [u8], at: usize) -> Turn
-    requires { ⌜ at + room ≤ length (now out) ⌝ }
-    ensures { λ r. ⌜ Takes e 75 (askedBy Tick) (now (out .entry)) at r (now (out .exit)) ⌝ }
+// The letter of a verb, ? for a line that says nothing.
+fn letter(said: Said) -> u8
+    ensures { λ r. ⌜ r ≡ letterOf said ⌝ }
 {
-    let mut words = [0u16; 128];
-    let s = e.tick(&mut words);
-    show(s, 75, &words, out, at)
-}
-
-fn ask(e: Exec, said: Said, out: &mut [u8], at: usize) -> Turn
-    requires { ⌜ at + room ≤ length (now out) ⌝ }
-    ensures { λ r. ⌜ Takes e (letterOf said) (askedBy said) (now (out .entry)) at r (now (out .exit)) ⌝ }
-{
-    let none = [0u16; 128];
     match said {
-        Said::Schedule(t) => show(e.schedule(t), 83, &none, out, at),
-        Said::Cancel(t) => show(e.cancel(t), 88, &none, out, at),
-        Said::Terminate(t) => show(e.terminate(t), 90, &none, out, at),
-        Said::Finish => show(e.finish(), 70, &none, out, at),
-        Said::Tick => tick(e, out, at),
-        Said::Until(t) => show(e.wait_until(t), 85, &none, out, at),
-        Said::Cycles(n) => show(e.wait_for(n), 82, &none, out, at),
-        Said::Latched(f, v) => show(e.latched(f, v), 76, &none, out, at),
-        Said::Unlatched(f, v) => show(e.unlatched(f, v), 78, &none, out, at),
-        Said::Signal(f, v) => show(e.signal(f, v), 71, &none, out, at),
-        Said::Ask(f) => show(e.read_flag(f), 81, &none, out, at),
-        Said::Wrong => wrong(e, out, at),
+        Said::Schedule(t) => 83,
+        Said::Cancel(t) => 88,
+        Said::Terminate(t) => 90,
+        Said::Finish => 70,
+        Said::Tick => 75,
+        Said::Until(t) => 85,
+        Said::Cycles(n) => 82,
+        Said::Latched(f, v) => 76,
+        Said::Unlatched(f, v) => 78,
+        Said::Signal(f, v) => 71,
+        Said::Ask(f) => 81,
+        Said::Wrong => 63,
+    }
+}
+
+// The call that a line asks for; only a tick writes to the words. "any other script line is refused by 1"
+fn ask(e: Exec, said: Said, words: &mut [u16]) -> Step
+    ensures { λ r. ⌜ Made e said (now (words .entry)) r (now (words .exit)) ⌝ }
+{
+    match said {
+        Said::Schedule(t) => e.schedule(t),
+        Said::Cancel(t) => e.cancel(t),
+        Said::Terminate(t) => e.terminate(t),
+        Said::Finish => e.finish(),
+        Said::Tick => e.tick(words),
+        Said::Until(t) => e.wait_until(t),
+        Said::Cycles(n) => e.wait_for(n),
+        Said::Latched(f, v) => e.latched(f, v),
+        Said::Unlatched(f, v) => e.unlatched(f, v),
+        Said::Signal(f, v) => e.signal(f, v),
+        Said::Ask(f) => e.read_flag(f),
+        Said::Wrong => Step {
+            exec: e,
+            answer: Answer::Refused(1),
+        },
     }
 }
 
@@ -127,5 +142,23 @@ pub fn take_line(e: Exec, line: &[u8], out: &mut [u8], at: usize) -> Turn
         return Turn { exec: e, at };
     }
     let said = script::read_line(line);
-    ask(e, said, out, at)
+    let verb = letter(said);
+    if verb == 63 {
+        let p = wrong(out, at);
+        return Turn { exec: e, at: p };
+    }
+    let mut words = [0u16; 128];
+    let s = ask(e, said, &mut words);
+    let answer = s.answer;
+    let exec = s.exec;
+    let p = show(
+        verb,
+        answer,
+        exec.st.count,
+        exec.st.running as u32,
+        &words,
+        out,
+        at,
+    );
+    Turn { exec, at: p }
 }

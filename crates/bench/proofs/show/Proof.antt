@@ -16,127 +16,128 @@ use Rattle.bench.proofs.put_extra.Reads as put-extra-reads
 use Rattle.script.proofs.put_answer.Reads as put-answer-reads
 
 -- the head was written
-wrote : (c : tie.After-put-answer) → Wrote (set (c .before .before .before .before .before .before .before .args .out .now) (c .before .before .before .before .before .before .before .args .at) (c .before .before .before .before .before .before .before .args .verb)) (c .before .before .before .before .before .before .before .args .at + 1) (fieldsText (headOf (c .before .before .before .before .before .before .before .args .s))) (c .put-answer .last .0) (c .put-answer .result)
+wrote : (c : tie.After-put-answer) → Wrote (set (c .before .before .before .before .before .args .out .now) (c .before .before .before .before .before .args .at) (c .before .before .before .before .before .args .verb)) (c .before .before .before .before .before .args .at + 1) (fieldsText (headOf (c .before .before .before .before .before .args .answer) (c .before .before .before .before .before .args .count) (c .before .before .before .before .before .args .running))) (c .put-answer .last .0) (c .put-answer .result)
 wrote c =
-    let s = c .before .before .before .before .before .before .before in
-    let x = s .args .s .exec .st in
-    subst (λ (n : ℕ). Wrote (set (s .args .out .now) (s .args .at) (s .args .verb)) (s .args .at + 1) (fieldsText (n ∷ x .count ∷ x .running ∷ [])) (c .put-answer .last .0) (c .put-answer .result)) (c .before .before .number-of .ensures) (c .put-answer .ensures)
+    let s = c .before .before .before .before .before .args in
+    subst (λ (n : ℕ). Wrote (set (s .out .now) (s .at) (s .verb)) (s .at + 1) (fieldsText (n ∷ s .count ∷ s .running ∷ [])) (c .put-answer .last .0) (c .put-answer .result)) (c .before .before .number-of .ensures) (c .put-answer .ensures)
 
 room-behind : (c : tie.After-put-answer) → c .put-answer .result + 1408 + 1 ≤ length (c .put-answer .last .0)
 room-behind c =
-    let s = c .before .before .before .before .before .before .before in
-    after-head (s .args .s) (s .args .verb) (s .args .words .now) (s .args .out .now) (s .args .at) (s .pre .0) (s .pre .1) (c .put-answer .last .0) (c .put-answer .result) (wrote c)
+    let s = c .before .before .before .before .before in
+    let a = s .args in
+    after-head (a .verb) (a .answer) (a .count) (a .running) (a .words .now) (a .out .now) (a .at) (s .pre .0) (s .pre .1) (c .put-answer .last .0) (c .put-answer .result) (wrote c)
 
--- src/lib.rt:62:19
-cast-running : tie.Need-cast-running
-cast-running c = search needs
-
--- src/lib.rt:63:9
+-- src/lib.rt:58:9
 number-of-requires : tie.Need-number-of-requires
 number-of-requires c κs = search needs
 
--- src/lib.rt:64:13
+-- src/lib.rt:59:13
 add-a : tie.Need-add-a
 add-a c = search needs
 
--- src/lib.rt:65:5
+-- src/lib.rt:60:5
 slice-write-out : tie.Need-slice-write-out
 slice-write-out c = search needs
 
--- src/lib.rt:66:9
+-- src/lib.rt:61:9
 put-answer-requires : tie.Need-put-answer-requires
 put-answer-requires c κs =
-    let s = c .before .before .before .before .before .before in
+    let s = c .before .before .before .before in
     let l = length-set (s .args .out .now) (s .args .at) (s .args .verb) in
     let p = s .pre .1 in
     omega arith
 
--- src/lib.rt:67:26
+-- src/lib.rt:62:26
 enum-known-answer : tie.Need-enum-known-answer
 enum-known-answer c = search needs
 
--- src/lib.rt:68:9
+-- src/lib.rt:63:9
 enum-told : tie.Need-enum-told
 enum-told c = search needs
 
--- src/lib.rt:68:9
+-- src/lib.rt:63:9
 slice-write-out-2 : tie.Need-slice-write-out-2
 slice-write-out-2 c =
     let r = room-behind (c .before .before .before .before) in
     omega arith
 
--- src/lib.rt:69:36
-add-t19 : tie.Need-add-t19
-add-t19 c =
+-- src/lib.rt:64:16
+add-result : tie.Need-add-result
+add-result c =
     let r = room-behind (c .before .before .before .before) in
-    let s = c .before .before .before .before .before .before .before .before .before .before .before in
+    let s = c .before .before .before .before .before .before .before .before .before in
     let z = wrote (c .before .before .before .before) .size in
     let l = length-set (s .args .out .now) (s .args .at) (s .args .verb) in
     let k : c .before .before .before .before .put-answer .result < length (s .args .out .now) = omega arith in
     search needs
 
--- src/lib.rt:69:9
+-- src/lib.rt:64:9
 same-length : tie.Need-same-length
 same-length c =
-    let s = c .before .before .before .before .before .before .before .before .before .before .before in
+    let s = c .before .before .before .before .before .before .before .before .before in
+    let a = s .args in
     let p = c .before .before .before .before .put-answer in
-    shown-refused (s .args .s) (s .args .verb) (s .args .words .now) (s .args .out .now) (s .args .at) (s .pre .0) (s .pre .1) (p .last .0) (p .result) (wrote (c .before .before .before .before)) _ (c .enum-told .given .1) .wrote .size
+    shown-refused (a .verb) (a .answer) (a .count) (a .running) (a .words .now) (a .out .now) (a .at) (s .pre .0) (s .pre .1) (p .last .0) (p .result) (wrote (c .before .before .before .before)) _ (c .enum-told .given .1) .size
 
--- src/lib.rt:69:9
+-- src/lib.rt:64:9
 returns : tie.Need-returns
 returns c =
-    let s = c .before .before .before .before .before .before .before .before .before .before .before in
+    let s = c .before .before .before .before .before .before .before .before .before in
+    let a = s .args in
     let p = c .before .before .before .before .put-answer in
-    shown-refused (s .args .s) (s .args .verb) (s .args .words .now) (s .args .out .now) (s .args .at) (s .pre .0) (s .pre .1) (p .last .0) (p .result) (wrote (c .before .before .before .before)) _ (c .enum-told .given .1)
+    shown-refused (a .verb) (a .answer) (a .count) (a .running) (a .words .now) (a .out .now) (a .at) (s .pre .0) (s .pre .1) (p .last .0) (p .result) (wrote (c .before .before .before .before)) _ (c .enum-told .given .1)
 
--- src/lib.rt:71:9
+-- src/lib.rt:66:9
 put-extra-requires : tie.Need-put-extra-requires
 put-extra-requires c κs =
     let r = room-behind (c .before .before .before .before .before .before) in
-    (c .before .before .before .before .before .before .before .before .before .before .before .before .before .pre .0, omega arith)
+    (c .before .before .before .before .before .before .before .before .before .before .before .pre .0, omega arith)
 
--- src/lib.rt:72:5
+-- src/lib.rt:67:5
 slice-write-out-3 : tie.Need-slice-write-out-3
 slice-write-out-3 c =
-    let s = c .before .before .before .before .before .before .before .before .before .before .before .before .before .before .before .before in
+    let s = c .before .before .before .before .before .before .before .before .before .before .before .before .before .before in
+    let a = s .args in
     let p = c .before .before .before .before .before .before .before .before .before .put-answer in
     let q = c .before .before .put-extra in
-    after-extra (s .args .s) (s .args .verb) (s .args .words .now) (s .args .out .now) (s .args .at) (s .pre .0) (s .pre .1) (p .last .0) (p .result) (wrote (c .before .before .before .before .before .before .before .before .before)) _ (c .before .before .before .before .before .answer .given .1) (q .last .1 .1 .1 .0) (q .result) (q .ensures)
+    after-extra (a .verb) (a .answer) (a .count) (a .running) (a .words .now) (a .out .now) (a .at) (s .pre .0) (s .pre .1) (p .last .0) (p .result) (wrote (c .before .before .before .before .before .before .before .before .before)) _ (c .before .before .before .before .before .answer .given .1) (q .last .1 .1 .1 .0) (q .result) (q .ensures)
 
--- src/lib.rt:73:25
-add-t23 : tie.Need-add-t23
-add-t23 c =
-    let s = c .before .before .before .before .before .before .before .before .before .before .before .before .before .before .before .before in
+-- src/lib.rt:68:5
+add-result-2 : tie.Need-add-result-2
+add-result-2 c =
+    let s = c .before .before .before .before .before .before .before .before .before .before .before .before .before .before in
+    let a = s .args in
     let p = c .before .before .before .before .before .before .before .before .before .put-answer in
     let q = c .before .before .put-extra in
     let z = wrote (c .before .before .before .before .before .before .before .before .before) .size in
     let y = q .ensures .size in
-    let l = length-set (s .args .out .now) (s .args .at) (s .args .verb) in
-    let j : q .result < length (q .last .1 .1 .1 .0) = after-extra (s .args .s) (s .args .verb) (s .args .words .now) (s .args .out .now) (s .args .at) (s .pre .0) (s .pre .1) (p .last .0) (p .result) (wrote (c .before .before .before .before .before .before .before .before .before)) _ (c .before .before .before .before .before .answer .given .1) (q .last .1 .1 .1 .0) (q .result) (q .ensures) in
-    let k : q .result < length (s .args .out .now) = omega arith in
+    let l = length-set (a .out .now) (a .at) (a .verb) in
+    let j : q .result < length (q .last .1 .1 .1 .0) = after-extra (a .verb) (a .answer) (a .count) (a .running) (a .words .now) (a .out .now) (a .at) (s .pre .0) (s .pre .1) (p .last .0) (p .result) (wrote (c .before .before .before .before .before .before .before .before .before)) _ (c .before .before .before .before .before .answer .given .1) (q .last .1 .1 .1 .0) (q .result) (q .ensures) in
+    let k : q .result < length (a .out .now) = omega arith in
     search needs
 
--- src/lib.rt:55:1
+-- src/lib.rt:54:1
 same-length-2 : tie.Need-same-length-2
 same-length-2 c =
-    let s = c .before .before .before .before .before .before .before .before .before .before .before .before .before .before .before .before in
+    let s = c .before .before .before .before .before .before .before .before .before .before .before .before .before .before in
+    let a = s .args in
     let p = c .before .before .before .before .before .before .before .before .before .put-answer in
     let q = c .before .before .put-extra in
-    shown-accepted (s .args .s) (s .args .verb) (s .args .words .now) (s .args .out .now) (s .args .at) (s .pre .0) (s .pre .1) (p .last .0) (p .result) (wrote (c .before .before .before .before .before .before .before .before .before)) _ (c .before .before .before .before .before .answer .given .1) (q .last .1 .1 .1 .0) (q .result) (q .ensures) .wrote .size
+    shown-accepted (a .verb) (a .answer) (a .count) (a .running) (a .words .now) (a .out .now) (a .at) (s .pre .0) (s .pre .1) (p .last .0) (p .result) (wrote (c .before .before .before .before .before .before .before .before .before)) _ (c .before .before .before .before .before .answer .given .1) (q .last .1 .1 .1 .0) (q .result) (q .ensures) .size
 
--- src/lib.rt:55:1
+-- src/lib.rt:54:1
 returns-2 : tie.Need-returns-2
 returns-2 c =
-    let s = c .before .before .before .before .before .before .before .before .before .before .before .before .before .before .before .before in
+    let s = c .before .before .before .before .before .before .before .before .before .before .before .before .before .before in
+    let a = s .args in
     let p = c .before .before .before .before .before .before .before .before .before .put-answer in
     let q = c .before .before .put-extra in
-    shown-accepted (s .args .s) (s .args .verb) (s .args .words .now) (s .args .out .now) (s .args .at) (s .pre .0) (s .pre .1) (p .last .0) (p .result) (wrote (c .before .before .before .before .before .before .before .before .before)) _ (c .before .before .before .before .before .answer .given .1) (q .last .1 .1 .1 .0) (q .result) (q .ensures)
+    shown-accepted (a .verb) (a .answer) (a .count) (a .running) (a .words .now) (a .out .now) (a .at) (s .pre .0) (s .pre .1) (p .last .0) (p .result) (wrote (c .before .before .before .before .before .before .before .before .before)) _ (c .before .before .before .before .before .answer .given .1) (q .last .1 .1 .1 .0) (q .result) (q .ensures)
 
 pub show-spec : {M : Type 1} → statement M
 show-spec =
     tie.close
     (tie.spec
-    cast-running
     number-of-requires
     add-a
     slice-write-out
@@ -144,11 +145,11 @@ show-spec =
     enum-known-answer
     enum-told
     slice-write-out-2
-    add-t19
+    add-result
     same-length
     returns
     put-extra-requires
     slice-write-out-3
-    add-t23
+    add-result-2
     same-length-2
     returns-2)

@@ -5,9 +5,8 @@ use mathlib.Core.Logic.{⊎-elim}
 use Prim.Native.Nat.{ℕ, _≤_, _-_}
 use native.Mathlib.Omega.{arith}
 use lib.Dec.{eqb}
-use Rattle.laws.specs.Any.{any, any-zero, any-at}
+use Rattle.laws.specs.Any.{any, any-zero, any-at, any-skip}
 use Rattle.steps.specs.View.{past}
-use Rattle.laws.specs.Any.{any-skip}
 use Rattle.steps.proofs.named_from.Statement.{statement}
 use Rattle.steps.proofs.named_from.Tie as tie
 use Rattle.steps.proofs.named_from.Reads as reads
