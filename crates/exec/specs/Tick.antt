@@ -60,7 +60,7 @@ rows-fit g cycles h =
     }
 
 -- at most two words a row
-pub bus-few : (n master : ℕ) (row : ℕ → G.Row) (count : ℕ) → length (busWords n master row count) ≤ n + n
+bus-few : (n master : ℕ) (row : ℕ → G.Row) (count : ℕ) → length (busWords n master row count) ≤ n + n
 unfolding busWords
 bus-few n master row count =
     iter-ind (λ i l. length l ≤ i + i) (busOne master row count) [] (omega arith) (λ i l h. go i l h (rowDue (row i) count)) n
@@ -68,6 +68,10 @@ bus-few n master row count =
     go : (i : ℕ) (l : List ℕ) → length l ≤ i + i → (b : Bool) → length (cond b (l ++ rowWords master (row i)) l) ≤ suc i + suc i
     go i l h true = omega (arith, length-append l (rowWords master (row i)), row-short master (row i))
     go i l h false = omega arith
+
+-- whatever the count
+pub bus-fits : (n master : ℕ) (row : ℕ → G.Row) (count r : ℕ) → r ≡ length (busWords n master row count) → n ≤ 64 → r ≤ 128
+bus-fits n master row count r e h = omega (arith, e, bus-few n master row count)
 
 module _ (x : Exec) (h : Sound x) where
   pub tick-ok : (words : ℕ) → 0 ≡ R.decide (tickRows (view x) words) → TickOk (x .st)

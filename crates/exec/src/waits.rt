@@ -3,9 +3,13 @@ use crate::Exec;
 use crate::Step;
 use state::Work;
 use steps::Queue;
+ghost use mathlib.Core.Path.{_≡_};
+ghost use mathlib.Core.Bool.{_&&_};
 ghost use mathlib.Core.List.{[]};
+ghost use lib.Dec.{eqb};
 ghost use Rattle.rules.specs.Calls.{waitUntil, waitFor, latched, unlatched};
 ghost use Rattle.exec.specs.Call.{bit, Meets};
+ghost use Rattle.exec.specs.Waits.{flagWait};
 
 impl Exec {
     // "if the waking count is at or below the count, no wait; else waiting"
@@ -41,9 +45,10 @@ impl Exec {
         self.settle(Work { st, queue })
     }
 
-    // "no wait if it has it"
-    pub fn latched(self, flag: u32, value: bool) -> Step
-        ensures { λ r. ⌜ Meets self (latched flag (bit value)) r [] ⌝ }
+    // "Latched wait for a flag's value: no wait if it has it. Unlatched: always waits for the next service of that flag
+    // with that value"
+    pub(crate) fn wait_on(self, latched: bool, flag: u32, value: bool) -> Step
+        ensures { λ r. ⌜ Meets self (flagWait latched flag (bit value)) r [] ⌝ }
     {
         let n = self.flag_refusal(flag);
         if n != 0 {
@@ -51,7 +56,7 @@ impl Exec {
         }
         let now = self.st;
         let v = crate::answers::bit_of(value);
-        if crate::refusals::look(&now.value, flag) == v {
+        if satisfied(latched, crate::refusals::look(&now.value, flag), v) {
             return self.unchanged(0);
         }
         let st = now.wait_on(flag as usize, v as usize);
@@ -59,17 +64,22 @@ impl Exec {
         self.settle(Work { st, queue })
     }
 
-    // "always waits for the next service of that flag with that value"
+    pub fn latched(self, flag: u32, value: bool) -> Step
+        ensures { λ r. ⌜ Meets self (latched flag (bit value)) r [] ⌝ }
+    {
+        self.wait_on(true, flag, value)
+    }
+
     pub fn unlatched(self, flag: u32, value: bool) -> Step
         ensures { λ r. ⌜ Meets self (unlatched flag (bit value)) r [] ⌝ }
     {
-        let n = self.flag_refusal(flag);
-        if n != 0 {
-            return self.refuse(n);
-        }
-        let v = crate::answers::bit_of(value);
-        let st = self.st.wait_on(flag as usize, v as usize);
-        let queue = Queue::empty();
-        self.settle(Work { st, queue })
+        self.wait_on(false, flag, value)
     }
+}
+
+// Whether there is nothing to wait for: the value that is already there counts for a latched wait alone.
+fn satisfied(latched: bool, has: u8, wanted: u8) -> bool
+    ensures { λ r. ⌜ r ≡ (latched && eqb has wanted) ⌝ }
+{
+    if latched { has == wanted } else { false }
 }

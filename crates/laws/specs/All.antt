@@ -1,12 +1,13 @@
 -- A test at each of the first n numbers, as a Bool that code can compute, and what it says of each.
-use mathlib.Core.Path.{_≡_, refl, sym, _∙_}
+use mathlib.Core.Path.{_≡_, refl, sym, _∙_, ap}
 use mathlib.Core.Bool.{Bool, true, false, _&&_, true≢false, false≢true}
 use Prim.Native.Nat.{ℕ, zero, suc, _+_, _<_}
 use mathlib.Core.List.{List, [], _∷_}
+use lib.Dec.{eqb}
 use lib.ListN.{getD}
 use native.Mathlib.Numerals.{add-one}
 use native.Mathlib.Omega.{arith}
-use Rattle.laws.specs.Cases.{by-bool, by-eqb, below-but}
+use Rattle.laws.specs.Cases.{by-bool, by-eqb, below-but, and-go, and-yes}
 
 -- shut but for `unfolding all`, so that `all 64 p` is never run out
 unfoldable pub all : ℕ → (ℕ → Bool) → Bool
@@ -85,3 +86,28 @@ pub all-same : (n : ℕ) (p q : ℕ → Bool) → ((k : ℕ) → k < n → p k �
 unfolding all
 all-same zero p q h = refl
 all-same (suc n) p q h = rw (all-same n p q (λ k l. h k (omega arith)), h n (omega arith))
+
+-- all of several tests at once
+pub all-and : (n : ℕ) (p q : ℕ → Bool) → all n (λ k. p k && q k) ≡ (all n p && all n q)
+all-and n p q =
+    by-bool (all n (λ k. p k && q k)) (λ b. b ≡ (all n p && all n q))
+    (λ e. sym (and-go (all-all n p (λ k h. and-left (p k) (q k) (all-at n (λ k. p k && q k) e k h))) (all-all n q (λ k h. and-right (p k) (q k) (all-at n (λ k. p k && q k) e k h)))))
+    (λ e. by-bool (all n p && all n q) (λ b. false ≡ b) (λ w. sym e ∙ all-all n (λ k. p k && q k) (λ k h. and-go (all-at n p (and-left (all n p) (all n q) w) k h) (all-at n q (and-right (all n p) (all n q) w) k h))) (λ w. refl))
+
+pub all-three : (n : ℕ) (p q r : ℕ → Bool) → all n (λ k. p k && (q k && r k)) ≡ (all n p && (all n q && all n r))
+all-three n p q r = all-and n p (λ k. q k && r k) ∙ ap (λ (x : Bool). all n p && x) (all-and n q r)
+
+-- What a loop keeps that does not leave early: `bad` is 0 exactly when each entry so far has passed. Where it begins, an entry
+-- that passes, one that does not.
+abbrev pub Passed : ℕ → ℕ → (ℕ → Bool) → Type 0
+Passed bad i test = eqb bad 0 ≡ all i test
+
+pub passed-none : (test : ℕ → Bool) → Passed 0 0 test
+passed-none test = sym (all-zero test)
+
+pub passed-next : {bad new : ℕ} (i : ℕ) (test : ℕ → Bool) → Passed bad i test → test i ≡ true → new ≡ bad → Passed new (i + 1) test
+unfolding all
+passed-next i test p e q = rw q (p ∙ sym (rw add-one (rw e (and-yes (all i test)))))
+
+pub passed-not : {new : ℕ} (i : ℕ) (test : ℕ → Bool) → test i ≡ false → new ≡ 1 → Passed new (i + 1) test
+passed-not i test e q = rw q (sym (all-not (i + 1) test i (omega arith) e))

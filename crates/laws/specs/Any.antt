@@ -22,6 +22,15 @@ pub any-next : (i : ℕ) (p : ℕ → Bool) → any i p ≡ false → p i ≡ fa
 unfolding any
 any-next i p a b = rw add-one (rw a b)
 
+-- a number that does not pass changes nothing
+pub any-skip : (i : ℕ) (p : ℕ → Bool) → p i ≡ false → any i p ≡ any (i + 1) p
+unfolding any
+any-skip i p e = rw (add-one, e) (sym (or-false (any i p)))
+  where
+    or-false : (a : Bool) → (a || false) ≡ a
+    or-false true = refl
+    or-false false = refl
+
 pub any-at : (n : ℕ) (p : ℕ → Bool) (k : ℕ) → k < n → p k ≡ true → any n p ≡ true
 unfolding any
 any-at zero p k h e = absurd (omega arith)

@@ -1,24 +1,17 @@
 -- The tests that go by a table say what the tests of Tests.antt say.
 use mathlib.Core.Path.{_≡_, refl, sym, _∙_, ap}
 use mathlib.Core.Logic.{_⊎_, inl, inr, ⊎-elim, _≢_}
-use mathlib.Core.Bool.{true, not, _&&_}
+use mathlib.Core.Bool.{not}
 use mathlib.Core.List.{List}
 use Prim.Native.Nat.{ℕ, zero, suc, _+_, _-_, _≤_, _<_}
 use native.Mathlib.Omega.{arith}
-use lib.Dec.{eqb, ltb}
-use borrow.Author.Tests.{eqb-true, eqb-false, lt-ltb}
-use Rattle.laws.specs.Cases.{by, or-yes}
-use Rattle.laws.specs.All.{all, all-all}
+use lib.Dec.{eqb}
+use borrow.Author.Tests.{eqb-true, eqb-false}
+use Rattle.laws.specs.Cases.{by}
 use Rattle.laws.specs.Decides.{Is, is-eqb, is-and, is-or, is-not, is-else, is-then, is-if, is-all, is-any, is-said, is-same}
 use Rattle.laws.specs.Owners.{owners, owner-key, owner-some}
-use Rattle.rigtests.specs.Tests.{at, placeOf, servesOne, servesOneB, usedB, minorConditionOne, minorConditionsB, lineZeroOne}
+use Rattle.rigtests.specs.Tests.{at, placeOf, servesOne, servesOneB, usedB, minorConditionOne, minorConditionsB}
 use Rattle.rigtests.specs.Tables.{Placed, Owned, marked, servedOne, servedB, hasOwnerB, minorTest, minorOwnerOne, minorOwnerB}
-
--- the lines before the first that must be 0
-pub zeros-start : (n : ℕ) (atask apos aflag : List ℕ) → all n (lineZeroOne n atask apos aflag) ≡ true
-zeros-start n atask apos aflag =
-    all-all n (lineZeroOne n atask apos aflag)
-    (λ k h. sym (or-yes (ltb k n) (eqb (at atask k) 0 && (eqb (at apos k) 0 && eqb (at aflag k) 0)) (lt-ltb k n h)))
 
 -- what a number that is not 0 is one more than
 pub some-suc : (n : ℕ) → n ≢ 0 → (i : ℕ) × (n ≡ suc i)

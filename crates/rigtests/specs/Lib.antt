@@ -1,4 +1,5 @@
 pub mod Tests
 pub mod Tables
 pub mod Climb
+pub mod Passes
 pub mod Laws

@@ -3,10 +3,12 @@
 ghost use mathlib.Core.Path.{_≡_};
 ghost use mathlib.Core.Bool.{not, cond, _&&_, _||_};
 ghost use Prim.Native.Nat.{ℕ, _+_, _-_, _*_, _<_, _≤_};
-ghost use lib.Dec.{eqb, ltb, leb};
-ghost use lib.ListN.{getD};
+ghost use lib.Dec.{eqb};
+ghost use lib.ListN.{length};
+ghost use Rattle.laws.specs.All.{all};
 ghost use Rattle.laws.specs.Owners.{owners, marks};
-ghost use Rattle.rigtests.specs.Tests.{at, place, within, smallB, conditionTest, conditionsB, risesTest, linesRiseB, flagTest, cycleRises, conditionTaskTest, conditionTasksB, lineTest, linesB, cycleSmall, climb, controllersB, notMinorB, placeOf, namedB, taskZeroTest, taskZerosB, lineZerosB};
+ghost use Rattle.rigtests.specs.Tests.{at, place, within, smallOne, smallB, conditionsB, linesRiseB, flagTest, cycleRises, conditionTasksB, linesB, cycleSmall, climb, controllersB, notMinorB, placeOf, namedB, taskZeroTest, taskZerosB, lineZerosB};
+ghost use Rattle.rigtests.specs.Passes.{underOne, zeroFrom, betweenOne, lineKey};
 ghost use Rattle.rigtests.specs.Tables.{marked, servedB, hasOwnerB, minorTest, minorOwnerB, Low, Placed, Owned};
 
 pub fn wide(x: u8) -> usize
@@ -47,18 +49,35 @@ pub fn small(l: &[u8; 65], top: u8) -> bool
     true
 }
 
-fn condition_ok(present: u8, latched: u8, desired: u8) -> bool
-    ensures { λ r. ⌜ r ≡ conditionTest present latched desired ⌝ }
+// Here and below a loop over a long table marks what fails and goes on: one that does not leave early tests many entries at
+// once. Each entry is at most top.
+fn at_most(l: &[u8; 1040], top: u8) -> bool
+    ensures { λ r. ⌜ r ≡ all 1040 (smallOne (now (l .entry)) top) ⌝ }
 {
-    if present <= 1 {
-        if latched <= present {
-            desired <= present
-        } else {
-            false
+    let mut bad: u8 = 0;
+    let mut i: usize = 0;
+    while i < 1040 {
+        if top < l[i] {
+            bad = 1;
         }
-    } else {
-        false
+        i = i + 1;
     }
+    bad == 0
+}
+
+// Each entry is at most the other table's at its place.
+fn under<'a>(a: &'a [u8; 1040], b: &'a [u8; 1040]) -> bool
+    ensures { λ r. ⌜ r ≡ all 1040 (underOne (now (a .entry)) (now (b .entry))) ⌝ }
+{
+    let mut bad: u8 = 0;
+    let mut i: usize = 0;
+    while i < 1040 {
+        if b[i] < a[i] {
+            bad = 1;
+        }
+        i = i + 1;
+    }
+    bad == 0
 }
 
 pub fn conditions<'a>(
@@ -68,27 +87,24 @@ pub fn conditions<'a>(
 ) -> bool
     ensures { λ r. ⌜ r ≡ conditionsB (now (present .entry)) (now (latched .entry)) (now (desired .entry)) ⌝ }
 {
-    let mut p: usize = 0;
-    while p < 1040 {
-        if !condition_ok(present[p], latched[p], desired[p]) {
-            return false;
-        }
-        p = p + 1;
+    if !at_most(present, 1) {
+        return false;
     }
-    true
+    if !under(latched, present) {
+        return false;
+    }
+    under(desired, present)
 }
 
-// One A line before the next: by task, then position, then flag.
-fn rises(t: u8, p: u8, f: u8, u: u8, q: u8, h: u8) -> bool
-    ensures { λ r. ⌜ r ≡ risesTest t p f u q h ⌝ }
+// An A line's numbers as one, larger for a later line: by task, then position, then flag. That the last two are bytes is said
+// to the caller.
+fn key(t: u8, p: u8, f: u8) -> u32
+    ensures { λ r. ⌜ (r ≡ lineKey t p f) × ((p < 256) × (f < 256)) ⌝ }
 {
-    if t == u {
-        if p == q { f < h } else { p < q }
-    } else {
-        t < u
-    }
+    65536 * (t as u32) + 256 * (p as u32) + (f as u32)
 }
 
+// Each A line has a larger key than the one before it.
 pub fn lines_rise<'a>(
     n: usize,
     atask: &'a [u8; 1024],
@@ -98,21 +114,17 @@ pub fn lines_rise<'a>(
     requires { ⌜ n ≤ 1024 ⌝ }
     ensures { λ r. ⌜ r ≡ linesRiseB n (now (atask .entry)) (now (apos .entry)) (now (aflag .entry)) ⌝ }
 {
-    let mut k: usize = 0;
-    while k + 1 < n {
-        if !rises(
-            atask[k],
-            apos[k],
-            aflag[k],
-            atask[k + 1],
-            apos[k + 1],
-            aflag[k + 1],
-        ) {
-            return false;
+    let mut bad: u8 = 0;
+    let mut k: usize = 1;
+    while k < n {
+        let a = key(atask[k - 1], apos[k - 1], aflag[k - 1]);
+        let b = key(atask[k], apos[k], aflag[k]);
+        if b <= a {
+            bad = 1;
         }
         k = k + 1;
     }
-    true
+    bad == 0
 }
 
 fn flag_rises(f: u8, h: u8) -> bool
@@ -139,14 +151,20 @@ pub fn cycle_rises(flags: [u8; 15]) -> bool
     true
 }
 
-fn condition_task_ok(top: usize, present: u8, p: usize) -> bool
-    ensures { λ r. ⌜ r ≡ (eqb present 0 || (leb 16 p && ltb p top)) ⌝ }
+// The entries are 0 from one place up to another.
+fn zeros(l: &[u8], from: usize, to: usize) -> bool
+    requires { ⌜ to ≤ length (now l) ⌝ }
+    ensures { λ r. ⌜ r ≡ all to (zeroFrom from (now (l .entry))) ⌝ }
 {
-    if present == 0 {
-        true
-    } else {
-        if 16 <= p { p < top } else { false }
+    let mut bad: u8 = 0;
+    let mut i = from;
+    while i < to {
+        if l[i] != 0 {
+            bad = 1;
+        }
+        i = i + 1;
     }
+    bad == 0
 }
 
 // No condition is of a task above the count.
@@ -154,28 +172,30 @@ pub fn condition_tasks(tasks: u8, present: &[u8; 1040]) -> bool
     ensures { λ r. ⌜ r ≡ conditionTasksB tasks (now (present .entry)) ⌝ }
 {
     let top = 16 * (tasks as usize + 1);
-    let mut p: usize = 0;
-    while p < 1040 {
-        if !condition_task_ok(top, present[p], p) {
-            return false;
-        }
-        p = p + 1;
+    if !zeros(present, 0, 16) {
+        return false;
     }
-    true
+    zeros(present, top, 1040)
 }
 
-fn line_ok(tasks: u8, flags: u8, t: u8, p: u8, f: u8) -> bool
-    ensures { λ r. ⌜ r ≡ lineTest tasks flags t p f ⌝ }
+// Each of the first n entries is one of low to high.
+fn between(l: &[u8; 1024], n: usize, low: u8, high: u8) -> bool
+    requires { ⌜ n ≤ 1024 ⌝ }
+    ensures { λ r. ⌜ r ≡ all n (betweenOne low high (now (l .entry))) ⌝ }
 {
-    if in_range(1, t, tasks) {
-        if p <= 15 {
-            in_range(1, f, flags)
-        } else {
-            false
+    let mut bad: u8 = 0;
+    let mut k: usize = 0;
+    while k < n {
+        let x = l[k];
+        if x < low {
+            bad = 1;
         }
-    } else {
-        false
+        if high < x {
+            bad = 1;
+        }
+        k = k + 1;
     }
+    bad == 0
 }
 
 // The numbers of each A line are within the counts.
@@ -190,14 +210,13 @@ pub fn lines<'a>(
     requires { ⌜ n ≤ 1024 ⌝ }
     ensures { λ r. ⌜ r ≡ linesB n tasks flags (now (atask .entry)) (now (apos .entry)) (now (aflag .entry)) ⌝ }
 {
-    let mut k: usize = 0;
-    while k < n {
-        if !line_ok(tasks, flags, atask[k], apos[k], aflag[k]) {
-            return false;
-        }
-        k = k + 1;
+    if !between(atask, n, 1, tasks) {
+        return false;
     }
-    true
+    if !between(apos, n, 0, 15) {
+        return false;
+    }
+    between(aflag, n, 1, flags)
 }
 
 pub fn cycle_small(top: u8, flags: &[u8; 15]) -> bool
@@ -367,24 +386,23 @@ pub fn place_owners<'a>(n: usize, atask: &'a [u8; 1024], apos: &'a [u8; 1024]) -
     table
 }
 
-fn owned_ok(present: u8, owner: u16) -> bool
-    ensures { λ r. ⌜ r ≡ (eqb present 0 || not (eqb owner 0)) ⌝ }
-{
-    if present == 0 { true } else { owner != 0 }
-}
-
 // Each condition has an owner.
 pub fn owned<'a>(present: &'a [u8; 1040], table: &'a [u16; 1040]) -> bool
     ensures { λ r. ⌜ r ≡ hasOwnerB (now (present .entry)) (now (table .entry)) ⌝ }
 {
+    let mut bad: u8 = 0;
     let mut p: usize = 0;
     while p < 1040 {
-        if !owned_ok(present[p], table[p]) {
-            return false;
+        let has = present[p];
+        let owner = table[p];
+        if has != 0 {
+            if owner == 0 {
+                bad = 1;
+            }
         }
         p = p + 1;
     }
-    true
+    bad == 0
 }
 
 // An A line whose own flag, or the flag of the condition's last line, is a minor-cycle flag.
@@ -498,16 +516,6 @@ pub fn task_zeros<'a>(
     true
 }
 
-fn line_zero(t: u8, p: u8, f: u8) -> bool
-    ensures { λ r. ⌜ r ≡ (eqb t 0 && (eqb p 0 && eqb f 0)) ⌝ }
-{
-    if t == 0 {
-        if p == 0 { f == 0 } else { false }
-    } else {
-        false
-    }
-}
-
 pub fn line_zeros<'a>(
     n: usize,
     atask: &'a [u8; 1024],
@@ -517,12 +525,11 @@ pub fn line_zeros<'a>(
     requires { ⌜ n ≤ 1024 ⌝ }
     ensures { λ r. ⌜ r ≡ lineZerosB n (now (atask .entry)) (now (apos .entry)) (now (aflag .entry)) ⌝ }
 {
-    let mut k = n;
-    while k < 1024 {
-        if !line_zero(atask[k], apos[k], aflag[k]) {
-            return false;
-        }
-        k = k + 1;
+    if !zeros(atask, n, 1024) {
+        return false;
     }
-    true
+    if !zeros(apos, n, 1024) {
+        return false;
+    }
+    zeros(aflag, n, 1024)
 }

@@ -2,23 +2,26 @@
 -- Where a rule looks at the rig but not at its cycles, its contract holds with whatever cycles stand beside the rig.
 use mathlib.Core.Path.{_≡_}
 use mathlib.Core.List.{List, [], _∷_}
-use Prim.Native.Nat.{ℕ, _<_, _≤_}
+use Prim.Native.Nat.{ℕ, _+_, _<_, _≤_}
+use lib.ListN.{length}
 use Rattle.laws.specs.Members.{In}
 use Rattle.laws.specs.Order.{Sorted}
 use Rattle.chains.specs.Held.{at, Sound, Sized}
 use Rattle.chains.specs.Read.{chainsOf}
+use Rattle.chains.specs.declared.Links.{Links}
 use Rattle.steps.specs.Post.{Lines, Controllers}
 use Rattle.steps.specs.View.{entriesOf}
 use Rattle.steps.specs.declared.Queue.{Queue}
 use Rattle.rig.specs.declared.Cycle.{Cycle}
 use Rattle.rig.specs.declared.Rig.{Rig}
 use Rattle.rules.specs.State.{Entry, timeChain, blank}
-use Rattle.rules.specs.Serving.{wake, offers, serveFlag, serve}
+use Rattle.rules.specs.Serving.{wake, offers, serveFlag, serve, inactives}
 use Rattle.rules.specs.Waiting.{waitOn, waitUntilCount, wakeDue}
 use Rattle.rules.specs.Running.{dispatch}
 use Rattle.rules.specs.Calls.{scheduled, finished, terminated, cancelled, ticked}
 use Rattle.rules.specs.Serve.{load}
 use Rattle.state.specs.View.{rigOf, viewOf, workOf, doneOf}
+use Rattle.state.specs.Set.{putCond, putState, putLinks}
 use Rattle.state.specs.declared.State.{State}
 use Rattle.state.specs.declared.Work.{Work}
 use Rattle.state.specs.declared.Done.{Done}
@@ -34,8 +37,8 @@ abbrev pub CancelOk : Rig → Type 0
 CancelOk g = Controllers (g .controller)
 
 -- what is queued and what may yet be queued is at most 79
-abbrev pub Room : Work → Type 0
-Room w = load (workOf (w .st) (w .queue)) ≤ 79
+abbrev pub Room : List ℕ → Queue → Type 0
+Room states q = length (entriesOf q) + inactives states ≤ 79
 
 pub record FlagOk (f v : ℕ) : Type 0 where
   pub some : 0 < f
@@ -84,6 +87,10 @@ pub record Woken (s : State) (c : ℕ) (r : State) : Type 0 where
   pub is : viewOf r ≡ wake c (viewOf s)
   pub sound : Sound (r .links)
 
+-- the same of the links and the states alone, with whatever stands beside them
+abbrev pub Awoken : Links → List ℕ → ℕ → Links → List ℕ → Type 0
+Awoken l states c r after = (s : State) → Woken (putLinks (putState s states) l) c (putLinks (putState s after) r)
+
 pub record WokenDue (s : State) (r : State) : Type 0 where
   pub is : viewOf r ≡ wakeDue (viewOf s)
   pub sound : Sound (r .links)
@@ -124,6 +131,13 @@ pub record Ticked (s : State) (cycles : List Cycle) (r : Work) : Type 0 where
 pub record Offered (w : Work) (g : Rig) (f : ℕ) (r : Work) : Type 0 where
   pub is : (cycles : List Cycle) → workOf (r .st) (r .queue) ≡ offers (rigOf g cycles) f 64 (workOf (w .st) (w .queue))
   pub links : r .st .links ≡ w .st .links
+
+abbrev pub workIn : State → List ℕ → List ℕ → Queue → Work
+workIn s conds states q = record { st = putCond (putState s states) conds; queue = q }
+
+-- the same of the conditions, the states and the queue alone, with whatever stands beside them and beside the rig's tables
+abbrev pub Offering : (Rig → Rig) → ℕ → List ℕ → List ℕ → Queue → List ℕ → List ℕ → Queue → Type 0
+Offering tables f c a q d b r = (g : Rig) (s : State) → Offered (workIn s c a q) (tables g) f (workIn s d b r)
 
 pub record Served (s : State) (q : Queue) (g : Rig) (f v : ℕ) (r : Work) : Type 0 where
   pub is :

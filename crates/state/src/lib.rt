@@ -5,7 +5,8 @@ use rig::Rig;
 use steps::Queue;
 ghost use Prim.Native.Nat.{_+_, _<_, _≤_};
 ghost use Rattle.chains.specs.Held.{Sound};
-ghost use Rattle.state.specs.Post.{Whole, FlagOk, Begins, MayWait, Timed, TickOk, CancelOk, Woken, WokenDue, WaitsOn, WaitsUntil, Dispatched, Offered, Served, Emptied, Finished, Terminated, Cancelled, Scheduled, Ticked, Blank, Fits, Room};
+ghost use Rattle.state.specs.Post.{FlagOk, Begins, MayWait, Timed, TickOk, CancelOk, Awoken, WokenDue, WaitsOn, WaitsUntil, Dispatched, Offering, Emptied, Finished, Terminated, Cancelled, Scheduled, Ticked, Blank, Room};
+ghost use Rattle.state.specs.Set.{withTables};
 
 // Tables by number, place 0 unused; a condition at 16 * task + position.
 #[repr(C)]
@@ -46,23 +47,6 @@ impl State {
             links: links,
             running: 0,
         }
-    }
-
-    // All who wait in the chain of anchor s become dispatchable.
-    pub fn wake_chain(mut self, s: usize) -> State
-        requires { ⌜ Sound (self .links) ⌝ }
-        requires { ⌜ (64 < s) × (s < 322) ⌝ }
-        ensures { λ r. ⌜ Woken self s r ⌝ }
-    {
-        let mut k = self.links;
-        let mut v = k.next[s] as usize;
-        while v != s {
-            k = chains::unlink(k, v);
-            self.state[v] = 3;
-            v = k.next[s] as usize;
-        }
-        self.links = k;
-        self
     }
 
     // The tasks due at the count become dispatchable: they leave the time chain from its front.
@@ -206,79 +190,94 @@ impl State {
 }
 
 // Tasks 1 to 64, by rising number: each inactive one that is ready for flag f is activated.
-pub fn offers(w: Work, rig: Rig, f: u8) -> Work
-    requires { ⌜ Fits rig × Room w ⌝ }
-    ensures { λ r. ⌜ Offered w rig f r ⌝ }
+pub fn offers<'a>(
+    present: &'a [u8; 1040],
+    latched: &'a [u8; 1040],
+    desired: &'a [u8; 1040],
+    atask: &'a [u8; 1024],
+    aflag: &'a [u8; 1024],
+    activation: &'a [u8; 65],
+    n: usize,
+    f: u8,
+    cond: &mut [u8; 1040],
+    state: &mut [u8; 65],
+    queue: Queue,
+) -> Queue
+    requires { ⌜ n ≤ 1024 ⌝ }
+    requires { ⌜ Room (now state) queue ⌝ }
+    ensures { λ r. ⌜ Offering (withTables (now (present .entry)) (now (latched .entry)) (now (desired .entry)) (now (atask .entry)) (now (aflag .entry)) (now (activation .entry)) n) f (now (cond .entry)) (now (state .entry)) queue (now (cond .exit)) (now (state .exit)) r ⌝ }
 {
-    let mut s = w.st;
-    let mut q = w.queue;
-    let n = rig.alines as usize;
+    let mut q = queue;
     let mut i: usize = 0;
     while i < 64 {
         let t = i + 1;
-        let a = s.state[t];
-        if steps::ready(
-            &rig.present,
-            &rig.desired,
-            &rig.atask,
-            &rig.aflag,
-            n,
-            t,
-            f,
-            &s.cond,
-            a,
-        ) {
-            s.state[t] = 3;
-            steps::relax(&rig.present, &rig.latched, &rig.desired, t, &mut s.cond);
-            let g = rig.activation[t];
+        let a = state[t];
+        if steps::ready(present, desired, atask, aflag, n, t, f, &*cond, a) {
+            state[t] = 3;
+            steps::relax(present, latched, desired, t, &mut *cond);
+            let g = activation[t];
             q = q.push(g, 1);
         }
         i = i + 1;
     }
-    Work { st: s, queue: q }
+    q
 }
 
-// One entry is served: the flag takes the value, and so do its conditions; who waits for it is woken; tasks are activated.
-pub fn serve_flag(st: State, queue: Queue, rig: Rig, f: u8, v: u8) -> Work
-    requires { ⌜ Whole rig st queue × FlagOk f v ⌝ }
-    ensures { λ r. ⌜ Served st queue rig f v r ⌝ }
+// All who wait in the chain of anchor s become dispatchable.
+pub fn wake(links: Links, state: &mut [u8; 65], s: usize) -> Links
+    requires { ⌜ Sound links ⌝ }
+    requires { ⌜ (64 < s) × (s < 322) ⌝ }
+    ensures { λ r. ⌜ Awoken links (now (state .entry)) s r (now (state .exit)) ⌝ }
 {
-    let mut s = st;
-    let n = rig.alines as usize;
-    let i = f as usize;
-    s.value[i] = v;
-    steps::drive(&rig.atask, &rig.apos, &rig.aflag, n, f, v, &mut s.cond);
-    let c = 64 + 2 * i + (v as usize);
-    let s2 = s.wake_chain(c);
-    offers(
-        Work {
-            st: s2,
-            queue: queue,
-        },
-        rig,
-        f,
-    )
+    let mut k = links;
+    let mut v = k.next[s] as usize;
+    while v != s {
+        k = chains::unlink(k, v);
+        state[v] = 3;
+        v = k.next[s] as usize;
+    }
+    k
 }
 
-// The last queued is taken off and served, until the queue is empty.
-pub fn serve(st: State, queue: Queue, rig: Rig) -> Done
+// The last queued is taken off and served, until the queue is empty. States and links are locals: two fields of one
+// struct cannot be lent at once, and a call by value would copy the state for each flag. The links are copied only where
+// somebody waits.
+pub fn serve(mut st: State, queue: Queue, rig: Rig) -> Done
     requires { ⌜ Begins rig st queue ⌝ }
     ensures { λ r. ⌜ Emptied rig st queue r ⌝ }
 {
-    let mut s = st;
+    let mut state = st.state;
+    let mut links = st.links;
     let mut q = queue;
     let mut k: u32 = 0;
+    let n = rig.alines as usize;
     while q.n != 0 {
         let j = q.n - 1;
         let f = q.flag[j];
         let v = q.value[j];
         q.n = j;
-        let x = serve_flag(s, q, rig, f, v);
-        let s2 = x.st;
-        let q2 = x.queue;
-        s = s2;
-        q = q2;
+        st.value[f as usize] = v;
+        steps::drive(&rig.atask, &rig.apos, &rig.aflag, n, f, v, &mut st.cond);
+        let c = 64 + 2 * (f as usize) + (v as usize);
+        if links.next[c] as usize != c {
+            links = wake(links, &mut state, c);
+        }
+        q = offers(
+            &rig.present,
+            &rig.latched,
+            &rig.desired,
+            &rig.atask,
+            &rig.aflag,
+            &rig.activation,
+            n,
+            f,
+            &mut st.cond,
+            &mut state,
+            q,
+        );
         k = k + 1;
     }
-    Done { st: s, served: k }
+    st.state = state;
+    st.links = links;
+    Done { st: st, served: k }
 }

@@ -1,6 +1,6 @@
 -- What the rules see of a minor cycle's list and of the queue.
 use mathlib.Core.List.{List, [], _∷_}
-use Prim.Native.Nat.{ℕ, zero, suc}
+use Prim.Native.Nat.{ℕ, zero, suc, _+_}
 use lib.ListN.{getD}
 use Rattle.chains.specs.Held.{at}
 use Rattle.rig.specs.declared.Cycle.{Cycle}
@@ -13,6 +13,10 @@ noCycle = record { flags = [] }
 -- the flag at a place of a cycle's list
 abbrev pub minorOf : List Cycle → ℕ → ℕ → ℕ
 minorOf cycles c = at (getD cycles c noCycle .flags)
+
+-- a table from place k on
+abbrev pub past : ℕ → List ℕ → ℕ → ℕ
+past k l i = at l (k + i)
 
 -- the queue, the last queued first
 unfoldable pub entries : List ℕ → List ℕ → ℕ → List Entry

@@ -8,12 +8,13 @@ ghost use Prim.Native.Nat.{_+_, _-_, _*_, _<_, _≤_};
 ghost use lib.Dec.{eqb, ltb, leb};
 ghost use lib.ListN.{take};
 ghost use Rattle.chains.specs.Held.{at, Sound};
+ghost use Rattle.laws.specs.Any.{any};
 ghost use Rattle.rules.specs.Conditions.{relax, met, drive, names};
 ghost use Rattle.rules.specs.Running.{best, chosen};
 ghost use Rattle.rules.specs.Calls.{isActivation, inCycle, isMinor, cycleQueue};
 ghost use Rattle.rules.specs.State.{active};
 ghost use Rattle.rules.specs.Family.{family, cleared, offs};
-ghost use Rattle.steps.specs.View.{minorOf, entriesOf};
+ghost use Rattle.steps.specs.View.{minorOf, entriesOf, past};
 ghost use Rattle.steps.specs.Post.{Lines, Controllers, Left, Deserted, Pushed};
 
 pub fn undesired(d: u8) -> u8
@@ -108,7 +109,8 @@ pub fn met<'a>(
     true
 }
 
-// Every condition with an A line of the flag f, of the first n, takes v.
+// Every condition with an A line of the flag f, of the first n, takes v. Few lines are of one flag: sixteen are passed
+// over at once.
 pub fn drive<'a>(
     atask: &'a [u8; 1024],
     apos: &'a [u8; 1024],
@@ -122,14 +124,55 @@ pub fn drive<'a>(
     ensures { λ r. ⌜ now (cond .exit) ≡ drive n (at (now (atask .entry))) (at (now (apos .entry))) (at (now (aflag .entry))) f v (now (cond .entry)) ⌝ }
 {
     let mut k: usize = 0;
-    while k < n {
-        if aflag[k] == f {
-            let t = atask[k] as usize;
-            let p = apos[k] as usize;
+    while k + 16 <= n {
+        if named_from(aflag, k, f) {
+            drive_from(atask, apos, aflag, k, 16, f, v, cond);
+        }
+        k = k + 16;
+    }
+    drive_from(atask, apos, aflag, k, n - k, f, v, cond);
+}
+
+// The same of m lines from line k on.
+fn drive_from<'a>(
+    atask: &'a [u8; 1024],
+    apos: &'a [u8; 1024],
+    aflag: &'a [u8; 1024],
+    k: usize,
+    m: usize,
+    f: u8,
+    v: u8,
+    cond: &mut [u8; 1040],
+)
+    requires { ⌜ Lines (k + m) (now atask) (now apos) ⌝ }
+    ensures { λ r. ⌜ now (cond .exit) ≡ drive m (past k (now (atask .entry))) (past k (now (apos .entry))) (past k (now (aflag .entry))) f v (now (cond .entry)) ⌝ }
+{
+    let mut i: usize = 0;
+    while i < m {
+        let l = k + i;
+        if aflag[l] == f {
+            let t = atask[l] as usize;
+            let p = apos[l] as usize;
             cond[16 * t + p] = v;
         }
-        k = k + 1;
+        i = i + 1;
     }
+}
+
+// Whether one of the sixteen lines from line k on is of flag f. All sixteen are looked at: so they are compared at once.
+fn named_from(aflag: &[u8; 1024], k: usize, f: u8) -> bool
+    requires { ⌜ k + 16 ≤ 1024 ⌝ }
+    ensures { λ r. ⌜ r ≡ any 16 (λ i. eqb (past k (now (aflag .entry)) i) f) ⌝ }
+{
+    let mut found: u8 = 0;
+    let mut i: usize = 0;
+    while i < 16 {
+        if aflag[k + i] == f {
+            found = 1;
+        }
+        i = i + 1;
+    }
+    found == 1
 }
 
 // Whether task t has flag f in a condition.

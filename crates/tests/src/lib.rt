@@ -64,27 +64,27 @@ pub fn empty(table: &[u32; 65], many: usize) -> bool
     true
 }
 
-fn cond_ok(present: u8, value: u8) -> bool
-    ensures { λ r. ⌜ r ≡ leb value (cond (eqb present 1) 1 0) ⌝ }
+// The largest value of a condition.
+fn allowed(present: u8) -> u8
+    ensures { λ r. ⌜ r ≡ cond (eqb present 1) 1 0 ⌝ }
 {
-    if present == 1 {
-        return value <= 1;
-    }
-    value == 0
+    if present == 1 { 1 } else { 0 }
 }
 
-// A condition has the value 0 or 1, and one that is not there 0.
+// A condition has the value 0 or 1, and one that is not there 0. The loop marks what fails and goes on: one that does not
+// leave early tests many entries at once.
 pub fn conds<'a>(present: &'a [u8; 1040], conds: &'a [u8; 1040]) -> bool
     ensures { λ r. ⌜ r ≡ condsB (now (present .entry)) (now (conds .entry)) ⌝ }
 {
+    let mut bad: u8 = 0;
     let mut i: usize = 0;
     while i < 1040 {
-        if !cond_ok(present[i], conds[i]) {
-            return false;
+        if allowed(present[i]) < conds[i] {
+            bad = 1;
         }
         i = i + 1;
     }
-    true
+    bad == 0
 }
 
 fn tree_ok(t: usize, state: u8, above: u8) -> bool

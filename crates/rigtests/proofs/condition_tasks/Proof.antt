@@ -1,80 +1,42 @@
-use borrow.Author.Needs.{needs}
-use mathlib.Core.Path.{_≡_, sym, _∙_}
-use mathlib.Core.Bool.{true}
+use mathlib.Core.Path.{sym, _∙_}
 use borrow.Author.Tests.{not-true, not-false}
-use Prim.Native.Nat.{_≤_, _-_}
-use native.Mathlib.Omega.{arith}
-use Rattle.laws.specs.All.{all, all-zero, all-next, all-not}
-use Rattle.rigtests.specs.Tests.{conditionTaskOne, conditionTasksB}
+use borrow.Author.Needs.{needs}
+use Rattle.laws.specs.Cases.{and-go, and-stop}
+use Rattle.rigtests.specs.Passes.{condition-tasks-each}
 use Rattle.rigtests.proofs.condition_tasks.Statement.{statement}
 use Rattle.rigtests.proofs.condition_tasks.Tie as tie
 use Rattle.rigtests.proofs.condition_tasks.Reads as reads
 use Rattle.rigtests.proofs.condition_tasks.Lts as lts
-use Rattle.rigtests.proofs.condition_task_ok.Reads as condition-task-ok-reads
+use Rattle.rigtests.proofs.zeros.Reads as zeros-reads
 
-abbrev Inv-loop : tie.InvT-loop
-Inv-loop tasks present top p₀ p = (all p (conditionTaskOne tasks present) ≡ true) × (p ≤ 1040)
-
-abbrev μ-loop : tie.MeasureT-loop
-μ-loop tasks present top p₀ p = 1040 - p
-
--- src/lib.rt:156:21
-add-top : tie.Need-add-top Inv-loop μ-loop
+-- src/lib.rt:174:21
+add-top : tie.Need-add-top
 add-top c = search needs
 
--- src/lib.rt:156:15
-mul-top : tie.Need-mul-top Inv-loop μ-loop
+-- src/lib.rt:174:15
+mul-top : tie.Need-mul-top
 mul-top c = search needs
 
--- src/lib.rt:158:5
-loop-holds : tie.Need-loop-holds Inv-loop μ-loop
-loop-holds c = (all-zero _, search needs)
+-- src/lib.rt:175:9
+zeros-requires : tie.Need-zeros-requires
+zeros-requires c κs = search needs
 
--- src/lib.rt:159:36
-element-copy-out-condition-task-ok : tie.Need-element-copy-out-condition-task-ok Inv-loop μ-loop
-element-copy-out-condition-task-ok c = search needs
+-- src/lib.rt:176:9
+returns : tie.Need-returns
+returns c =
+    let s = c .before .before .before .args in
+    sym (condition-tasks-each (s .tasks) (s .present .now) ∙ and-stop _ (sym (c .before .zeros .ensures) ∙ not-true _ (c .if1 .taken)))
 
--- src/lib.rt:159:13
-condition-task-ok-requires : tie.Need-condition-task-ok-requires Inv-loop μ-loop
-condition-task-ok-requires c κs = search needs
+-- src/lib.rt:178:5
+zeros-requires-2 : tie.Need-zeros-requires-2
+zeros-requires-2 c κs = search needs
 
--- src/lib.rt:160:13
-returns : tie.Need-returns Inv-loop μ-loop
-unfolding conditionTasksB
-returns c = sym (all-not _ _ (c .before .before .before .before .loop .p) (c .before .before .before .loop-test .taken) (sym (c .before .condition-task-ok .ensures) ∙ not-true _ (c .if1 .taken)))
-
--- src/lib.rt:162:13
-add-p : tie.Need-add-p Inv-loop μ-loop
-add-p c = search needs
-
--- src/lib.rt:158:5
-loop-less : tie.Need-loop-less Inv-loop μ-loop
-loop-less c = search needs
-
--- src/lib.rt:158:5
-loop-again : tie.Need-loop-again Inv-loop μ-loop
-loop-again c = (all-next _ _ (c .before .before .before .before .loop .inv .0) (sym (c .before .condition-task-ok .ensures) ∙ not-false _ (c .if1 .left)), search needs)
-
--- src/lib.rt:153:1
-returns-2 : tie.Need-returns-2 Inv-loop μ-loop
-unfolding conditionTasksB
+-- src/lib.rt:171:1
+returns-2 : tie.Need-returns-2
 returns-2 c =
-    let e : c .before .loop .p ≡ 1040 = omega arith in
-    sym (rw e at (c .before .loop .inv .0))
+    let s = c .before .before .before .before .before .args in
+    sym (condition-tasks-each (s .tasks) (s .present .now) ∙ and-go (sym (c .before .before .before .zeros .ensures) ∙ not-false _ (c .before .before .if1 .left)) (sym (c .zeros2 .ensures)))
 
 pub condition-tasks-spec : {M : Type 1} → statement M
 condition-tasks-spec =
-    tie.close
-    (tie.spec
-    Inv-loop
-    μ-loop
-    add-top
-    mul-top
-    loop-holds
-    element-copy-out-condition-task-ok
-    condition-task-ok-requires
-    returns
-    add-p
-    loop-less
-    loop-again
-    returns-2)
+    tie.close (tie.spec add-top mul-top zeros-requires returns zeros-requires-2 returns-2)

@@ -20,44 +20,44 @@ Inv-loop flags i₀ i = (all i (flagRises flags) ≡ true) × ((length flags ≡
 abbrev μ-loop : tie.MeasureT-loop
 μ-loop flags i₀ i = 14 - i
 
--- src/lib.rt:133:5
+-- src/lib.rt:145:5
 loop-holds : tie.Need-loop-holds Inv-loop μ-loop
 loop-holds c = (all-zero _, search needs)
 
--- src/lib.rt:134:24
+-- src/lib.rt:146:24
 array-read-flag-rises : tie.Need-array-read-flag-rises Inv-loop μ-loop
 array-read-flag-rises c = search needs
 
--- src/lib.rt:134:40
+-- src/lib.rt:146:40
 add-flag-rises : tie.Need-add-flag-rises Inv-loop μ-loop
 add-flag-rises c = search needs
 
--- src/lib.rt:134:34
+-- src/lib.rt:146:34
 array-read-flag-rises-2 : tie.Need-array-read-flag-rises-2 Inv-loop μ-loop
 array-read-flag-rises-2 c = search needs
 
--- src/lib.rt:134:13
+-- src/lib.rt:146:13
 flag-rises-requires : tie.Need-flag-rises-requires Inv-loop μ-loop
 flag-rises-requires c κs = search needs
 
--- src/lib.rt:135:13
+-- src/lib.rt:147:13
 returns : tie.Need-returns Inv-loop μ-loop
 unfolding cycleRises
 returns c = sym (and-go (eq-eqb _ _ (c .before .before .before .loop .inv .1 .0)) (all-not 14 (flagRises (c .before .before .before .before .args .t1)) (c .before .before .before .loop .i) (c .before .before .loop-test .taken) (sym (c .before .flag-rises .ensures) ∙ not-true _ (c .if1 .taken))))
 
--- src/lib.rt:137:13
+-- src/lib.rt:149:13
 add-i : tie.Need-add-i Inv-loop μ-loop
 add-i c = search needs
 
--- src/lib.rt:133:5
+-- src/lib.rt:145:5
 loop-less : tie.Need-loop-less Inv-loop μ-loop
 loop-less c = search needs
 
--- src/lib.rt:133:5
+-- src/lib.rt:145:5
 loop-again : tie.Need-loop-again Inv-loop μ-loop
 loop-again c = (all-next _ _ (c .before .before .before .loop .inv .0) (sym (c .before .flag-rises .ensures) ∙ not-false _ (c .if1 .left)), search needs)
 
--- src/lib.rt:129:1
+-- src/lib.rt:141:1
 returns-2 : tie.Need-returns-2 Inv-loop μ-loop
 unfolding cycleRises
 returns-2 c =

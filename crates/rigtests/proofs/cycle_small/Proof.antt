@@ -17,32 +17,32 @@ Inv-loop top flags i₀ i = (all i (smallOne flags top) ≡ true) × (i ≤ 15)
 abbrev μ-loop : tie.MeasureT-loop
 μ-loop top flags i₀ i = 15 - i
 
--- src/lib.rt:207:5
+-- src/lib.rt:226:5
 loop-holds : tie.Need-loop-holds Inv-loop μ-loop
 loop-holds c = (all-zero _, search needs)
 
--- src/lib.rt:208:18
+-- src/lib.rt:227:18
 element-copy-out-if1 : tie.Need-element-copy-out-if1 Inv-loop μ-loop
 element-copy-out-if1 c = search needs
 
--- src/lib.rt:209:13
+-- src/lib.rt:228:13
 returns : tie.Need-returns Inv-loop μ-loop
 unfolding cycleSmall
 returns c = sym (all-not _ _ (c .before .before .before .loop .i) (c .before .before .loop-test .taken) (lt-leb _ _ (c .if1 .taken)))
 
--- src/lib.rt:211:13
+-- src/lib.rt:230:13
 add-i : tie.Need-add-i Inv-loop μ-loop
 add-i c = search needs
 
--- src/lib.rt:207:5
+-- src/lib.rt:226:5
 loop-less : tie.Need-loop-less Inv-loop μ-loop
 loop-less c = search needs
 
--- src/lib.rt:207:5
+-- src/lib.rt:226:5
 loop-again : tie.Need-loop-again Inv-loop μ-loop
 loop-again c = (all-next _ _ (c .before .before .before .loop .inv .0) (le-leb _ _ (c .if1 .left)), search needs)
 
--- src/lib.rt:203:1
+-- src/lib.rt:222:1
 returns-2 : tie.Need-returns-2 Inv-loop μ-loop
 unfolding cycleSmall
 returns-2 c =

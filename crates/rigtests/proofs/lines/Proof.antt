@@ -1,80 +1,45 @@
-use borrow.Author.Needs.{needs}
-use mathlib.Core.Path.{_≡_, sym, _∙_}
-use mathlib.Core.Bool.{true}
+use mathlib.Core.Path.{sym, _∙_}
 use borrow.Author.Tests.{not-true, not-false}
-use Prim.Native.Nat.{_≤_, _-_}
-use native.Mathlib.Omega.{arith}
-use Rattle.laws.specs.All.{all, all-zero, all-next, all-not}
-use Rattle.rigtests.specs.Tests.{lineOne, linesB}
+use borrow.Author.Needs.{needs}
+use Rattle.laws.specs.Cases.{and-go, and-stop}
+use Rattle.rigtests.specs.Passes.{lines-each}
 use Rattle.rigtests.proofs.lines.Statement.{statement}
 use Rattle.rigtests.proofs.lines.Tie as tie
 use Rattle.rigtests.proofs.lines.Reads as reads
 use Rattle.rigtests.proofs.lines.Lts as lts
-use Rattle.rigtests.proofs.line_ok.Reads as line-ok-reads
+use Rattle.rigtests.proofs.between.Reads as between-reads
 
-abbrev Inv-loop : tie.InvT-loop
-Inv-loop n tasks flags atask apos aflag k₀ k = (all k (lineOne tasks flags atask apos aflag) ≡ true) × (k ≤ n)
+-- src/lib.rt:213:9
+between-requires : tie.Need-between-requires
+between-requires c κs = search needs
 
-abbrev μ-loop : tie.MeasureT-loop
-μ-loop n tasks flags atask apos aflag k₀ k = n - k
+-- src/lib.rt:214:9
+returns : tie.Need-returns
+returns c =
+    let s = c .before .before .args in
+    sym (lines-each (s .n) (s .tasks) (s .flags) (s .atask .now) (s .apos .now) (s .aflag .now) ∙ and-stop _ (sym (c .before .between .ensures) ∙ not-true _ (c .if1 .taken)))
 
--- src/lib.rt:194:5
-loop-holds : tie.Need-loop-holds Inv-loop μ-loop
-loop-holds c = (all-zero _, search needs)
+-- src/lib.rt:216:9
+between-requires-2 : tie.Need-between-requires-2
+between-requires-2 c κs = search needs
 
--- src/lib.rt:195:35
-element-copy-out-line-ok : tie.Need-element-copy-out-line-ok Inv-loop μ-loop
-element-copy-out-line-ok c = search needs
-
--- src/lib.rt:195:45
-element-copy-out-line-ok-2 : tie.Need-element-copy-out-line-ok-2 Inv-loop μ-loop
-element-copy-out-line-ok-2 c = search needs
-
--- src/lib.rt:195:54
-element-copy-out-line-ok-3 : tie.Need-element-copy-out-line-ok-3 Inv-loop μ-loop
-element-copy-out-line-ok-3 c = search needs
-
--- src/lib.rt:195:13
-line-ok-requires : tie.Need-line-ok-requires Inv-loop μ-loop
-line-ok-requires c κs = search needs
-
--- src/lib.rt:196:13
-returns : tie.Need-returns Inv-loop μ-loop
-unfolding linesB
-returns c = sym (all-not _ _ (c .before .before .before .before .before .before .loop .k) (c .before .before .before .before .before .loop-test .taken) (sym (c .before .line-ok .ensures) ∙ not-true _ (c .if1 .taken)))
-
--- src/lib.rt:198:13
-add-k : tie.Need-add-k Inv-loop μ-loop
-add-k c = search needs
-
--- src/lib.rt:194:5
-loop-less : tie.Need-loop-less Inv-loop μ-loop
-loop-less c = search needs
-
--- src/lib.rt:194:5
-loop-again : tie.Need-loop-again Inv-loop μ-loop
-loop-again c = (all-next _ _ (c .before .before .before .before .before .before .loop .inv .0) (sym (c .before .line-ok .ensures) ∙ not-false _ (c .if1 .left)), search needs)
-
--- src/lib.rt:182:1
-returns-2 : tie.Need-returns-2 Inv-loop μ-loop
-unfolding linesB
+-- src/lib.rt:217:9
+returns-2 : tie.Need-returns-2
 returns-2 c =
-    let e : c .before .loop .k ≡ c .before .before .args .n = omega arith in
-    sym (rw e at (c .before .loop .inv .0))
+    let s = c .before .before .before .before .args in
+    sym (lines-each (s .n) (s .tasks) (s .flags) (s .atask .now) (s .apos .now) (s .aflag .now) ∙ and-go (sym (c .before .before .before .between .ensures) ∙ not-false _ (c .before .before .if1 .left)) (and-stop _ (sym (c .before .between2 .ensures) ∙ not-true _ (c .if2 .taken))))
+
+-- src/lib.rt:219:5
+between-requires-3 : tie.Need-between-requires-3
+between-requires-3 c κs = search needs
+
+-- src/lib.rt:202:1
+returns-3 : tie.Need-returns-3
+returns-3 c =
+    let s = c .before .before .before .before .before .args in
+    sym (lines-each (s .n) (s .tasks) (s .flags) (s .atask .now) (s .apos .now) (s .aflag .now) ∙ and-go (sym (c .before .before .before .before .between .ensures) ∙ not-false _ (c .before .before .before .if1 .left)) (and-go (sym (c .before .before .between2 .ensures) ∙ not-false _ (c .before .if2 .left)) (sym (c .between3 .ensures))))
 
 pub lines-spec : {M : Type 1} → statement M
 lines-spec =
     tie.close
-    (tie.spec
-    Inv-loop
-    μ-loop
-    loop-holds
-    element-copy-out-line-ok
-    element-copy-out-line-ok-2
-    element-copy-out-line-ok-3
-    line-ok-requires
-    returns
-    add-k
-    loop-less
-    loop-again
-    returns-2)
+    (tie.spec between-requires returns between-requires-2 returns-2 between-requires-3 returns-3)

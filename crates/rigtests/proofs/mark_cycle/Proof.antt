@@ -18,38 +18,38 @@ Inv-loop flags table₀ i₀ table i = (table ≡ iter i (markOne (at flags)) ta
 abbrev μ-loop : tie.MeasureT-loop
 μ-loop flags table₀ i₀ table i = 15 - i
 
--- src/lib.rt:311:5
+-- src/lib.rt:330:5
 loop-holds : tie.Need-loop-holds Inv-loop μ-loop
 loop-holds c = (sym (iter-zero _ _), search needs)
 
--- src/lib.rt:312:22
+-- src/lib.rt:331:22
 element-copy-out-wide : tie.Need-element-copy-out-wide Inv-loop μ-loop
 element-copy-out-wide c = search needs
 
--- src/lib.rt:312:13
+-- src/lib.rt:331:13
 wide-requires : tie.Need-wide-requires Inv-loop μ-loop
 wide-requires c κs = search needs
 
--- src/lib.rt:313:9
+-- src/lib.rt:332:9
 element-write-table : tie.Need-element-write-table Inv-loop μ-loop
 element-write-table c = omega (arith, c .wide .ensures, c .before .before .before .before .pre (c .before .before .before .loop .i) (c .before .before .loop-test .taken))
 
--- src/lib.rt:314:13
+-- src/lib.rt:333:13
 add-i : tie.Need-add-i Inv-loop μ-loop
 add-i c = search needs
 
--- src/lib.rt:311:5
+-- src/lib.rt:330:5
 loop-less : tie.Need-loop-less Inv-loop μ-loop
 loop-less c = search needs
 
--- src/lib.rt:311:5
+-- src/lib.rt:330:5
 loop-again : tie.Need-loop-again Inv-loop μ-loop
 loop-again c =
     let d = c .before .before .before in
     let a = d .before .args in
     (ap (λ (p : ℕ). set (d .loop .table) p 1) (c .wide .ensures) ∙ iter-step (d .loop .i) (markOne (at (a .flags .now))) (a .table .now) (d .loop .table) (d .loop .inv .0), search needs)
 
--- src/lib.rt:306:1
+-- src/lib.rt:325:1
 returns : tie.Need-returns Inv-loop μ-loop
 unfolding marks
 returns c =

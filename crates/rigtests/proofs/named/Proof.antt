@@ -19,44 +19,44 @@ Inv-loop n present atask apos k₀ k = (all k (namedOne present atask apos) ≡ 
 abbrev μ-loop : tie.MeasureT-loop
 μ-loop n present atask apos k₀ k = n - k
 
--- src/lib.rt:345:5
+-- src/lib.rt:364:5
 loop-holds : tie.Need-loop-holds Inv-loop μ-loop
 loop-holds c = (all-zero _, search needs)
 
--- src/lib.rt:346:26
+-- src/lib.rt:365:26
 element-copy-out-place-of : tie.Need-element-copy-out-place-of Inv-loop μ-loop
 element-copy-out-place-of c = omega (arith, c .before .before .pre .few)
 
--- src/lib.rt:346:36
+-- src/lib.rt:365:36
 element-copy-out-place-of-2 : tie.Need-element-copy-out-place-of-2 Inv-loop μ-loop
 element-copy-out-place-of-2 c = omega (arith, c .before .before .before .pre .few)
 
--- src/lib.rt:346:13
+-- src/lib.rt:365:13
 place-of-requires : tie.Need-place-of-requires Inv-loop μ-loop
 place-of-requires c κs = search needs
 
--- src/lib.rt:347:12
+-- src/lib.rt:366:12
 element-copy-out-if1 : tie.Need-element-copy-out-if1 Inv-loop μ-loop
 element-copy-out-if1 c = omega (arith, c .place-of .ensures, c .before .before .before .before .before .pre .low (c .before .before .before .before .loop .k) (c .before .before .before .loop-test .taken))
 
--- src/lib.rt:348:13
+-- src/lib.rt:367:13
 returns : tie.Need-returns Inv-loop μ-loop
 unfolding namedB
 returns c = sym (all-not _ _ (c .before .before .before .before .before .before .loop .k) (c .before .before .before .before .before .loop-test .taken) (ap (λ (p : ℕ). eqb (at (c .before .before .before .before .before .before .before .args .present .now) p) 1) (sym (c .before .before .place-of .ensures)) ∙ ne-eqb _ _ (c .if1 .taken)))
 
--- src/lib.rt:350:13
+-- src/lib.rt:369:13
 add-k : tie.Need-add-k Inv-loop μ-loop
 add-k c = omega (arith, c .before .before .before .before .before .before .before .pre .few)
 
--- src/lib.rt:345:5
+-- src/lib.rt:364:5
 loop-less : tie.Need-loop-less Inv-loop μ-loop
 loop-less c = search needs
 
--- src/lib.rt:345:5
+-- src/lib.rt:364:5
 loop-again : tie.Need-loop-again Inv-loop μ-loop
 loop-again c = (all-next _ _ (c .before .before .before .before .before .before .loop .inv .0) (ap (λ (p : ℕ). eqb (at (c .before .before .before .before .before .before .before .args .present .now) p) 1) (sym (c .before .before .place-of .ensures)) ∙ eq-eqb _ _ (c .if1 .left)), search needs)
 
--- src/lib.rt:335:1
+-- src/lib.rt:354:1
 returns-2 : tie.Need-returns-2 Inv-loop μ-loop
 unfolding namedB
 returns-2 c =

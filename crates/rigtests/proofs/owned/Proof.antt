@@ -1,66 +1,64 @@
 use borrow.Author.Needs.{needs}
-use mathlib.Core.Path.{_≡_, sym, _∙_}
-use mathlib.Core.Bool.{true}
-use borrow.Author.Tests.{not-true, not-false}
+use mathlib.Core.Logic.{⊎-elim}
+use mathlib.Core.Path.{_≡_, sym, _∙_, ap}
+use mathlib.Core.Bool.{not}
+use borrow.Author.Tests.{eq-eqb, ne-eqb}
 use Prim.Native.Nat.{_≤_, _-_}
 use native.Mathlib.Omega.{arith}
-use Rattle.laws.specs.All.{all, all-zero, all-next, all-not}
+use Rattle.laws.specs.All.{Passed, passed-none, passed-next, passed-not}
+use Rattle.laws.specs.Cases.{or-skip, or-yes}
 use Rattle.rigtests.specs.Tables.{hasOwnerOne, hasOwnerB}
 use Rattle.rigtests.proofs.owned.Statement.{statement}
 use Rattle.rigtests.proofs.owned.Tie as tie
 use Rattle.rigtests.proofs.owned.Reads as reads
 use Rattle.rigtests.proofs.owned.Lts as lts
-use Rattle.rigtests.proofs.owned_ok.Reads as owned-ok-reads
 
 abbrev Inv-loop : tie.InvT-loop
-Inv-loop present table p₀ p = (all p (hasOwnerOne present table) ≡ true) × (p ≤ 1040)
+Inv-loop present table bad₀ p₀ bad p = Passed bad p (hasOwnerOne present table) × (p ≤ 1040)
 
 abbrev μ-loop : tie.MeasureT-loop
-μ-loop present table p₀ p = 1040 - p
+μ-loop present table bad₀ p₀ bad p = 1040 - p
 
--- src/lib.rt:381:5
+-- src/lib.rt:395:5
 loop-holds : tie.Need-loop-holds Inv-loop μ-loop
-loop-holds c = (all-zero _, search needs)
+loop-holds c = (passed-none _, search needs)
 
--- src/lib.rt:382:22
-element-copy-out-owned-ok : tie.Need-element-copy-out-owned-ok Inv-loop μ-loop
-element-copy-out-owned-ok c = search needs
+-- src/lib.rt:396:19
+element-copy-out-has : tie.Need-element-copy-out-has Inv-loop μ-loop
+element-copy-out-has c = search needs
 
--- src/lib.rt:382:34
-mul-owned-ok : tie.Need-mul-owned-ok Inv-loop μ-loop
-mul-owned-ok c = search needs
+-- src/lib.rt:397:21
+mul-owner : tie.Need-mul-owner Inv-loop μ-loop
+mul-owner c = search needs
 
--- src/lib.rt:382:34
-element-copy-out-owned-ok-2 : tie.Need-element-copy-out-owned-ok-2 Inv-loop μ-loop
-element-copy-out-owned-ok-2 c = search needs
+-- src/lib.rt:397:21
+element-copy-out-owner : tie.Need-element-copy-out-owner Inv-loop μ-loop
+element-copy-out-owner c = search needs
 
--- src/lib.rt:382:13
-owned-ok-requires : tie.Need-owned-ok-requires Inv-loop μ-loop
-owned-ok-requires c κs = search needs
-
--- src/lib.rt:383:13
-returns : tie.Need-returns Inv-loop μ-loop
-unfolding hasOwnerB
-returns c = sym (all-not _ _ (c .before .before .before .before .before .loop .p) (c .before .before .before .before .loop-test .taken) (sym (c .before .owned-ok .ensures) ∙ not-true _ (c .if1 .taken)))
-
--- src/lib.rt:385:13
+-- src/lib.rt:403:13
 add-p : tie.Need-add-p Inv-loop μ-loop
 add-p c = search needs
 
--- src/lib.rt:381:5
+-- src/lib.rt:395:5
 loop-less : tie.Need-loop-less Inv-loop μ-loop
 loop-less c = search needs
 
--- src/lib.rt:381:5
+-- src/lib.rt:395:5
 loop-again : tie.Need-loop-again Inv-loop μ-loop
-loop-again c = (all-next _ _ (c .before .before .before .before .before .loop .inv .0) (sym (c .before .owned-ok .ensures) ∙ not-false _ (c .if1 .left)), search needs)
+loop-again c = (
+  ⊎-elim (λ w. passed-not _ _ (sym (or-skip _ _ (ne-eqb _ 0 (w .0 .taken))) ∙ ap not (eq-eqb _ 0 (w .1 .taken))) (w .2))
+      (⊎-elim (λ w. passed-next _ _ (c .before .before .before .before .loop .inv .0) (sym (or-skip _ _ (ne-eqb _ 0 (w .0 .taken))) ∙ ap not (ne-eqb _ 0 (w .1 .left))) (w .2))
+      (λ w. passed-next _ _ (c .before .before .before .before .loop .inv .0) (sym (or-yes _ _ (eq-eqb _ 0 (w .0 .left)))) (w .1)))
+      (c .if1 .came),
+  search needs,
+)
 
--- src/lib.rt:377:1
-returns-2 : tie.Need-returns-2 Inv-loop μ-loop
+-- src/lib.rt:390:1
+returns : tie.Need-returns Inv-loop μ-loop
 unfolding hasOwnerB
-returns-2 c =
+returns c =
     let e : c .before .loop .p ≡ 1040 = omega arith in
-    sym (rw e at (c .before .loop .inv .0))
+    rw e at (c .before .loop .inv .0)
 
 pub owned-spec : {M : Type 1} → statement M
 owned-spec =
@@ -69,12 +67,10 @@ owned-spec =
     Inv-loop
     μ-loop
     loop-holds
-    element-copy-out-owned-ok
-    mul-owned-ok
-    element-copy-out-owned-ok-2
-    owned-ok-requires
-    returns
+    element-copy-out-has
+    mul-owner
+    element-copy-out-owner
     add-p
     loop-less
     loop-again
-    returns-2)
+    returns)

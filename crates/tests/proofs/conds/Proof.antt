@@ -1,34 +1,34 @@
 use borrow.Author.Needs.{needs}
-use mathlib.Core.Path.{_≡_, sym, _∙_}
-use mathlib.Core.Bool.{true}
-use borrow.Author.Tests.{not-true, not-false}
+use borrow.Author.Tests.{lt-leb, le-leb}
+use mathlib.Core.Logic.{⊎-elim}
+use mathlib.Core.Path.{_≡_}
 use Prim.Native.Nat.{_≤_, _-_}
 use native.Mathlib.Omega.{arith}
-use Rattle.laws.specs.All.{all, all-zero, all-next, all-not}
+use Rattle.laws.specs.All.{Passed, passed-none, passed-next, passed-not}
 use Rattle.tests.specs.Tests.{condOne}
 use Rattle.tests.proofs.conds.Statement.{statement}
 use Rattle.tests.proofs.conds.Tie as tie
+use Rattle.tests.proofs.conds.Reads as reads
+use Rattle.tests.proofs.conds.Lts as lts
+use Rattle.tests.proofs.allowed.Reads as allowed-reads
 
 abbrev Inv-loop : tie.InvT-loop
-Inv-loop present conds i₀ i = (all i (condOne present conds) ≡ true) × (i ≤ 1040)
+Inv-loop present conds bad₀ i₀ bad i = Passed bad i (condOne present conds) × (i ≤ 1040)
 
 abbrev μ-loop : tie.MeasureT-loop
-μ-loop present conds i₀ i = 1040 - i
+μ-loop present conds bad₀ i₀ bad i = 1040 - i
 
 loop-holds : tie.Need-loop-holds Inv-loop μ-loop
-loop-holds c = (all-zero _, search needs)
+loop-holds c = (passed-none _, search needs)
 
-element-copy-out-cond-ok : tie.Need-element-copy-out-cond-ok Inv-loop μ-loop
-element-copy-out-cond-ok c = search needs
+element-copy-out-allowed : tie.Need-element-copy-out-allowed Inv-loop μ-loop
+element-copy-out-allowed c = search needs
 
-element-copy-out-cond-ok-2 : tie.Need-element-copy-out-cond-ok-2 Inv-loop μ-loop
-element-copy-out-cond-ok-2 c = search needs
+allowed-requires : tie.Need-allowed-requires Inv-loop μ-loop
+allowed-requires c κs = search needs
 
-cond-ok-requires : tie.Need-cond-ok-requires Inv-loop μ-loop
-cond-ok-requires c κs = search needs
-
-returns : tie.Need-returns Inv-loop μ-loop
-returns c = sym (all-not _ _ (c .before .before .before .before .before .loop .i) (c .before .before .before .before .loop-test .taken) (sym (c .before .cond-ok .ensures) ∙ not-true _ (c .if1 .taken)))
+element-copy-out-if1 : tie.Need-element-copy-out-if1 Inv-loop μ-loop
+element-copy-out-if1 c = search needs
 
 add-i : tie.Need-add-i Inv-loop μ-loop
 add-i c = search needs
@@ -37,12 +37,18 @@ loop-less : tie.Need-loop-less Inv-loop μ-loop
 loop-less c = search needs
 
 loop-again : tie.Need-loop-again Inv-loop μ-loop
-loop-again c = (all-next _ _ (c .before .before .before .before .before .loop .inv .0) (sym (c .before .cond-ok .ensures) ∙ not-false _ (c .if1 .left)), search needs)
+loop-again c =
+    let a = c .before .before .allowed .ensures in (
+      ⊎-elim (λ w. passed-not _ _ (rw a at (lt-leb _ _ (w .0 .taken))) (w .1))
+          (λ w. passed-next _ _ (c .before .before .before .before .before .loop .inv .0) (rw a at (le-leb _ _ (w .0 .left))) (w .1))
+          (c .if1 .came),
+      search needs,
+    )
 
-returns-2 : tie.Need-returns-2 Inv-loop μ-loop
-returns-2 c =
+returns : tie.Need-returns Inv-loop μ-loop
+returns c =
     let e : c .before .loop .i ≡ 1040 = omega arith in
-    sym (rw e at (c .before .loop .inv .0))
+    rw e at (c .before .loop .inv .0)
 
 pub conds-spec : {M : Type 1} → statement M
 conds-spec =
@@ -51,11 +57,10 @@ conds-spec =
     Inv-loop
     μ-loop
     loop-holds
-    element-copy-out-cond-ok
-    element-copy-out-cond-ok-2
-    cond-ok-requires
-    returns
+    element-copy-out-allowed
+    allowed-requires
+    element-copy-out-if1
     add-i
     loop-less
     loop-again
-    returns-2)
+    returns)

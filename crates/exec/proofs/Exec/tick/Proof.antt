@@ -4,9 +4,8 @@ use lib.ListN.{length}
 use Rattle.rules.specs.Calls as R
 use Rattle.exec.specs.Sound.{rigIn, view}
 use Rattle.exec.specs.Refusing.{judged-sound, judged-none, judged-meets, tick-table}
-use Rattle.compool.specs.View.{rowsOf}
 use Rattle.exec.specs.Settling.{settles}
-use Rattle.exec.specs.Tick.{tick-ok, tick-room, rows-fit, bus-few, ticked-work, tick-meets}
+use Rattle.exec.specs.Tick.{tick-ok, tick-room, rows-fit, bus-fits, ticked-work, tick-meets}
 use Rattle.rules.specs.Calls.{lent}
 use borrow.Author.Needs.{needs}
 use Rattle.exec.proofs.Exec.tick.Statement.{statement}
@@ -62,7 +61,7 @@ cast-t15 c =
     let z = c .before .before .before .before .before .before .before .before .before .before .before .if1 .left in
     let h = judged-sound (a .self) _ (j .result) (j .ensures) z in
     let n = judged-none (a .self) _ (j .result) (j .ensures) z in
-    omega (arith, c .before .before .bus-words .ensures .0, bus-few (a .self .rig .rows) (a .self .rig .master) (rowsOf (a .self .rig .row)) (c .before .before .before .before .before .before .before .settled .result .st .count), h .rig .row-count)
+    omega (arith, bus-fits _ _ _ _ (c .before .before .bus-words .result) (c .before .before .bus-words .ensures .0) (h .rig .row-count))
 
 accept-requires : tie.Need-accept-requires
 accept-requires c κs = search needs

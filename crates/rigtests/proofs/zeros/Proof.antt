@@ -1,0 +1,58 @@
+use borrow.Author.Needs.{needs}
+use mathlib.Core.Logic.{⊎-elim}
+use mathlib.Core.Path.{sym, _∙_}
+use Prim.Native.Nat.{_≤_, _-_}
+use native.Mathlib.Omega.{arith}
+use borrow.Author.Tests.{eq-eqb, ne-eqb, le-ltb}
+use Rattle.laws.specs.All.{Passed, passed-next, passed-not}
+use Rattle.laws.specs.Cases.{or-skip}
+use Rattle.rigtests.specs.Passes.{zeroFrom, zeros-start, zeros-end}
+use Rattle.rigtests.proofs.zeros.Statement.{statement}
+use Rattle.rigtests.proofs.zeros.Tie as tie
+use Rattle.rigtests.proofs.zeros.Reads as reads
+use Rattle.rigtests.proofs.zeros.Lts as lts
+
+abbrev Inv-loop : tie.InvT-loop
+Inv-loop l from to bad₀ i₀ bad i = Passed bad i (zeroFrom from l) × ((from ≤ i) × (i - from ≤ to - from))
+
+abbrev μ-loop : tie.MeasureT-loop
+μ-loop l from to bad₀ i₀ bad i = to - i
+
+-- src/lib.rt:161:5
+loop-holds : tie.Need-loop-holds Inv-loop μ-loop
+loop-holds c = (sym (zeros-start (c .args .from) (c .args .l .now) (c .args .from) (omega arith)), search needs)
+
+-- src/lib.rt:162:12
+shared-slice-read-if1 : tie.Need-shared-slice-read-if1 Inv-loop μ-loop
+shared-slice-read-if1 c = search needs
+
+-- src/lib.rt:165:13
+add-i : tie.Need-add-i Inv-loop μ-loop
+add-i c = search needs
+
+-- src/lib.rt:161:5
+loop-less : tie.Need-loop-less Inv-loop μ-loop
+loop-less c = search needs
+
+-- src/lib.rt:161:5
+loop-again : tie.Need-loop-again Inv-loop μ-loop
+loop-again c =
+    let d = c .before .before .before .loop .inv in
+    let k = le-ltb (c .before .before .before .loop .i) (c .before .before .before .before .args .from) (d .1 .0) in (
+      ⊎-elim (λ w. passed-not _ _ (sym (or-skip _ _ k) ∙ ne-eqb _ 0 (w .0 .taken)) (w .1))
+          (λ w. passed-next _ _ (d .0) (sym (or-skip _ _ k) ∙ eq-eqb _ 0 (w .0 .left)) (w .1))
+          (c .if1 .came),
+      search needs,
+    )
+
+-- src/lib.rt:155:1
+returns : tie.Need-returns Inv-loop μ-loop
+returns c =
+    let a = c .before .before .args in
+    let d = c .before .loop .inv in
+    d .0 ∙ zeros-end (a .from) (a .to) (c .before .loop .i) (a .l .now) (d .1 .0) (d .1 .1) (c .loop-test .left)
+
+pub zeros-spec : {M : Type 1} → statement M
+zeros-spec =
+    tie.close
+    (tie.spec Inv-loop μ-loop loop-holds shared-slice-read-if1 add-i loop-less loop-again returns)

@@ -1,0 +1,153 @@
+-- The tests of a table's entries as the loops that do not leave early compute them, and that together they say what the tests
+-- of Tests.antt say.
+use mathlib.Core.Path.{_≡_, refl, sym, _∙_, ap, subst}
+use mathlib.Core.Bool.{Bool, true, false, cond, _&&_, _||_}
+use mathlib.Core.List.{List}
+use Prim.Native.Nat.{ℕ, _+_, _-_, _*_, _≤_, _<_}
+use native.Mathlib.Omega.{arith}
+use lib.Dec.{eqb, leb, ltb, leb·zero}
+use borrow.Author.Tests.{eqb-true, eqb-false, leb-true, leb-false, ltb-true, ltb-false, le-leb, lt-leb, lt-ltb, le-ltb}
+use Rattle.laws.specs.Cases.{by, by-eqb, and-go, and-stop, and-no, or-yes}
+use Rattle.laws.specs.All.{all, all-all, all-same, all-three, Passed, passed-next, passed-not}
+use Rattle.laws.specs.Decides.{is-eqb, is-leb, is-ltb, is-and, is-else, is-all, is-said, is-same}
+use Rattle.rigtests.specs.Tests.{at, within, smallOne, conditionsB, risesTest, lineRises, conditionTasksB, lineOne, linesB, lineZeroOne, lineZerosB}
+
+-- at most the other table's entry at its place
+abbrev pub underOne : List ℕ → List ℕ → ℕ → Bool
+underOne a b i = leb (at a i) (at b i)
+
+-- 0 from a place on
+abbrev pub zeroFrom : ℕ → List ℕ → ℕ → Bool
+zeroFrom from l i = ltb i from || eqb (at l i) 0
+
+abbrev pub betweenOne : ℕ → ℕ → List ℕ → ℕ → Bool
+betweenOne low high l k = within low (at l k) high
+
+-- an A line's numbers as one
+abbrev pub lineKey : ℕ → ℕ → ℕ → ℕ
+lineKey t p f = 65536 * t + 256 * p + f
+
+pub conditions-each : (present latched desired : List ℕ)
+    → conditionsB present latched desired ≡ (all 1040 (smallOne present 1) && (all 1040 (underOne latched present) && all 1040 (underOne desired present)))
+unfolding conditionsB
+conditions-each present latched desired = all-three 1040 (smallOne present 1) (underOne latched present) (underOne desired present)
+
+pub lines-each : (n tasks flags : ℕ) (atask apos aflag : List ℕ)
+    → linesB n tasks flags atask apos aflag
+    ≡ (all n (betweenOne 1 tasks atask) && (all n (betweenOne 0 15 apos) && all n (betweenOne 1 flags aflag)))
+unfolding linesB
+lines-each n tasks flags atask apos aflag =
+    all-same n (lineOne tasks flags atask apos aflag) (λ k. betweenOne 1 tasks atask k && (betweenOne 0 15 apos k && betweenOne 1 flags aflag k))
+    (λ k h. rw (leb·zero (at apos k)))
+    ∙ all-three n (betweenOne 1 tasks atask) (betweenOne 0 15 apos) (betweenOne 1 flags aflag)
+
+or-three : (o a b c : Bool) → (o || (a && (b && c))) ≡ ((o || a) && ((o || b) && (o || c)))
+or-three true a b c = refl
+or-three false a b c = refl
+
+pub line-zeros-each : (n : ℕ) (atask apos aflag : List ℕ)
+    → lineZerosB n atask apos aflag ≡ (all 1024 (zeroFrom n atask) && (all 1024 (zeroFrom n apos) && all 1024 (zeroFrom n aflag)))
+unfolding lineZerosB
+line-zeros-each n atask apos aflag =
+    all-same 1024 (lineZeroOne n atask apos aflag) (λ k. zeroFrom n atask k && (zeroFrom n apos k && zeroFrom n aflag k))
+    (λ k h. or-three (ltb k n) (eqb (at atask k) 0) (eqb (at apos k) 0) (eqb (at aflag k) 0))
+    ∙ all-three 1024 (zeroFrom n atask) (zeroFrom n apos) (zeroFrom n aflag)
+
+-- the places before the first that must be 0
+pub zeros-start : (from : ℕ) (l : List ℕ) (n : ℕ) → n ≤ from → all n (zeroFrom from l) ≡ true
+zeros-start from l n h =
+    all-all n (zeroFrom from l) (λ k g. sym (or-yes (ltb k from) (eqb (at l k) 0) (lt-ltb k from (omega (arith, g, h)))))
+
+-- where the loop ends: at `to`, or at once
+pub zeros-end : (from to i : ℕ) (l : List ℕ) → from ≤ i → i - from ≤ to - from → to ≤ i → all i (zeroFrom from l) ≡ all to (zeroFrom from l)
+zeros-end from to i l a b d =
+    by (ltb to from)
+    (λ e. zeros-start from l i (omega (arith, ltb-true to from e)) ∙ sym (zeros-start from l to (omega (arith, ltb-true to from e))))
+    (λ e. ap (λ (k : ℕ). all k (zeroFrom from l)) (omega (arith, ltb-false to from e)))
+
+-- no condition of task 0, none of a task above the last
+module _ (tasks : ℕ) (present : List ℕ) where
+  abbrev Inside : ℕ → Type 0
+  Inside p = (16 ≤ p) × (p < 16 * (tasks + 1))
+
+  abbrev Outside : Type 0
+  Outside = ((i : ℕ) → i < 16 → (i < 0 → ⊥) → at present i ≡ 0) × ((i : ℕ) → i < 1040 → (i < 16 * (tasks + 1) → ⊥) → at present i ≡ 0)
+
+  outside : ((p : ℕ) → p < 1040 → (at present p ≡ 0 → ⊥) → Inside p) → Outside
+  outside f = ((λ i h n. none i (omega (arith, h)) (λ w. omega (arith, w .0, h))), (λ i h n. none i h (λ w. n (w .1))))
+    where
+      none : (i : ℕ) → i < 1040 → (Inside i → ⊥) → at present i ≡ 0
+      none i h n =
+          by (eqb (at present i) 0) (eqb-true (at present i) 0) (λ e. absurd (n (f i h (eqb-false (at present i) 0 e))))
+
+  inside : Outside → (p : ℕ) → p < 1040 → (at present p ≡ 0 → ⊥) → Inside p
+  inside w p h n = (
+    by (leb 16 p) (leb-true 16 p) (λ e. absurd (n (w .0 p (leb-false 16 p e) (λ z. omega (arith, z))))),
+    by (ltb p (16 * (tasks + 1))) (ltb-true p (16 * (tasks + 1)))
+        (λ e. absurd (n (w .1 p h (λ z. omega (arith, z, ltb-false p (16 * (tasks + 1)) e))))),
+  )
+
+  pub condition-tasks-each : conditionTasksB tasks present ≡ (all 16 (zeroFrom 0 present) && all 1040 (zeroFrom (16 * (tasks + 1)) present))
+  unfolding conditionTasksB
+  condition-tasks-each =
+      is-same
+      (is-said (is-all 1040 (λ p h. is-else (is-eqb (at present p) 0) (is-and (is-leb 16 p) (is-ltb p (16 * (tasks + 1)))))) outside inside)
+      (is-and
+      (is-all 16 (λ i h. is-else (is-ltb i 0) (is-eqb (at present i) 0)))
+      (is-all 1040 (λ i h. is-else (is-ltb i (16 * (tasks + 1))) (is-eqb (at present i) 0))))
+
+-- a number between two others, and one that is not
+module _ (low n high : ℕ) where
+  pub within-yes : low ≤ n → n ≤ high → within low n high ≡ true
+  within-yes a b = and-go (le-leb low n a) (le-leb n high b)
+
+  pub within-below : n < low → within low n high ≡ false
+  within-below a = and-stop (leb n high) (lt-leb low n a)
+
+  pub within-above : high < n → within low n high ≡ false
+  within-above a = rw (lt-leb n high a) (and-no (leb low n))
+
+-- of two lines whose positions and flags are bytes, the later has the larger key
+module _ (t p f u q h : ℕ) (np : p < 256) (nf : f < 256) (nq : q < 256) (nh : h < 256) where
+  key-rises : lineKey t p f < lineKey u q h → risesTest t p f u q h ≡ true
+  key-rises l =
+      by-eqb t u (λ b. cond b (cond (eqb p q) (ltb f h) (ltb p q)) (ltb t u) ≡ true)
+      (λ e. by-eqb p q (λ b. cond b (ltb f h) (ltb p q) ≡ true) (λ d. lt-ltb f h (omega arith)) (λ d. lt-ltb p q (omega arith)))
+      (λ e. lt-ltb t u (omega arith))
+
+  key-not : lineKey u q h ≤ lineKey t p f → risesTest t p f u q h ≡ false
+  key-not l =
+      by-eqb t u (λ b. cond b (cond (eqb p q) (ltb f h) (ltb p q)) (ltb t u) ≡ false)
+      (λ e. by-eqb p q (λ b. cond b (ltb f h) (ltb p q) ≡ false) (λ d. le-ltb f h (omega arith)) (λ d. le-ltb p q (omega arith)))
+      (λ e. le-ltb t u (omega arith))
+
+-- A turn of the loop over the lines: a line and the one before it, by their keys as the code has them.
+module _ (atask apos aflag : List ℕ) (bad new k a b : ℕ) (some : 1 ≤ k)
+    (before : (a ≡ lineKey (at atask (k - 1)) (at apos (k - 1)) (at aflag (k - 1))) × ((at apos (k - 1) < 256) × (at aflag (k - 1) < 256)))
+    (this : (b ≡ lineKey (at atask k) (at apos k) (at aflag k)) × ((at apos k < 256) × (at aflag k < 256))) where
+  abbrev Lines : ℕ → ℕ → Type 0
+  Lines x i = Passed x i (lineRises atask apos aflag)
+
+  this-one : k - 1 + 1 ≡ k
+  this-one = omega (arith, some)
+
+  after : k - 1 + 1 ≡ k + 1 - 1
+  after = omega (arith, some)
+
+  pub lines-next : Lines bad (k - 1) → a < b → new ≡ bad → Lines new (k + 1 - 1)
+  lines-next p l q =
+      subst (Lines new) after
+      (passed-next (k - 1) (lineRises atask apos aflag) p
+      (rw this-one
+      (key-rises (at atask (k - 1)) (at apos (k - 1)) (at aflag (k - 1)) (at atask k) (at apos k) (at aflag k)
+      (before .1 .0) (before .1 .1) (this .1 .0) (this .1 .1) (omega (arith, before .0, this .0, l))))
+      q)
+
+  pub lines-not : b ≤ a → new ≡ 1 → Lines new (k + 1 - 1)
+  lines-not l q =
+      subst (Lines new) after
+      (passed-not (k - 1) (lineRises atask apos aflag)
+      (rw this-one
+      (key-not (at atask (k - 1)) (at apos (k - 1)) (at aflag (k - 1)) (at atask k) (at apos k) (at aflag k)
+      (before .1 .0) (before .1 .1) (this .1 .0) (this .1 .1) (omega (arith, before .0, this .0, l))))
+      q)
