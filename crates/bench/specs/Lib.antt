@@ -1,2 +1,3 @@
 pub mod Turn
 pub mod TurnLaws
+pub mod Same

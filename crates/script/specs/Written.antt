@@ -2,7 +2,7 @@
 use Prim.Native.Nat.{ℕ, zero, suc, _+_, _*_, _/_, _%_, _≤_, _<_}
 use mathlib.Core.Path.{_≡_, refl, sym, ap, _∙_, subst}
 use mathlib.Core.Bool.{Bool, true, false, cond}
-use mathlib.Core.Logic.{_⊎_, inl, inr}
+use mathlib.Core.Logic.{_⊎_, inl, inr, ⊎-elim}
 use mathlib.Core.List.{List, [], _∷_, _++_, map, append-assoc, append-nil}
 use native.Mathlib.Omega.{arith}
 use native.Mathlib.Numerals.{add-one}
@@ -69,6 +69,10 @@ pub record Wrote (l : List ℕ) (at : ℕ) (t m : List ℕ) (p : ℕ) : Type 0 w
   pub place : p ≡ at + length t
   pub text : m ≡ put l at t
   pub size : length m ≡ length l
+
+-- the statement fixes the result
+pub wrote-same : (l : List ℕ) (at : ℕ) (t m n : List ℕ) (p q : ℕ) → Wrote l at t m p → Wrote l at t n q → (m ≡ n) × (p ≡ q)
+wrote-same l at t m n p q a b = (a .text ∙ sym (b .text), a .place ∙ sym (b .place))
 
 -- a tab is written, then a number
 pub field-wrote : (l m : List ℕ) (at n p : ℕ) → at + 11 ≤ length l → p ≡ (at + 1) + length (dec n)
@@ -180,6 +184,13 @@ module _ (l : List ℕ) (at a : ℕ) (h : at + 33 ≤ length l) (m : List ℕ) (
 -- the line START with these numbers stands at the front, if there is room for it
 pub record Begun (out numbers after : List ℕ) (p : ℕ) : Type 0 where
   pub is : ((64 ≤ length out) × Wrote out 0 (lineText startName numbers) after p) ⊎ ((length out < 64) × (after ≡ out) × (p ≡ 0))
+
+pub begun-same : (out numbers m n : List ℕ) (p q : ℕ) → Begun out numbers m p → Begun out numbers n q → (m ≡ n) × (p ≡ q)
+begun-same out numbers m n p q a b =
+    ⊎-elim
+    (λ x. ⊎-elim (λ y. wrote-same out 0 (lineText startName numbers) m n p q (x .1) (y .1)) (λ y. absurd (omega (arith, x .0, y .0))) (b .is))
+    (λ x. ⊎-elim (λ y. absurd (omega (arith, x .0, y .0))) (λ y. (x .1 ∙ sym (y .1), x .2 ∙ sym (y .2))) (b .is))
+    (a .is)
 
 name-is : (l : List ℕ) → 5 ≤ length l → set (set (set (set (set l 0 83) 1 84) 2 65) 3 82) 4 84 ≡ put l 0 startName
 unfolding put

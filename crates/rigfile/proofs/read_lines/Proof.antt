@@ -89,7 +89,7 @@ whole-requires c κs = tt
 
 -- src/lib.rt:256:13
 find-requires : tie.Need-find-requires Inv-fields μ-fields Inv-sizes μ-sizes Inv-lines μ-lines
-find-requires c κs = let z = (c .before .line-of .ensures (c .before .before .lines .inv .low)) in omega arith
+find-requires c κs = let z = (c .before .line-of .ensures .0 (c .before .before .lines .inv .low)) in omega arith
 
 -- src/lib.rt:257:34
 sub-kind-in : tie.Need-sub-kind-in Inv-fields μ-fields Inv-sizes μ-sizes Inv-lines μ-lines
@@ -103,7 +103,7 @@ part-kind-in-start c = c .find .ensures .low
 -- src/lib.rt:257:34
 part-kind-in-end :
     tie.Need-part-kind-in-end Inv-fields μ-fields Inv-sizes μ-sizes Inv-lines μ-lines
-part-kind-in-end c = let z = (c .before .before .line-of .ensures (c .before .before .before .lines .inv .low)) in omega (arith, c .find .ensures .high)
+part-kind-in-end c = let z = (c .before .before .line-of .ensures .0 (c .before .before .before .lines .inv .low)) in omega (arith, c .find .ensures .high)
 
 -- src/lib.rt:257:13
 kind-in-requires :
@@ -122,7 +122,7 @@ count-requires c κs = c .before .kind-in .ensures .1
 -- src/lib.rt:265:9
 fields-holds : tie.Need-fields-holds Inv-fields μ-fields Inv-sizes μ-sizes Inv-lines μ-lines
 unfolding part
-fields-holds c = fields-start _ _ _ _ _ _ _ _ _ (record { lines = c .before .before .before .before .before .before .before .lines .inv; end = c .before .before .before .before .before .before .line-of .ensures (c .before .before .before .before .before .before .before .lines .inv .low); inside = (let z = (c .before .before .before .before .before .before .line-of .ensures (c .before .before .before .before .before .before .before .lines .inv .low)) in omega (arith, c .before .before .before .before .before .if1 .left)); name = c .before .before .before .before .find .ensures; kind = c .before .before .kind-in .ensures .0 }) _ (record { known = omega (arith, c .before .if4 .left); few = c .before .before .kind-in .ensures .1; count = c .count .ensures .0; nine = c .count .ensures .1 })
+fields-holds c = fields-start _ _ _ _ _ _ _ _ _ (record { lines = c .before .before .before .before .before .before .before .lines .inv; end = c .before .before .before .before .before .before .line-of .ensures .0 (c .before .before .before .before .before .before .before .lines .inv .low); inside = (let z = (c .before .before .before .before .before .before .line-of .ensures .0 (c .before .before .before .before .before .before .before .lines .inv .low)) in omega (arith, c .before .before .before .before .before .if1 .left)); name = c .before .before .before .before .find .ensures; kind = c .before .before .kind-in .ensures .0 }) _ (record { known = omega (arith, c .before .if4 .left); few = c .before .before .kind-in .ensures .1; count = c .count .ensures .0; nine = c .count .ensures .1 })
 
 -- src/lib.rt:266:21
 add-a : tie.Need-add-a Inv-fields μ-fields Inv-sizes μ-sizes Inv-lines μ-lines
@@ -526,20 +526,20 @@ lines-again-9 c = next-line _ _ _ _ _ _ _ _ _ _ _ (c .before .before .before .be
 
 -- src/lib.rt:235:1
 returns : tie.Need-returns Inv-fields μ-fields Inv-sizes μ-sizes Inv-lines μ-lines
-returns c = c .refused .ensures ∙ by-fault _ 0 _ (leave-open _ _ _ _ _ _ _ (c .before .before .before .before .lines .inv) (c .before .before .before .line-of .ensures (c .before .before .before .before .lines .inv .low)) (c .before .before .if1 .taken) (c .before .if2 .taken))
+returns c = c .refused .ensures ∙ by-fault _ 0 _ (leave-open _ _ _ _ _ _ _ (c .before .before .before .before .lines .inv) (c .before .before .before .line-of .ensures .0 (c .before .before .before .before .lines .inv .low)) (c .before .before .if1 .taken) (c .before .if2 .taken))
 
 -- src/lib.rt:235:1
 returns-2 : tie.Need-returns-2 Inv-fields μ-fields Inv-sizes μ-sizes Inv-lines μ-lines
-returns-2 c = c .refused2 .ensures ∙ by-fault _ 0 _ (leave-empty _ _ _ _ _ _ _ (c .before .before .before .before .before .lines .inv) (c .before .before .before .before .line-of .ensures (c .before .before .before .before .before .lines .inv .low)) (c .before .before .before .if1 .taken) (c .before .if3 .taken))
+returns-2 c = c .refused2 .ensures ∙ by-fault _ 0 _ (leave-empty _ _ _ _ _ _ _ (c .before .before .before .before .before .lines .inv) (c .before .before .before .before .line-of .ensures .0 (c .before .before .before .before .before .lines .inv .low)) (c .before .before .before .if1 .taken) (c .before .if3 .taken))
 
 -- src/lib.rt:235:1
 returns-3 : tie.Need-returns-3 Inv-fields μ-fields Inv-sizes μ-sizes Inv-lines μ-lines
-returns-3 c = c .whole .ensures ∙ whole-answer _ _ (leave-clean _ _ _ _ _ _ _ (c .before .before .before .before .before .lines .inv) (c .before .before .before .before .line-of .ensures (c .before .before .before .before .before .lines .inv .low)) (c .before .before .before .if1 .taken) (c .before .before .if2 .left) (c .before .if3 .left)) (leave-built _ _ _ _ _ _ _ (c .before .before .before .before .before .lines .inv) (c .before .before .before .before .line-of .ensures (c .before .before .before .before .before .lines .inv .low)) (c .before .before .before .if1 .taken))
+returns-3 c = c .whole .ensures ∙ whole-answer _ _ (leave-clean _ _ _ _ _ _ _ (c .before .before .before .before .before .lines .inv) (c .before .before .before .before .line-of .ensures .0 (c .before .before .before .before .before .lines .inv .low)) (c .before .before .before .if1 .taken) (c .before .before .if2 .left) (c .before .if3 .left)) (leave-built _ _ _ _ _ _ _ (c .before .before .before .before .before .lines .inv) (c .before .before .before .before .line-of .ensures .0 (c .before .before .before .before .before .lines .inv .low)) (c .before .before .before .if1 .taken))
 
 -- src/lib.rt:235:1
 returns-4 : tie.Need-returns-4 Inv-fields μ-fields Inv-sizes μ-sizes Inv-lines μ-lines
 unfolding part
-returns-4 c = c .refused3 .ensures ∙ by-fault _ 0 _ (not-known _ _ _ _ _ _ _ _ _ (record { lines = c .before .before .before .before .before .before .before .lines .inv; end = c .before .before .before .before .before .before .line-of .ensures (c .before .before .before .before .before .before .before .lines .inv .low); inside = (let z = (c .before .before .before .before .before .before .line-of .ensures (c .before .before .before .before .before .before .before .lines .inv .low)) in omega (arith, c .before .before .before .before .before .if1 .left)); name = c .before .before .before .before .find .ensures; kind = c .before .before .kind-in .ensures .0 }) (c .before .if4 .taken))
+returns-4 c = c .refused3 .ensures ∙ by-fault _ 0 _ (not-known _ _ _ _ _ _ _ _ _ (record { lines = c .before .before .before .before .before .before .before .lines .inv; end = c .before .before .before .before .before .before .line-of .ensures .0 (c .before .before .before .before .before .before .before .lines .inv .low); inside = (let z = (c .before .before .before .before .before .before .line-of .ensures .0 (c .before .before .before .before .before .before .before .lines .inv .low)) in omega (arith, c .before .before .before .before .before .if1 .left)); name = c .before .before .before .before .find .ensures; kind = c .before .before .kind-in .ensures .0 }) (c .before .if4 .taken))
 
 -- src/lib.rt:235:1
 returns-5 : tie.Need-returns-5 Inv-fields μ-fields Inv-sizes μ-sizes Inv-lines μ-lines

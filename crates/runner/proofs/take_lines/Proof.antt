@@ -26,7 +26,7 @@ inside c =
     let l = length-take (s .args .to) (s .args .input .now) in
     let h = c .before .before .if1 .left in
     let t = c .before .before .before .loop-test .taken in
-    let f = c .line-of .ensures (omega arith) in
+    let f = c .line-of .ensures .0 (omega arith) in
     let a = f .low in
     let b = f .high in
     (omega arith, omega arith)

@@ -32,26 +32,26 @@ returns : tie.Need-returns Inv-loop μ-loop
 returns c =
     let s = c .before .before .before .before .before .args .input .now in
     let l = c .before .before .before .loop in
-    left-last s (l .i) (l .inv .1) (l .inv .0) (c .before .line-of .result) (c .before .line-of .ensures (l .inv .1)) (c .if1 .taken)
+    left-last s (l .i) (l .inv .1) (l .inv .0) (c .before .line-of .result) (c .before .line-of .ensures .0 (l .inv .1)) (c .if1 .taken)
 
 -- src/lib.rt:185:19
 sub-is-run : tie.Need-sub-is-run Inv-loop μ-loop
 sub-is-run c =
-    let f = c .before .line-of .ensures (c .before .before .before .loop .inv .1) in
+    let f = c .before .line-of .ensures .0 (c .before .before .before .loop .inv .1) in
     let a = f .low in
     omega arith
 
 -- src/lib.rt:185:19
 part-is-run-start : tie.Need-part-is-run-start Inv-loop μ-loop
 part-is-run-start c =
-    let f = c .before .line-of .ensures (c .before .before .before .loop .inv .1) in
+    let f = c .before .line-of .ensures .0 (c .before .before .before .loop .inv .1) in
     let a = f .low in
     omega arith
 
 -- src/lib.rt:185:19
 part-is-run-end : tie.Need-part-is-run-end Inv-loop μ-loop
 part-is-run-end c =
-    let f = c .before .line-of .ensures (c .before .before .before .loop .inv .1) in
+    let f = c .before .line-of .ensures .0 (c .before .before .before .loop .inv .1) in
     let a = f .high in
     omega arith
 
@@ -66,7 +66,7 @@ returns-2 c =
     let s = c .before .before .before .before .before .before .before .before .args .input .now in
     let l = c .before .before .before .before .before .before .loop in
     let e = c .before .before .before .before .line-of in
-    let f = e .ensures (l .inv .1) in
+    let f = e .ensures .0 (l .inv .1) in
     let h = f .high in
     let n = c .before .before .before .if1 .left in
     left-run s (l .i) (l .inv .1) (l .inv .0) (e .result) f (omega (arith, h, n)) (sym (c .before .is-run .ensures) ∙ c .if2 .taken)
@@ -74,7 +74,7 @@ returns-2 c =
 -- src/lib.rt:188:13
 add-i : tie.Need-add-i Inv-loop μ-loop
 add-i c =
-    let f = c .before .before .before .before .line-of .ensures (c .before .before .before .before .before .before .loop .inv .1) in
+    let f = c .before .before .before .before .line-of .ensures .0 (c .before .before .before .before .before .before .loop .inv .1) in
     let a = f .high in
     let n = c .before .before .before .if1 .left in
     let k : c .before .before .before .before .line-of .result < length (c .before .before .before .before .before .before .before .before .args .input .now) = omega (arith, a, n) in
@@ -83,7 +83,7 @@ add-i c =
 -- src/lib.rt:180:5
 loop-less : tie.Need-loop-less Inv-loop μ-loop
 loop-less c =
-    let f = c .before .before .before .before .line-of .ensures (c .before .before .before .before .before .before .loop .inv .1) in
+    let f = c .before .before .before .before .line-of .ensures .0 (c .before .before .before .before .before .before .loop .inv .1) in
     let a = f .low in
     let b = f .high in
     omega (arith, a, b, c .before .before .before .if1 .left, c .before .before .before .before .before .loop-test .taken)
@@ -95,7 +95,7 @@ loop-again c =
     let s = c .before .before .before .before .before .before .before .before .args .input .now in
     let l = c .before .before .before .before .before .before .loop in
     let e = c .before .before .before .before .line-of in
-    let f = e .ensures (l .inv .1) in
+    let f = e .ensures .0 (l .inv .1) in
     let h = f .high in
     let n = c .before .before .before .if1 .left in
     (left-next s (l .i) (l .inv .1) (l .inv .0) (e .result) f (omega (arith, h, n)) (sym (c .before .is-run .ensures) ∙ c .if2 .left), omega (arith, h, n))
