@@ -26,7 +26,7 @@ static uint32_t sum_of(const uint16_t *words, size_t count)
 static void print_with_sum(const char *verb, const algolmallet_reply *reply, const uint16_t *words, size_t count)
 {
     print_reply(verb, reply);
-    printf("\t%" PRIu32 "\n", sum_of(words, count));
+    printf("\t%" PRIu32 "\t%" PRIu32 "\n", reply->served, sum_of(words, count));
 }
 
 static void write_block(algolmallet_record *record, const uint32_t number[NUMBERS_MAX])

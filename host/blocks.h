@@ -7,8 +7,8 @@
  *   J room                   a tick lent a buffer of `room` words
  *
  * The area has 4,096 words, word i is 7 i + 1 at the start; `words` is at most 64, `room` at most 256. A buffer lent
- * to D or J holds 9 i + 2 at word i before the call. Each prints what the other calls print and then a sum, refused or
- * not: over the whole area for W, over the whole lent buffer for D and J. So words that must stay are seen to stay.
+ * to D or J holds 9 i + 2 at word i before the call. Each prints what the other calls print, the flags that were served,
+ * and then a sum, refused or not: over the whole area for W, over the whole lent buffer for D and J. So words that must stay are seen to stay.
  * The sum starts as 0, and with each word it becomes (31 sum + word) modulo 65,521.
  */
 #ifndef HOST_BLOCKS_H

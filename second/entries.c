@@ -74,6 +74,7 @@ size_t entries_run(exec *e, entries_area *area, const entries_call *call, answer
     at = print_field(at, a->refusal);
     at = print_field(at, e->count);
     at = print_field(at, e->running);
+    at = print_field(at, a->served);
     at = print_field(at, check);
     *at++ = '\n';
     return (size_t)(at - out);

@@ -16,12 +16,12 @@
  * has 4,096 words, at the start word i (from 0) is (7 i + 1) modulo 65,536;
  * a buffer lent to D or J holds before the call, at word i, 9 i + 2.
  *
- * Each prints verb, answer, count, running task and then, also if refused,
- * one check number: of the whole area for W, of the whole lent buffer (all
- * `words` or `room` of it) for D and J.  So what a refused call writes, and
- * what an accepted one writes past its own words, is seen.  The check number
- * of words w0, w1, ... starts as 0 and with each becomes
- * (31 check + word) modulo 65,521.
+ * Each prints verb, answer, count, running task, the number of flags served
+ * (0 if refused) and then, also if refused, one check number: of the whole
+ * area for W, of the whole lent buffer (all `words` or `room` of it) for D and
+ * J.  So what a refused call writes, and what an accepted one writes past its
+ * own words, is seen.  The check number of words w0, w1, ... starts as 0 and
+ * with each becomes (31 check + word) modulo 65,521.
  */
 #ifndef SECOND_ENTRIES_H
 #define SECOND_ENTRIES_H

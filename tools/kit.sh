@@ -72,6 +72,17 @@ build_host() {
     make_x86 -C host
 }
 
+# entries_of_archive, entries_of_header: what the library shows, and what its header declares
+entries_of_archive() {
+    local nm=nm
+    is_x86_64 || nm=x86_64-linux-gnu-nm
+    $nm -g --defined-only target/staticlib/libhost.a | awk 'NF == 3 { print $3 }' | sort
+}
+
+entries_of_header() {
+    sed -n 's/^[a-z_]* \(algolmallet_[a-z_]*\)(.*/\1/p' include/algolmallet.h | sort
+}
+
 # tools_of_kit: the folder of the kit's own tools for this processor
 tools_of_kit() {
     need_kit
