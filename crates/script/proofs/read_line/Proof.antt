@@ -86,7 +86,7 @@ returns-2 c =
     let p = c .before .before .before .before .before .before .before .find in
     let q = c .before .before .before .find2 in
     sym (bad-number s (p .result) (p .ensures) (short-of s 0 9 (p .result) (p .ensures) (c .before .before .before .before .if1 .left)) (q .result) (q .ensures)
-    (subst (λ (x : ℕ). cap ≤ x) (c .before .number-in .ensures) (c .if2 .taken)))
+    (subst (λ (x : ℕ). cap ≤ x) (c .before .number-in .ensures) (omega (arith, c .if2 .taken))))
 
 -- src/lib.rt:101:31
 cast-with-number : tie.Need-cast-with-number
@@ -155,7 +155,7 @@ returns-5 c =
     (short-of s (p .result + 1) 9 (q .result) (q .ensures) (c .before .before .before .before .before .if3 .left)) (t .result) (t .ensures)
     (subst (λ (x : ℕ). x < cap) (c .before .before .before .before .before .before .before .number-in .ensures) (c .before .before .before .before .before .before .if2 .left))
     (le-antisymm (t .ensures .high) (c .before .before .before .if4 .left))
-    (subst (λ (x : ℕ). 1 < x) (c .before .number-in2 .ensures) (c .if5 .taken)))
+    (subst (λ (x : ℕ). 1 < x) (c .before .number-in2 .ensures) (omega (arith, c .if5 .taken))))
 
 -- src/lib.rt:112:19
 cast-with-value : tie.Need-cast-with-value
