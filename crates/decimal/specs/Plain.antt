@@ -3,8 +3,9 @@
 --     value           what digits say, each by its place
 --     number-exact    number l ≤ cap ↔ Decimal l
 --     number-value    Decimal l → number l ≡ min cap (value l)
---     number-none     of what is no decimal, nothing at all is read as `start`
---     number-bad      .. and everything else as `bad`
+--     number-start    number l ≡ start ↔ length l ≡ 0, of what is no decimal
+--     number-bad      number l ≡ bad ↔ (0 < length l) × (Decimal l → ⊥)
+--     dec-plain       what is written for a number is a decimal, and its value is that number
 -- Assumes nothing.
 use Prim.Native.Nat.{ℕ, zero, suc, _+_, _-_, _*_, _^_, _≤_, _<_, min}
 use mathlib.Core.Path.{_≡_, refl, sym, ap, _∙_}
@@ -17,8 +18,8 @@ use lib.Dec.{leb, ltb, eqb}
 use lib.ListN.{length, getD}
 use borrow.Author.Tests.{ltb-true, ltb-false, eqb-true, eqb-false}
 use Rattle.laws.specs.Cases.{by}
-use Rattle.decimal.specs.Decimal.{cap, bad, start, digit, step, run, number}
-use Rattle.decimal.specs.Laws.{digit-of, digit-is, step-start, step-num, step-not, step-zero, step-over}
+use Rattle.decimal.specs.Decimal.{cap, bad, start, digit, step, run, number, dec}
+use Rattle.decimal.specs.Laws.{digit-of, digit-is, step-start, step-num, step-not, step-zero, step-over, number-dec}
 
 -- every byte is a digit, 48 for 0 to 57 for 9
 abbrev pub Digits : List ℕ → Type 0
@@ -133,8 +134,7 @@ number-value (b ∷ bs) w =
     zero-alone b [] v s e = s ∙ omega arith
     zero-alone b (c ∷ cs) v s e = absurd (omega arith)
 
--- what is no decimal: nothing at all is read as `start`
-pub number-none : number [] ≡ start
+number-none : number [] ≡ start
 unfolding run
 number-none = refl
 
@@ -146,6 +146,30 @@ number-exact l = (there l, λ w. let e = number-value l w in omega arith)
     there [] h = let e = number-none in absurd (omega arith)
     there (b ∷ bs) h = decimal-of (b ∷ bs) (omega arith) (λ e. omega arith)
 
--- .. and everything else as `bad`
-pub number-bad : (l : List ℕ) → 0 < length l → (Decimal l → ⊥) → number l ≡ bad
-number-bad l h n = by (eqb (number l) bad) (λ t. eqb-true (number l) bad t) (λ t. absurd (n (decimal-of l h (eqb-false (number l) bad t))))
+-- what is no decimal: nothing at all is read as `start`, and everything else as `bad`
+pub number-start : (l : List ℕ) → (number l ≡ start) ↔ (length l ≡ 0)
+number-start [] = (λ e. refl, λ e. number-none)
+number-start (b ∷ bs) = (
+  λ e. let w = decimal-of (b ∷ bs) (omega arith) (λ f. omega arith) in
+      let h = number-exact (b ∷ bs) .1 w in
+      absurd (omega arith),
+  λ e. absurd (omega arith),
+)
+
+pub number-bad : (l : List ℕ) → (number l ≡ bad) ↔ ((0 < length l) × (Decimal l → ⊥))
+number-bad l = (λ e. (some l e, λ w. let h = number-exact l .1 w in omega arith), λ w. back (w .0) (w .1))
+  where
+    some : (l : List ℕ) → number l ≡ bad → 0 < length l
+    some [] e = let f = number-none in absurd (omega arith)
+    some (b ∷ bs) e = omega arith
+
+    back : 0 < length l → (Decimal l → ⊥) → number l ≡ bad
+    back h n = by (eqb (number l) bad) (λ t. eqb-true (number l) bad t) (λ t. absurd (n (decimal-of l h (eqb-false (number l) bad t))))
+
+-- what is written for a number is a decimal, and says that number
+pub dec-plain : (n : ℕ) → n < cap → Decimal (dec n) × (value (dec n) ≡ n)
+dec-plain n h =
+    let e = number-dec n h in
+    let w = number-exact (dec n) .0 (omega arith) in
+    let v = number-value (dec n) w in
+    (w, omega arith)

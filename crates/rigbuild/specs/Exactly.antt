@@ -1,15 +1,16 @@
 -- EXACTLY WHEN a file is refused by 1, 2, 3 or 4, and by which line.
 --     too-long, faulty, whole-broken, all-right    the four ways of a file, of which each is in one
 --     number-line, number-four, number-none        a number is answered only in its case
---     line-exactly, long-exactly, four-exactly, none-exactly    .. and always then
+--     line-exactly, long-exactly, four-exactly,
+--     none-exactly                                 .. and always then
 --     first-line, next-line, no-end                which line is the first faulty one
---     empty-file, no-last-end                      the empty file, and one line without LF
+--     empty-file, no-last-end, no-end-refused      the empty file, one line without LF, any file that does not end in LF
 -- Assumes nothing.
 use Prim.Native.Nat.{ℕ, zero, suc, _+_, _≤_, _<_}
 use mathlib.Core.Path.{_≡_, refl, sym, ap, _∙_}
 use mathlib.Core.Logic.{_≢_, _↔_}
 use mathlib.Core.Bool.{Bool, true, false, cond, _&&_}
-use mathlib.Core.List.{List, [], _∷_}
+use mathlib.Core.List.{List, [], _∷_, _++_}
 use native.Mathlib.Omega.{arith}
 use lib.Dec.{eqb, ltb}
 use lib.ListN.{length}
@@ -21,6 +22,7 @@ use Rattle.text.specs.SplitLaws.{Free, split-last}
 use Rattle.rig.specs.Forms.{cyclesOf}
 use Rattle.rigrows.specs.Line.{Line, lineOf, shaped, sized, ordered, placed, judge}
 use Rattle.rigrows.specs.File.{Fault, fault, firstFault, faultOf, linesOf}
+use Rattle.rigrows.specs.RoundTrip.{last-byte}
 use Rattle.rigbuild.specs.declared.Answer.{Answer}
 use Rattle.rigbuild.specs.Built.{nothing, build}
 use Rattle.rigbuild.specs.Read.{lineTests, refusal, accepted, brokenRule, judged, wholeFile, byLines, readOf}
@@ -207,3 +209,7 @@ empty-file = refl
 pub no-last-end : (s : List ℕ) → length s ≤ 40960 → length s ≢ 0 → Free 10 s → readOf s ≡ refusal 1 1 0
 unfolding faultOf
 no-last-end s h n f = faulty s h 0 1 (ap (firstFault 1 0) (split-last 10 s f) ∙ no-end 1 0 s n)
+
+-- .. and any file whose last byte is not LF is refused
+pub no-end-refused : (u : List ℕ) (b : ℕ) → b ≢ 10 → readOf (u ++ (b ∷ [])) .no ≢ 0
+no-end-refused u b n e = n (last-byte u b (number-none (u ++ (b ∷ [])) e .1))

@@ -5,7 +5,7 @@
 --     Before           kind before kind, and within a kind by the leading numbers
 --     ordered-first    a line may be the first ↔ it is the RIG line
 --     ordered-exact    a line may follow another ↔ it comes after it, or both are B lines
---     file-order, order-file    the same of all lines of a file
+--     file-order       the same of all lines of a file, and back: order-file
 -- Assumes nothing.
 use Prim.Native.Nat.{ℕ, zero, suc, _+_, _*_, _≤_, _<_, min}
 use mathlib.Core.Path.{_≡_, refl, sym, ap, _∙_}
