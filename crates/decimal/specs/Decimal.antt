@@ -1,7 +1,8 @@
 -- Decimal numbers without spare zeros.
 --     number     what a text says: its value below `cap`, `cap` for every larger one, `bad` or `start` where it is no decimal
 --     dec        the decimal of a number
--- The reading goes byte after byte, by `step`, so that a loop's invariant is one equation on what is left.
+-- The reading goes byte after byte, by `step`, so that a loop's invariant is one equation on what is left. What a decimal is, said of the
+-- text alone, and that exactly these are read, each as its value: `Decimal`, `value`, `number-exact`, `number-value` (Plain).
 use Prim.Native.Nat.{ℕ, zero, suc, _+_, _-_, _*_, _/_, _%_, min}
 use mathlib.Core.Bool.{Bool, cond, _&&_}
 use mathlib.Core.List.{List, [], _∷_, _++_}

@@ -2,18 +2,22 @@
 -- Assumes nothing.
 use Prim.Native.Nat.{ℕ, zero, suc, _+_, _≤_, _<_}
 use mathlib.Core.Path.{_≡_, refl, sym, ap, _∙_, fun-ext}
+use mathlib.Core.Logic.{_≢_}
 use mathlib.Core.Bool.{Bool, true, false, cond}
 use mathlib.Core.List.{List, [], _∷_}
 use native.Mathlib.Omega.{arith}
 use lib.Dec.{eqb, ltb}
 use lib.ListN.{length, getD}
 use borrow.Author.Tests.{ne-eqb, eq-eqb, lt-ltb, le-ltb}
+use Rattle.laws.specs.All.{all}
 use Rattle.laws.specs.First.{firstFalse}
 use Rattle.rig.specs.Forms.{cyclesOf}
 use Rattle.rig.specs.Tests.{firstBroken}
 use Rattle.rigrows.specs.File.{Fault, fault, faultOf, linesOf}
 use Rattle.rigbuild.specs.declared.Answer.{Answer}
+use Rattle.rigbuild.specs.declared.Marks.{Marks}
 use Rattle.rigbuild.specs.Built.{Built, numbers, store}
+use Rattle.rigbuild.specs.MarkTests.{markedOne, markTests}
 use Rattle.rigbuild.specs.Read.{refusal, accepted, behind, brokenRule, judged, wholeFile, byLines, readOf}
 
 pub behind-zero : (n : ℕ) → n ≡ 0 → 0 ≡ behind n
@@ -26,34 +30,35 @@ unfolding behind
 behind-more zero e = absurd (e refl)
 behind-more (suc n) e = refl
 
--- the first of five tests that fails
-module _ (a b c d e : Bool) where
-  pub first-1 : a ≡ false → 1 ≡ firstFalse 1 (a ∷ b ∷ c ∷ d ∷ e ∷ [])
-  unfolding firstFalse
-  first-1 p = rw p
+-- the first whole-file rule that the marks break
+module _ (m : Marks) (tasks : ℕ) where
+  pub marked-1 : m .above ≢ 0 → 1 ≡ firstFalse 1 (markTests m tasks)
+  unfolding firstFalse markTests
+  marked-1 p = rw (ne-eqb (m .above) 0 p)
 
-  module _ (p : a ≡ true) where
-    pub first-2 : b ≡ false → 2 ≡ firstFalse 1 (a ∷ b ∷ c ∷ d ∷ e ∷ [])
-    unfolding firstFalse
-    first-2 q = rw (p, q)
+  module _ (p : m .above ≡ 0) where
+    pub marked-2 : m .alines ≢ 0 → 2 ≡ firstFalse 1 (markTests m tasks)
+    unfolding firstFalse markTests
+    marked-2 q = rw (eq-eqb (m .above) 0 p, ne-eqb (m .alines) 0 q)
 
-    module _ (q : b ≡ true) where
-      pub first-3 : c ≡ false → 3 ≡ firstFalse 1 (a ∷ b ∷ c ∷ d ∷ e ∷ [])
-      unfolding firstFalse
-      first-3 r = rw (p, q, r)
+    module _ (q : m .alines ≡ 0) where
+      pub marked-3 : m .rows ≢ 0 → 3 ≡ firstFalse 1 (markTests m tasks)
+      unfolding firstFalse markTests
+      marked-3 r = rw (eq-eqb (m .above) 0 p, eq-eqb (m .alines) 0 q, ne-eqb (m .rows) 0 r)
 
-      module _ (r : c ≡ true) where
-        pub first-4 : d ≡ false → 4 ≡ firstFalse 1 (a ∷ b ∷ c ∷ d ∷ e ∷ [])
-        unfolding firstFalse
-        first-4 s = rw (p, q, r, s)
+      module _ (r : m .rows ≡ 0) where
+        pub marked-4 : all tasks (markedOne (m .tline)) ≡ false → 4 ≡ firstFalse 1 (markTests m tasks)
+        unfolding firstFalse markTests
+        marked-4 s = rw (eq-eqb (m .above) 0 p, eq-eqb (m .alines) 0 q, eq-eqb (m .rows) 0 r, s)
 
-        pub first-5 : d ≡ true → e ≡ false → 5 ≡ firstFalse 1 (a ∷ b ∷ c ∷ d ∷ e ∷ [])
-        unfolding firstFalse
-        first-5 s t = rw (p, q, r, s, t)
+        module _ (s : all tasks (markedOne (m .tline)) ≡ true) where
+          pub marked-5 : m .crowded ≢ 0 → 5 ≡ firstFalse 1 (markTests m tasks)
+          unfolding firstFalse markTests
+          marked-5 t = rw (eq-eqb (m .above) 0 p, eq-eqb (m .alines) 0 q, eq-eqb (m .rows) 0 r, s, ne-eqb (m .crowded) 0 t)
 
-        pub first-none : d ≡ true → e ≡ true → 0 ≡ firstFalse 1 (a ∷ b ∷ c ∷ d ∷ e ∷ [])
-        unfolding firstFalse
-        first-none s t = rw (p, q, r, s, t)
+          pub marked-none : m .crowded ≡ 0 → 0 ≡ firstFalse 1 (markTests m tasks)
+          unfolding firstFalse markTests
+          marked-none t = rw (eq-eqb (m .above) 0 p, eq-eqb (m .alines) 0 q, eq-eqb (m .rows) 0 r, s, eq-eqb (m .crowded) 0 t)
 
 -- the whole file's answer: a rule of the lines is broken, or one of the rig, or none
 pub judged-lines : (rule : ℕ) (b : Built) → (rule ≡ 0 → ⊥) → refusal 4 0 rule ≡ judged rule b

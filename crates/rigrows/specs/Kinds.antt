@@ -9,7 +9,7 @@ use mathlib.Core.List.{List, [], _∷_}
 use lib.Dec.{leb, ltb, eqb}
 use lib.ListN.{getD}
 
--- how many numbers a line of each kind has
+-- how many numbers a line of each kind has, in the order of the kinds' numbers: none, RIG, T, C, A, M, B
 unfoldable pub counts : List ℕ
 counts = 0 ∷ 4 ∷ 5 ∷ 4 ∷ 3 ∷ 2 ∷ 7 ∷ []
 
@@ -20,33 +20,54 @@ keys = 0 ∷ 0 ∷ 1 ∷ 2 ∷ 3 ∷ 2 ∷ 0 ∷ []
 -- the least and the greatest value of each number
 unfoldable pub lows : List ℕ
 lows =
+    -- none
     0 ∷ 0 ∷ 0 ∷ 0 ∷ 0 ∷ 0 ∷ 0 ∷ 0 ∷ 0 ∷
+    -- RIG: edition, tasks, flags, master
     1 ∷ 1 ∷ 1 ∷ 0 ∷ 0 ∷ 0 ∷ 0 ∷ 0 ∷ 0 ∷
+    -- T: task, controller, priority, privileged, activation flag
     1 ∷ 0 ∷ 0 ∷ 0 ∷ 0 ∷ 0 ∷ 0 ∷ 0 ∷ 0 ∷
+    -- C: task, position, latched, desired
     1 ∷ 0 ∷ 0 ∷ 0 ∷ 0 ∷ 0 ∷ 0 ∷ 0 ∷ 0 ∷
+    -- A: task, position, flag
     1 ∷ 0 ∷ 1 ∷ 0 ∷ 0 ∷ 0 ∷ 0 ∷ 0 ∷ 0 ∷
+    -- M: cycle, flag
     0 ∷ 1 ∷ 0 ∷ 0 ∷ 0 ∷ 0 ∷ 0 ∷ 0 ∷ 0 ∷
+    -- B: sender, sub-address, receiver, sub-address, words, period, phase
     0 ∷ 1 ∷ 0 ∷ 1 ∷ 1 ∷ 1 ∷ 0 ∷ 0 ∷ 0 ∷ []
 
 unfoldable pub highs : List ℕ
 highs =
+    -- none
     0 ∷ 0 ∷ 0 ∷ 0 ∷ 0 ∷ 0 ∷ 0 ∷ 0 ∷ 0 ∷
+    -- RIG: edition, tasks, flags, master
     1 ∷ 64 ∷ 128 ∷ 31 ∷ 0 ∷ 0 ∷ 0 ∷ 0 ∷ 0 ∷
+    -- T: task, controller, priority, privileged, activation flag
     64 ∷ 64 ∷ 255 ∷ 1 ∷ 128 ∷ 0 ∷ 0 ∷ 0 ∷ 0 ∷
+    -- C: task, position, latched, desired
     64 ∷ 15 ∷ 1 ∷ 1 ∷ 0 ∷ 0 ∷ 0 ∷ 0 ∷ 0 ∷
+    -- A: task, position, flag
     64 ∷ 15 ∷ 128 ∷ 0 ∷ 0 ∷ 0 ∷ 0 ∷ 0 ∷ 0 ∷
+    -- M: cycle, flag
     63 ∷ 128 ∷ 0 ∷ 0 ∷ 0 ∷ 0 ∷ 0 ∷ 0 ∷ 0 ∷
+    -- B: sender, sub-address, receiver, sub-address, words, period, phase
     31 ∷ 30 ∷ 31 ∷ 30 ∷ 32 ∷ 64 ∷ 63 ∷ 0 ∷ 0 ∷ []
 
 -- what each number names: 1 a task, 2 a flag, 0 something else
 unfoldable pub sorts : List ℕ
 sorts =
+    -- none
     0 ∷ 0 ∷ 0 ∷ 0 ∷ 0 ∷ 0 ∷ 0 ∷ 0 ∷ 0 ∷
+    -- RIG: edition, tasks, flags, master
     0 ∷ 0 ∷ 0 ∷ 0 ∷ 0 ∷ 0 ∷ 0 ∷ 0 ∷ 0 ∷
+    -- T: task, controller, priority, privileged, activation flag
     1 ∷ 1 ∷ 0 ∷ 0 ∷ 2 ∷ 0 ∷ 0 ∷ 0 ∷ 0 ∷
+    -- C: task, position, latched, desired
     1 ∷ 0 ∷ 0 ∷ 0 ∷ 0 ∷ 0 ∷ 0 ∷ 0 ∷ 0 ∷
+    -- A: task, position, flag
     1 ∷ 0 ∷ 2 ∷ 0 ∷ 0 ∷ 0 ∷ 0 ∷ 0 ∷ 0 ∷
+    -- M: cycle, flag
     0 ∷ 2 ∷ 0 ∷ 0 ∷ 0 ∷ 0 ∷ 0 ∷ 0 ∷ 0 ∷
+    -- B: sender, sub-address, receiver, sub-address, words, period, phase
     0 ∷ 0 ∷ 0 ∷ 0 ∷ 0 ∷ 0 ∷ 0 ∷ 0 ∷ 0 ∷ []
 
 unfoldable pub countOf : ℕ → ℕ
@@ -101,7 +122,8 @@ kindOf (a ∷ b ∷ []) = 0
 kindOf (a ∷ b ∷ c ∷ []) = cond (eqb a 82 && (eqb b 73 && eqb c 71)) 1 0
 kindOf (a ∷ b ∷ c ∷ d ∷ l) = 0
 
--- a line's place in the order: its kind, then the numbers that the kind rises by. Each is below 256
+-- a line's place in the order: its kind, then the numbers that the kind rises by. Each is below 256, so that places compare as these
+-- do, one after the other: `ordered-exact` (Order)
 unfoldable pub keyed : ℕ → List ℕ → ℕ → ℕ
 keyed k v j = cond (ltb j (keysOf k)) (getD v j 0) 0
 

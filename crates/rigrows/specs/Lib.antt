@@ -4,5 +4,7 @@ pub mod Line
 pub mod File
 pub mod Text
 pub mod Judged
+pub mod Order
+pub mod Shape
 pub mod Turns
 pub mod RoundTrip

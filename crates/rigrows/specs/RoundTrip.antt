@@ -1,9 +1,12 @@
 -- A file has no faulty line exactly when it is the text of faultless lines, and then these are its lines.
---     written      a file without a faulty line is the text of its lines
---     read-lines   the text of faultless lines has no faulty line, and those lines
+--     written            a file without a faulty line is the text of its lines
+--     read-lines         the text of faultless lines has no faulty line, and those lines
+--     faultless-exact    a file has no faulty line ↔ it is the text of lines of shape and sizes, in order
+--     last-byte          .. and then its last byte is LF
 -- Assumes nothing.
 use Prim.Native.Nat.{ℕ, zero, suc, _+_, _-_, _*_, _/_, _%_, _≤_, _<_}
-use mathlib.Core.Path.{_≡_, refl, sym, ap, ap₂, _∙_}
+use mathlib.Core.Path.{_≡_, refl, sym, ap, ap₂, _∙_, subst}
+use mathlib.Core.Logic.{_↔_}
 use mathlib.Core.Bool.{Bool, true, false, cond, _&&_}
 use mathlib.Core.List.{List, [], _∷_, _++_, map, append-nil}
 use native.Mathlib.Omega.{arith}
@@ -20,6 +23,7 @@ use Rattle.rigrows.specs.Kinds.{countOf, within, nameOf, letterOf, kindO
 use Rattle.rigrows.specs.KindLaws.{kind-small, within-small}
 use Rattle.rigrows.specs.Line.{Line, first, others, lineOf, decimals, fits, placed, judge}
 use Rattle.rigrows.specs.Judged.{Sound, judged-sound, shaped-known, shaped-count, sized-fits}
+use Rattle.rigrows.specs.Order.{EachPassed, InOrder, file-order, order-file}
 use Rattle.rigrows.specs.File.{Fault, fault, firstFault, faultOf, linesIn, linesOf}
 use Rattle.rigrows.specs.Turns.{fault-next, lines-next}
 use Rattle.rigrows.specs.Text.{bytesOf, text, Faultless}
@@ -200,3 +204,34 @@ some-line s e = go (split 10 s) e
     go [] e = absurd (omega arith)
     go (l ∷ []) e = by (eqb (length l) 0) (λ t. let z : _≡_ {A = ℕ} 1 0 = rw t at e in absurd (omega arith)) (λ t. let z : _≡_ {A = ℕ} 1 0 = rw t at e in absurd (omega arith))
     go (l ∷ m ∷ ms) e = (lineOf l, linesIn (m ∷ ms), refl)
+
+-- a file has no faulty line exactly when it is the text of lines, at least one, each of shape and sizes, in order
+pub faultless-exact : (s : List ℕ) → (faultOf s .no ≡ 0) ↔ ((r : Line) × (rs : List Line) × (s ≡ text (r ∷ rs)) × EachPassed (r ∷ rs) × InOrder (r ∷ rs))
+faultless-exact s = (there, λ w. ap (λ (x : List ℕ). faultOf x .no) (w .2) ∙ ap (λ (x : Fault). x .no) (read-lines (w .0) (w .1) (order-file (w .0 ∷ w .1) (w .3) (w .4)) .0))
+  where
+    there : faultOf s .no ≡ 0 → (r : Line) × (rs : List Line) × (s ≡ text (r ∷ rs)) × EachPassed (r ∷ rs) × InOrder (r ∷ rs)
+    there e =
+        let w = written s e in
+        let l = some-line s e in
+        let f : Faultless 0 (l .0 ∷ l .1) = subst (λ (x : List Line). Faultless 0 x) (l .2) (w .1) in
+        let o = file-order (l .0 ∷ l .1) f in
+        (l .0, l .1, w .0 ∙ ap text (l .2), o .0, o .1)
+
+-- "Lines end in LF": the last byte of such a file is LF
+abbrev lastIn : ℕ → List ℕ → ℕ
+lastIn d [] = d
+lastIn d (x ∷ xs) = lastIn x xs
+
+last-behind : (xs : List ℕ) (d y : ℕ) (ys : List ℕ) → lastIn d (xs ++ (y ∷ ys)) ≡ lastIn y ys
+last-behind [] d y ys = refl
+last-behind (x ∷ xs) d y ys = last-behind xs x y ys
+
+text-last : (r : Line) (rs : List Line) (d : ℕ) → lastIn d (text (r ∷ rs)) ≡ 10
+unfolding text
+text-last r [] d = last-behind (bytesOf r) d 10 []
+text-last r (q ∷ rs) d = last-behind (bytesOf r) d 10 (text (q ∷ rs)) ∙ text-last q rs 10
+
+pub last-byte : (u : List ℕ) (b : ℕ) → faultOf (u ++ (b ∷ [])) .no ≡ 0 → b ≡ 10
+last-byte u b e =
+    let w = faultless-exact (u ++ (b ∷ [])) .0 e in
+    sym (last-behind u 0 b []) ∙ (ap (lastIn 0) (w .2) ∙ text-last (w .0) (w .1) 0)

@@ -8,7 +8,7 @@ ghost use Rattle.rigrows.specs.Kinds.{nameOf};
 ghost use Rattle.rigrows.specs.Text.{text};
 ghost use Rattle.rigwrite.specs.Line.{begun, lineText};
 ghost use Rattle.rigwrite.specs.Kept.{kept, ended};
-ghost use Rattle.rigwrite.specs.Written.{writtenOf, bufferOf};
+ghost use Rattle.rigwrite.specs.Written.{writtenReport, writtenOf, bufferOf};
 ghost use Rattle.rigwrite.specs.File.{rigLine, isTask, taskLine, isCondition, conditionLine, isLine, flagLine, isFlag, cycleLine, isRow, rowLine, busNumbers, fileOf};
 
 fn wide(x: u8) -> usize
@@ -275,7 +275,7 @@ pub enum Written {
 // Writes the file of a rig into the lent buffer. It is put together in a buffer of its own, which the file of a right rig
 // always fits, so that nothing is written where the lent one is too short.
 pub fn write(buf: &mut [u8], g: rig::Rig, cycles: [rig::Cycle; 64]) -> Written
-    ensures { λ r. ⌜ (r ≡ writtenOf g cycles (length (now (buf .entry)))) × (now (buf .exit) ≡ bufferOf g cycles (now (buf .entry))) ⌝ }
+    ensures { λ r. ⌜ (writtenReport r ≡ writtenOf g cycles (length (now (buf .entry)))) × (now (buf .exit) ≡ bufferOf g cycles (now (buf .entry))) ⌝ }
 {
     if !rig::right(g, cycles) {
         return Written::Refused(4);

@@ -1,5 +1,5 @@
 -- DEMAND 3, of the rules: from an accepted start, after any run, refused calls among it.
--- "each chain lists exactly who waits there, once, in order; activation flag on iff task active; at most 79 served a call".
+-- Each chain lists exactly who waits there, once; an activation flag is on exactly when its task is active; no call serves more than 79.
 -- (That waking is exact, and that the order is that of the history, are theorems of their own.)
 use mathlib.Core.Path.{_≡_, refl, sym, _∙_}
 use mathlib.Core.Logic.{_≢_, _⊎_, inl, inr, ⊎-elim, _↔_}

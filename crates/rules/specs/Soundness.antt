@@ -52,7 +52,7 @@ pub record Wakes (r : Rig) (l : List ℕ) : Type 0 where
   pub sized : length l ≡ 65
   pub within : Within (r .tasks) l
 
--- ---- the chains: "each chain lists exactly who waits there, once"
+-- ---- the chains: "waiting tasks and links agree as demand 3 says", each chain lists exactly who waits there, once
 
 -- a task that is in a chain
 abbrev pub Somewhere : ℕ → (ℕ → List ℕ) → Type 0
