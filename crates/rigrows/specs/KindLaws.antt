@@ -66,7 +66,11 @@ pub count-small : (k : ℕ) → countOf k ≤ 9
 unfolding countOf counts entries
 count-small k = entries-le 9 counts refl k
 
-high-small : (k f : ℕ) → highOf k f ≤ 255
+pub low-small : (k f : ℕ) → lowOf k f ≤ 255
+unfolding lowOf lows entries
+low-small k f = entries-le 255 lows refl (k * 9 + f)
+
+pub high-small : (k f : ℕ) → highOf k f ≤ 255
 unfolding highOf highs entries
 high-small k f = entries-le 255 highs refl (k * 9 + f)
 

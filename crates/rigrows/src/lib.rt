@@ -12,7 +12,7 @@ const COUNTS: [usize; 7] = [0, 4, 5, 4, 3, 2, 7];
 
 const KEYS: [usize; 7] = [0, 0, 1, 2, 3, 2, 0];
 
-const LOWS: [u64; 63] = [
+const LOWS: [u8; 63] = [
     0,
     0,
     0,
@@ -78,7 +78,7 @@ const LOWS: [u64; 63] = [
     0,
 ];
 
-const HIGHS: [u64; 63] = [
+const HIGHS: [u8; 63] = [
     0,
     0,
     0,
@@ -257,10 +257,12 @@ pub fn fits(k: usize, f: usize, n: u64) -> bool
     requires { ⌜ (k < 7) × (f < 9) ⌝ }
     ensures { λ r. ⌜ r ≡ within k f n ⌝ }
 {
-    if n < LOWS[k * 9 + f] {
+    let low = LOWS[k * 9 + f];
+    let high = HIGHS[k * 9 + f];
+    if n < (low as u64) {
         return false;
     }
-    if HIGHS[k * 9 + f] < n {
+    if (high as u64) < n {
         return false;
     }
     true

@@ -1,54 +1,57 @@
+use native.Mathlib.Omega.{arith}
 use Rattle.rigrows.specs.Kinds.{lows, highs, lowOf, highOf}
-use Rattle.rigrows.specs.KindLaws.{within-low, within-high, within-fits}
+use Rattle.rigrows.specs.KindLaws.{within-low, within-high, within-fits, low-small, high-small}
 use borrow.Author.Needs.{needs}
 use Rattle.rigrows.proofs.fits.Statement.{statement}
 use Rattle.rigrows.proofs.fits.Tie as tie
 use Rattle.rigrows.proofs.fits.Reads as reads
 use Rattle.rigrows.proofs.fits.Lts as lts
 
--- src/lib.rt:74:17
-mul-if1 : tie.Need-mul-if1
-mul-if1 c = search needs
+-- src/lib.rt:260:20
+mul-low : tie.Need-mul-low
+mul-low c = search needs
 
--- src/lib.rt:74:17
-add-if1 : tie.Need-add-if1
-add-if1 c = search needs
+-- src/lib.rt:260:20
+add-low : tie.Need-add-low
+add-low c = search needs
 
--- src/lib.rt:74:12
-mul-if1-2 : tie.Need-mul-if1-2
-mul-if1-2 c = search needs
+-- src/lib.rt:260:15
+array-read-low : tie.Need-array-read-low
+array-read-low c = search needs
 
--- src/lib.rt:74:12
-array-read-if1 : tie.Need-array-read-if1
-array-read-if1 c = search needs
+-- src/lib.rt:261:22
+mul-high : tie.Need-mul-high
+mul-high c = search needs
 
--- src/lib.rt:75:9
+-- src/lib.rt:261:22
+add-high : tie.Need-add-high
+add-high c = search needs
+
+-- src/lib.rt:261:16
+array-read-high : tie.Need-array-read-high
+array-read-high c = search needs
+
+-- src/lib.rt:262:13
+cast-if1 : tie.Need-cast-if1
+unfolding lows lowOf
+cast-if1 c = omega (arith, low-small (c .args .k) (c .args .f))
+
+-- src/lib.rt:263:9
 returns : tie.Need-returns
 unfolding lows highs lowOf highOf
 returns c = within-low _ _ _ (c .if1 .taken)
 
--- src/lib.rt:77:14
-mul-if2 : tie.Need-mul-if2
-mul-if2 c = search needs
+-- src/lib.rt:265:9
+cast-if2 : tie.Need-cast-if2
+unfolding highs highOf
+cast-if2 c = omega (arith, high-small (c .before .args .k) (c .before .args .f))
 
--- src/lib.rt:77:14
-add-if2 : tie.Need-add-if2
-add-if2 c = search needs
-
--- src/lib.rt:77:8
-mul-if2-2 : tie.Need-mul-if2-2
-mul-if2-2 c = search needs
-
--- src/lib.rt:77:8
-array-read-if2 : tie.Need-array-read-if2
-array-read-if2 c = search needs
-
--- src/lib.rt:78:9
+-- src/lib.rt:266:9
 returns-2 : tie.Need-returns-2
 unfolding lows highs lowOf highOf
 returns-2 c = within-high _ _ _ (c .before .if1 .left) (c .if2 .taken)
 
--- src/lib.rt:70:1
+-- src/lib.rt:256:1
 returns-3 : tie.Need-returns-3
 unfolding lows highs lowOf highOf
 returns-3 c = within-fits _ _ _ (c .before .if1 .left) (c .if2 .left)
@@ -57,14 +60,14 @@ pub fits-spec : {M : Type 1} → statement M
 fits-spec =
     tie.close
     (tie.spec
-    mul-if1
-    add-if1
-    mul-if1-2
-    array-read-if1
+    mul-low
+    add-low
+    array-read-low
+    mul-high
+    add-high
+    array-read-high
+    cast-if1
     returns
-    mul-if2
-    add-if2
-    mul-if2-2
-    array-read-if2
+    cast-if2
     returns-2
     returns-3)
