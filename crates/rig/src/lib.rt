@@ -422,10 +422,10 @@ fn line_rules<'a>(
         ≡ firstFalse 19 (lineTests alines (now (present .entry)) (now (latched .entry)) (now (desired .entry)) (now (atask .entry)) (now (apos .entry)) (now (aflag .entry)) (marked (now (flags .entry))))
         ⌝ }
 {
-    if !rigtests::named(alines, present, atask, apos) {
+    let table = rigtests::place_owners(alines, atask, apos);
+    if !rigtests::names_present(present, &table) {
         return 19;
     }
-    let table = rigtests::place_owners(alines, atask, apos);
     if !rigtests::owned(present, &table) {
         return 20;
     }

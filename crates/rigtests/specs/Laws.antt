@@ -10,8 +10,8 @@ use borrow.Author.Tests.{eqb-true, eqb-false}
 use Rattle.laws.specs.Cases.{by}
 use Rattle.laws.specs.Decides.{Is, is-eqb, is-and, is-or, is-not, is-else, is-then, is-if, is-all, is-any, is-said, is-same}
 use Rattle.laws.specs.Owners.{owners, owner-key, owner-some}
-use Rattle.rigtests.specs.Tests.{at, placeOf, servesOne, servesOneB, usedB, minorConditionOne, minorConditionsB}
-use Rattle.rigtests.specs.Tables.{Placed, Owned, marked, servedOne, servedB, hasOwnerB, minorTest, minorOwnerOne, minorOwnerB}
+use Rattle.rigtests.specs.Tests.{at, placeOf, servesOne, servesOneB, namedB, usedB, minorConditionOne, minorConditionsB}
+use Rattle.rigtests.specs.Tables.{Placed, Owned, marked, servedOne, servedB, namedOwnerB, hasOwnerB, minorTest, minorOwnerOne, minorOwnerB}
 
 -- what a number that is not 0 is one more than
 pub some-suc : (n : ℕ) → n ≢ 0 → (i : ℕ) × (n ≡ suc i)
@@ -66,6 +66,19 @@ module _ (n : ℕ) (atask apos : List ℕ) (placed : Placed n atask apos) where
 
   pub lasts-owned : (aflag : List ℕ) → ((k : ℕ) → k < n → at aflag k ≤ 128) → Owned n atask apos aflag (owners n (placeOf atask apos) 1040)
   lasts-owned aflag flags = record { fit = record { placed = placed; flags = flags }; some = last-some; few = last-few }
+
+  -- what is owned is a condition exactly where each A line names one
+  pub named-law : (present : List ℕ) → namedOwnerB present (owners n (placeOf atask apos) 1040) ≡ namedB n present atask apos
+  unfolding namedOwnerB namedB
+  named-law present =
+      is-same
+      (is-said (is-all 1040 (λ p h. is-else (is-eqb (at lasts p) 0) (is-eqb (at present p) 1)))
+      (λ f k h. f (placeOf atask apos k) (placed .low k h) (last-some k h))
+      (λ f p h z.
+      let s = some-suc (at lasts p) z in
+      let k = owner-key (placeOf atask apos) 1040 n p (s .0) (s .1) in
+      ap (at present) (sym (k .1)) ∙ f (s .0) (k .0)))
+      (is-all n (λ k h. is-eqb (at present (placeOf atask apos k)) 1))
 
   -- a condition has an owner exactly where it has an A line
   has-is : (p : ℕ) → p < 1040 → Is (not (eqb (at lasts p) 0)) ((k : ℕ) × (k < n) × (placeOf atask apos k ≡ p))

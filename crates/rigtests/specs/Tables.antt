@@ -39,6 +39,13 @@ servedOne activation table t = eqb (at activation t) 0 || eqb (at table (at acti
 unfoldable pub servedB : List ℕ → List ℕ → Bool
 servedB activation table = all 65 (servedOne activation table)
 
+-- what an A line owns is a condition
+abbrev pub namedOwnerOne : List ℕ → List ℕ → ℕ → Bool
+namedOwnerOne present table p = eqb (at table p) 0 || eqb (at present p) 1
+
+unfoldable pub namedOwnerB : List ℕ → List ℕ → Bool
+namedOwnerB present table = all 1040 (namedOwnerOne present table)
+
 -- each condition is owned by an A line
 abbrev pub hasOwnerOne : List ℕ → List ℕ → ℕ → Bool
 hasOwnerOne present table p = eqb (at present p) 0 || not (eqb (at table p) 0)

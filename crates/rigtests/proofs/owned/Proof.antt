@@ -19,31 +19,31 @@ Inv-loop present table bad₀ p₀ bad p = Passed bad p (hasOwnerOne present tab
 abbrev μ-loop : tie.MeasureT-loop
 μ-loop present table bad₀ p₀ bad p = 1040 - p
 
--- src/lib.rt:395:5
+-- src/lib.rt:393:5
 loop-holds : tie.Need-loop-holds Inv-loop μ-loop
 loop-holds c = (passed-none _, search needs)
 
--- src/lib.rt:396:19
+-- src/lib.rt:394:19
 element-copy-out-has : tie.Need-element-copy-out-has Inv-loop μ-loop
 element-copy-out-has c = search needs
 
--- src/lib.rt:397:21
+-- src/lib.rt:395:21
 mul-owner : tie.Need-mul-owner Inv-loop μ-loop
 mul-owner c = search needs
 
--- src/lib.rt:397:21
+-- src/lib.rt:395:21
 element-copy-out-owner : tie.Need-element-copy-out-owner Inv-loop μ-loop
 element-copy-out-owner c = search needs
 
--- src/lib.rt:403:13
+-- src/lib.rt:401:13
 add-p : tie.Need-add-p Inv-loop μ-loop
 add-p c = search needs
 
--- src/lib.rt:395:5
+-- src/lib.rt:393:5
 loop-less : tie.Need-loop-less Inv-loop μ-loop
 loop-less c = search needs
 
--- src/lib.rt:395:5
+-- src/lib.rt:393:5
 loop-again : tie.Need-loop-again Inv-loop μ-loop
 loop-again c = (
   ⊎-elim (λ w. passed-not _ _ (sym (or-skip _ _ (ne-eqb _ 0 (w .0 .taken))) ∙ ap not (eq-eqb _ 0 (w .1 .taken))) (w .2))
@@ -53,7 +53,7 @@ loop-again c = (
   search needs,
 )
 
--- src/lib.rt:390:1
+-- src/lib.rt:388:1
 returns : tie.Need-returns Inv-loop μ-loop
 unfolding hasOwnerB
 returns c =
