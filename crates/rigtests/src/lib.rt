@@ -374,8 +374,8 @@ pub fn names_present<'a>(present: &'a [u8; 1040], table: &'a [u16; 1040]) -> boo
     while p < 1040 {
         let has = present[p];
         let owner = table[p];
-        if owner != 0 {
-            if has != 1 {
+        if has != 1 {
+            if owner != 0 {
                 bad = 1;
             }
         }

@@ -1,11 +1,14 @@
 use borrow.Author.Needs.{needs}
 use mathlib.Core.Logic.{⊎-elim}
-use mathlib.Core.Path.{_≡_, sym, _∙_}
+use mathlib.Core.Path.{_≡_, refl, sym, _∙_}
+use mathlib.Core.Bool.{Bool, true, false, _||_}
 use borrow.Author.Tests.{eq-eqb, ne-eqb}
 use Prim.Native.Nat.{_≤_, _-_}
 use native.Mathlib.Omega.{arith}
+use lib.Dec.{eqb}
 use Rattle.laws.specs.All.{Passed, passed-none, passed-next, passed-not}
 use Rattle.laws.specs.Cases.{or-skip, or-yes}
+use Rattle.rigtests.specs.Tests.{at}
 use Rattle.rigtests.specs.Tables.{namedOwnerOne, namedOwnerB}
 use Rattle.rigtests.proofs.names_present.Statement.{statement}
 use Rattle.rigtests.proofs.names_present.Tie as tie
@@ -17,6 +20,10 @@ Inv-loop present table bad₀ p₀ bad p = Passed bad p (namedOwnerOne present t
 
 abbrev μ-loop : tie.MeasureT-loop
 μ-loop present table bad₀ p₀ bad p = 1040 - p
+
+or-last : (a b : Bool) → b ≡ true → (a || b) ≡ true
+or-last true b e = refl
+or-last false b e = e
 
 -- src/lib.rt:374:5
 loop-holds : tie.Need-loop-holds Inv-loop μ-loop
@@ -45,9 +52,9 @@ loop-less c = search needs
 -- src/lib.rt:374:5
 loop-again : tie.Need-loop-again Inv-loop μ-loop
 loop-again c = (
-  ⊎-elim (λ w. passed-not _ _ (sym (or-skip _ _ (ne-eqb _ 0 (w .0 .taken))) ∙ ne-eqb _ 1 (w .1 .taken)) (w .2))
-      (⊎-elim (λ w. passed-next _ _ (c .before .before .before .before .loop .inv .0) (sym (or-skip _ _ (ne-eqb _ 0 (w .0 .taken))) ∙ eq-eqb _ 1 (w .1 .left)) (w .2))
-      (λ w. passed-next _ _ (c .before .before .before .before .loop .inv .0) (sym (or-yes _ _ (eq-eqb _ 0 (w .0 .left)))) (w .1)))
+  ⊎-elim (λ w. passed-not _ _ (sym (or-skip _ _ (ne-eqb _ 0 (w .1 .taken))) ∙ ne-eqb _ 1 (w .0 .taken)) (w .2))
+      (⊎-elim (λ w. passed-next _ _ (c .before .before .before .before .loop .inv .0) (sym (or-yes _ _ (eq-eqb _ 0 (w .1 .left)))) (w .2))
+      (λ w. passed-next _ _ (c .before .before .before .before .loop .inv .0) (or-last (eqb (at (c .before .before .before .before .before .args .table .now) (c .before .before .before .before .loop .p)) 0) _ (eq-eqb _ 1 (w .0 .left))) (w .1)))
       (c .if1 .came),
   search needs,
 )
