@@ -36,34 +36,34 @@ minor-at c =
     ∙ ap (minorOwnerB (s .args .alines) (s .args .latched .now) (s .args .desired .now) (s .args .atask .now) (s .args .apos .now) (s .args .aflag .now) (s .args .flags .now)) (sym (c .before .before .before .before .before .before .before .before .place-owners .ensures))
     ∙ sym (c .minor-conditions .ensures)
 
--- src/lib.rt:425:17
+-- src/lib.rt:426:17
 place-owners-requires : tie.Need-place-owners-requires
 place-owners-requires c κs = c .pre .placed
 
--- src/lib.rt:426:9
+-- src/lib.rt:427:9
 names-present-requires : tie.Need-names-present-requires
 names-present-requires c κs = search needs
 
--- src/lib.rt:427:9
+-- src/lib.rt:428:9
 returns : tie.Need-returns
 returns c = sym (first-here 19 _ _ (named-at (c .before) ∙ not-true _ (c .if1 .taken)))
 
--- src/lib.rt:429:9
+-- src/lib.rt:430:9
 owned-requires : tie.Need-owned-requires
 owned-requires c κs = search needs
 
--- src/lib.rt:430:9
+-- src/lib.rt:431:9
 returns-2 : tie.Need-returns-2
 returns-2 c = sym (first-skip 19 _ _ (named-at (c .before .before .before .before) ∙ not-false _ (c .before .before .before .if1 .left)) ∙ first-here 20 _ _ (used-at (c .before) ∙ not-true _ (c .if2 .taken)))
 
--- src/lib.rt:432:9
+-- src/lib.rt:433:9
 minor-conditions-requires : tie.Need-minor-conditions-requires
 minor-conditions-requires c κs =
     let s = c .before .before .before .before .before .before .before .before in
     subst (λ (l : List ℕ). Owned (s .args .alines) (s .args .atask .now) (s .args .apos .now) (s .args .aflag .now) l) (sym (c .before .before .before .before .before .before .before .place-owners .ensures))
     (lasts-owned (s .args .alines) (s .args .atask .now) (s .args .apos .now) (s .pre .placed) (s .args .aflag .now) (s .pre .flags))
 
--- src/lib.rt:433:9
+-- src/lib.rt:434:9
 returns-3 : tie.Need-returns-3
 returns-3 c =
     sym
@@ -71,7 +71,7 @@ returns-3 c =
     ∙ first-skip 20 _ _ (used-at (c .before .before .before .before) ∙ not-false _ (c .before .before .before .if2 .left))
     ∙ first-here 21 _ _ (minor-at (c .before) ∙ not-true _ (c .if3 .taken)))
 
--- src/lib.rt:408:1
+-- src/lib.rt:409:1
 returns-4 : tie.Need-returns-4
 returns-4 c =
     sym
