@@ -424,10 +424,11 @@ fn line_rules<'a>(
         ⌝ }
 {
     let table = rigtests::place_owners(alines, atask, apos);
-    if !rigtests::names_present(present, &table) {
-        return 19;
-    }
-    if !rigtests::owned(present, &table) {
+    // one pass for both rules; where it fails, which
+    if !rigtests::matched(present, &table) {
+        if !rigtests::names_present(present, &table) {
+            return 19;
+        }
         return 20;
     }
     if !rigtests::minor_conditions(alines, latched, desired, atask, apos, aflag, flags, &table) {

@@ -53,6 +53,13 @@ hasOwnerOne present table p = eqb (at present p) 0 || not (eqb (at table p) 0)
 unfoldable pub hasOwnerB : List ℕ → List ℕ → Bool
 hasOwnerB present table = all 1040 (hasOwnerOne present table)
 
+-- and both at once: 1 where there is an owner, 0 where there is none
+abbrev pub matchedOne : List ℕ → List ℕ → ℕ → Bool
+matchedOne present table p = eqb (at present p) (cond (eqb (at table p) 0) 0 1)
+
+unfoldable pub matchedB : List ℕ → List ℕ → Bool
+matchedB present table = all 1040 (matchedOne present table)
+
 -- of an A line: where neither its flag nor that of its condition's last line is marked, all is well; else it must itself be
 -- the last, and if its own flag is marked, the condition is unlatched and desires on
 abbrev pub minorTest : Bool → ℕ → ℕ → ℕ → ℕ → Bool

@@ -9,7 +9,7 @@ ghost use Rattle.laws.specs.All.{all};
 ghost use Rattle.laws.specs.Owners.{owners, marks};
 ghost use Rattle.rigtests.specs.Tests.{at, place, within, smallOne, smallB, conditionsB, linesRiseB, flagTest, cycleRises, conditionTasksB, linesB, cycleSmall, climb, controllersB, notMinorB, placeOf, taskZeroTest, taskZerosB, lineZerosB};
 ghost use Rattle.rigtests.specs.Passes.{underOne, zeroFrom, betweenOne, lineKey};
-ghost use Rattle.rigtests.specs.Tables.{marked, servedB, namedOwnerB, hasOwnerB, minorTest, minorOwnerB, Low, Placed, Owned};
+ghost use Rattle.rigtests.specs.Tables.{marked, servedB, namedOwnerB, matchedB, minorTest, minorOwnerB, Low, Placed, Owned};
 
 pub fn wide(x: u8) -> usize
     ensures { λ r. ⌜ r ≡ x ⌝ }
@@ -384,19 +384,21 @@ pub fn names_present<'a>(present: &'a [u8; 1040], table: &'a [u16; 1040]) -> boo
     bad == 0
 }
 
-// Each condition has an owner.
-pub fn owned<'a>(present: &'a [u8; 1040], table: &'a [u16; 1040]) -> bool
-    ensures { λ r. ⌜ r ≡ hasOwnerB (now (present .entry)) (now (table .entry)) ⌝ }
+// The owned places are the conditions: in one pass, that each condition has an owner too.
+pub fn matched<'a>(present: &'a [u8; 1040], table: &'a [u16; 1040]) -> bool
+    ensures { λ r. ⌜ r ≡ matchedB (now (present .entry)) (now (table .entry)) ⌝ }
 {
     let mut bad: u8 = 0;
     let mut p: usize = 0;
     while p < 1040 {
         let has = present[p];
         let owner = table[p];
-        if has != 0 {
-            if owner == 0 {
-                bad = 1;
-            }
+        let mut want: u8 = 0;
+        if owner != 0 {
+            want = 1;
+        }
+        if has != want {
+            bad = 1;
         }
         p = p + 1;
     }

@@ -18,48 +18,48 @@ Inv-loop tasks controller priority privileged activation t₀ t = (all t (taskZe
 abbrev μ-loop : tie.MeasureT-loop
 μ-loop tasks controller priority privileged activation t₀ t = 65 - t
 
--- src/lib.rt:501:5
+-- src/lib.rt:503:5
 loop-holds : tie.Need-loop-holds Inv-loop μ-loop
 loop-holds c = (all-zero _, search needs)
 
--- src/lib.rt:505:13
+-- src/lib.rt:507:13
 element-copy-out-task-zero : tie.Need-element-copy-out-task-zero Inv-loop μ-loop
 element-copy-out-task-zero c = search needs
 
--- src/lib.rt:506:13
+-- src/lib.rt:508:13
 element-copy-out-task-zero-2 : tie.Need-element-copy-out-task-zero-2 Inv-loop μ-loop
 element-copy-out-task-zero-2 c = search needs
 
--- src/lib.rt:507:13
+-- src/lib.rt:509:13
 element-copy-out-task-zero-3 : tie.Need-element-copy-out-task-zero-3 Inv-loop μ-loop
 element-copy-out-task-zero-3 c = search needs
 
--- src/lib.rt:508:13
+-- src/lib.rt:510:13
 element-copy-out-task-zero-4 : tie.Need-element-copy-out-task-zero-4 Inv-loop μ-loop
 element-copy-out-task-zero-4 c = search needs
 
--- src/lib.rt:502:13
+-- src/lib.rt:504:13
 task-zero-requires : tie.Need-task-zero-requires Inv-loop μ-loop
 task-zero-requires c κs = search needs
 
--- src/lib.rt:510:13
+-- src/lib.rt:512:13
 returns : tie.Need-returns Inv-loop μ-loop
 unfolding taskZerosB
 returns c = sym (all-not _ _ (c .before .before .before .before .before .before .before .loop .t) (c .before .before .before .before .before .before .loop-test .taken) (sym (c .before .task-zero .ensures) ∙ not-true _ (c .if1 .taken)))
 
--- src/lib.rt:512:13
+-- src/lib.rt:514:13
 add-t : tie.Need-add-t Inv-loop μ-loop
 add-t c = search needs
 
--- src/lib.rt:501:5
+-- src/lib.rt:503:5
 loop-less : tie.Need-loop-less Inv-loop μ-loop
 loop-less c = search needs
 
--- src/lib.rt:501:5
+-- src/lib.rt:503:5
 loop-again : tie.Need-loop-again Inv-loop μ-loop
 loop-again c = (all-next _ _ (c .before .before .before .before .before .before .before .loop .inv .0) (sym (c .before .task-zero .ensures) ∙ not-false _ (c .if1 .left)), search needs)
 
--- src/lib.rt:490:1
+-- src/lib.rt:492:1
 returns-2 : tie.Need-returns-2 Inv-loop μ-loop
 unfolding taskZerosB
 returns-2 c =

@@ -1,20 +1,21 @@
 use borrow.Author.Needs.{needs}
 use mathlib.Core.Logic.{⊎-elim}
 use mathlib.Core.Path.{_≡_, sym, _∙_, ap}
-use mathlib.Core.Bool.{not}
+use mathlib.Core.Bool.{Bool, cond}
 use borrow.Author.Tests.{eq-eqb, ne-eqb}
-use Prim.Native.Nat.{_≤_, _-_}
+use Prim.Native.Nat.{ℕ, _≤_, _-_}
 use native.Mathlib.Omega.{arith}
+use lib.Dec.{eqb}
 use Rattle.laws.specs.All.{Passed, passed-none, passed-next, passed-not}
-use Rattle.laws.specs.Cases.{or-skip, or-yes}
-use Rattle.rigtests.specs.Tables.{hasOwnerOne, hasOwnerB}
-use Rattle.rigtests.proofs.owned.Statement.{statement}
-use Rattle.rigtests.proofs.owned.Tie as tie
-use Rattle.rigtests.proofs.owned.Reads as reads
-use Rattle.rigtests.proofs.owned.Lts as lts
+use Rattle.rigtests.specs.Tests.{at}
+use Rattle.rigtests.specs.Tables.{matchedOne, matchedB}
+use Rattle.rigtests.proofs.matched.Statement.{statement}
+use Rattle.rigtests.proofs.matched.Tie as tie
+use Rattle.rigtests.proofs.matched.Reads as reads
+use Rattle.rigtests.proofs.matched.Lts as lts
 
 abbrev Inv-loop : tie.InvT-loop
-Inv-loop present table bad₀ p₀ bad p = Passed bad p (hasOwnerOne present table) × (p ≤ 1040)
+Inv-loop present table bad₀ p₀ bad p = Passed bad p (matchedOne present table) × (p ≤ 1040)
 
 abbrev μ-loop : tie.MeasureT-loop
 μ-loop present table bad₀ p₀ bad p = 1040 - p
@@ -35,7 +36,7 @@ mul-owner c = search needs
 element-copy-out-owner : tie.Need-element-copy-out-owner Inv-loop μ-loop
 element-copy-out-owner c = search needs
 
--- src/lib.rt:401:13
+-- src/lib.rt:403:13
 add-p : tie.Need-add-p Inv-loop μ-loop
 add-p c = search needs
 
@@ -45,23 +46,26 @@ loop-less c = search needs
 
 -- src/lib.rt:393:5
 loop-again : tie.Need-loop-again Inv-loop μ-loop
-loop-again c = (
-  ⊎-elim (λ w. passed-not _ _ (sym (or-skip _ _ (ne-eqb _ 0 (w .0 .taken))) ∙ ap not (eq-eqb _ 0 (w .1 .taken))) (w .2))
-      (⊎-elim (λ w. passed-next _ _ (c .before .before .before .before .loop .inv .0) (sym (or-skip _ _ (ne-eqb _ 0 (w .0 .taken))) ∙ ap not (ne-eqb _ 0 (w .1 .left))) (w .2))
-      (λ w. passed-next _ _ (c .before .before .before .before .loop .inv .0) (sym (or-yes _ _ (eq-eqb _ 0 (w .0 .left)))) (w .1)))
-      (c .if1 .came),
-  search needs,
-)
+loop-again c =
+    let s = c .before .before .before .before .before .before .args in
+    let k = c .before .before .before .before .before .loop in
+    let w : c .before .if1 .want ≡ cond (eqb (at (s .table .now) (k .p)) 0) 0 1 =
+    ⊎-elim (λ v. v .1 ∙ sym (ap (λ (b : Bool). cond {A = ℕ} b 0 1) (ne-eqb _ 0 (v .0 .taken)))) (λ v. v .1 ∙ sym (ap (λ (b : Bool). cond {A = ℕ} b 0 1) (eq-eqb _ 0 (v .0 .left)))) (c .before .if1 .came) in (
+      ⊎-elim (λ v. passed-not _ _ (ap (eqb (at (s .present .now) (k .p))) (sym w) ∙ ne-eqb _ _ (v .0 .taken)) (v .1))
+          (λ v. passed-next _ _ (k .inv .0) (ap (eqb (at (s .present .now) (k .p))) (sym w) ∙ eq-eqb _ _ (v .0 .left)) (v .1))
+          (c .if2 .came),
+      search needs,
+    )
 
 -- src/lib.rt:388:1
 returns : tie.Need-returns Inv-loop μ-loop
-unfolding hasOwnerB
+unfolding matchedB
 returns c =
     let e : c .before .loop .p ≡ 1040 = omega arith in
     rw e at (c .before .loop .inv .0)
 
-pub owned-spec : {M : Type 1} → statement M
-owned-spec =
+pub matched-spec : {M : Type 1} → statement M
+matched-spec =
     tie.close
     (tie.spec
     Inv-loop
