@@ -40,9 +40,9 @@ pub record Sizes (s : State) : Type 0 where
   pub wake : length (s .wake) ≡ 65
 
 -- what a rig's numbers name is there in the tables
-pub record Placed (g : Rig) : Type 0 where
-  pub controller : (t : ℕ) → t < 65 → at (g .controller) t < 65
-  pub activation : (t : ℕ) → t < 65 → at (g .activation) t < 129
+pub record Placed (controllers activations : List ℕ) : Type 0 where
+  pub controller : (t : ℕ) → t < 65 → at controllers t < 65
+  pub activation : (t : ℕ) → t < 65 → at activations t < 129
 
 -- the links hold chains, the time chain in order, all of it above the count
 pub record ChainsSound (s : State) : Type 0 where
@@ -54,31 +54,38 @@ pub record ChainsSound (s : State) : Type 0 where
 abbrev pub runner : Rig → State → ℕ
 runner g s = chosen (at (g .privileged)) (at (g .priority)) (s .state) (s .running)
 
-unfoldable pub tableTests : Rig → State → List Bool
-tableTests g s =
-    leb (s .count) 2147483647 ∷
-    withinB (s .state) (g .tasks) 3 ∷
-    treeB (g .controller) (s .state) ∷
-    withinB (s .value) (g .flags) 1 ∷
-    condsB (g .present) (s .cond) ∷
-    emptyB (s .wake) (g .tasks) ∷
-    flagsB (g .activation) (s .state) (s .value) ∷
-    waitsB (s .state) (s .links .on) ∷
-    leb (s .running) 64 ∷
-    eqb (s .running) (runner g s) ∷
+-- the tests by the tables that they look at
+unfoldable pub tableTestsOf : ℕ → ℕ → List ℕ → List ℕ → List ℕ → List ℕ → List ℕ → ℕ → List ℕ → List ℕ → List ℕ → List ℕ → List ℕ → ℕ → List Bool
+tableTestsOf tasks flags controller priority privileged activation present count value cond state wake on running =
+    leb count 2147483647 ∷
+    withinB state tasks 3 ∷
+    treeB controller state ∷
+    withinB value flags 1 ∷
+    condsB present cond ∷
+    emptyB wake tasks ∷
+    flagsB activation state value ∷
+    waitsB state on ∷
+    leb running 64 ∷
+    eqb running (chosen (at privileged) (at priority) state running) ∷
     []
 
--- where all tests but the last hold, the last is the answer
-pub last-test : (g : Rig) (s : State) → leb (s .count) 2147483647 ≡ true → withinB (s .state) (g .tasks) 3 ≡ true
-    → treeB (g .controller) (s .state) ≡ true → withinB (s .value) (g .flags) 1 ≡ true → condsB (g .present) (s .cond) ≡ true
-    → emptyB (s .wake) (g .tasks) ≡ true → flagsB (g .activation) (s .state) (s .value) ≡ true
-    → waitsB (s .state) (s .links .on) ≡ true → leb (s .running) 64 ≡ true
-    → (n : ℕ) → n ≡ runner g s → eqb (s .running) n ≡ allOf (tableTests g s)
-unfolding tableTests
-last-test g s a b c d e f h i j n q =
-    ap (eqb (s .running)) q
-    ∙ sym
-    (allOf-skip _ _ a ∙ allOf-skip _ _ b ∙ allOf-skip _ _ c ∙ allOf-skip _ _ d ∙ allOf-skip _ _ e ∙ allOf-skip _ _ f ∙ allOf-skip _ _ h ∙ allOf-skip _ _ i ∙ allOf-skip _ _ j ∙ allOf-last _)
+abbrev pub tableTests : Rig → State → List Bool
+tableTests g s =
+    tableTestsOf (g .tasks) (g .flags) (g .controller) (g .priority) (g .privileged) (g .activation) (g .present) (s .count) (s .value) (s .cond) (s .state) (s .wake) (s .links .on) (s .running)
+
+module _ (tasks flags : ℕ) (controller priority privileged activation present : List ℕ) (count : ℕ) (value cond state wake on : List ℕ) (running : ℕ) where
+  -- where all tests but the last hold, the last is the answer
+  pub last-test : leb count 2147483647 ≡ true → withinB state tasks 3 ≡ true
+      → treeB controller state ≡ true → withinB value flags 1 ≡ true → condsB present cond ≡ true
+      → emptyB wake tasks ≡ true → flagsB activation state value ≡ true
+      → waitsB state on ≡ true → leb running 64 ≡ true
+      → (n : ℕ) → n ≡ chosen (at privileged) (at priority) state running
+      → eqb running n ≡ allOf (tableTestsOf tasks flags controller priority privileged activation present count value cond state wake on running)
+  unfolding tableTestsOf
+  last-test a b c d e f h i j n q =
+      ap (eqb running) q
+      ∙ sym
+      (allOf-skip _ _ a ∙ allOf-skip _ _ b ∙ allOf-skip _ _ c ∙ allOf-skip _ _ d ∙ allOf-skip _ _ e ∙ allOf-skip _ _ f ∙ allOf-skip _ _ h ∙ allOf-skip _ _ i ∙ allOf-skip _ _ j ∙ allOf-last _)
 
 -- ---- the chains that sound links show
 
@@ -150,7 +157,7 @@ module _ (s : State) (h : L.Sound (s .links)) (b : Bool) (e : (X : ℕ → List 
 
 module _ (x : Exec) (z : Sizes (x .st)) (g : Right (x .rig) (x .cycles)) where
   pub tests-sound : allOf (tableTests (x .rig) (x .st)) ≡ true → ChainsSound (x .st) → Sound x
-  unfolding tableTests lastCount
+  unfolding tableTestsOf lastCount
   tests-sound e c =
       let s = x .st in
       let k = allOf-at (tableTests (x .rig) s) e in
@@ -190,7 +197,7 @@ running-low x h = go (x .st .running) (h .state .runs .up)
         omega (arith, has-place (x .st .state) (suc n) (λ q. omega (arith, e, q)), h .state .tasks .sized)
 
 pub sound-tests : (x : Exec) → Sound x → allOf (tableTests (x .rig) (x .st)) ≡ true
-unfolding tableTests lastCount
+unfolding tableTestsOf lastCount
 sound-tests x h =
     let s = x .st in
     let p = h .state in
@@ -220,7 +227,7 @@ sound-order x h =
     }
 
 -- what the tests ask of the rig and of the count
-pub placed : (g : Rig) (cycles : List Cycle) → Right g cycles → Placed g
+pub placed : (g : Rig) (cycles : List Cycle) → Right g cycles → Placed (g .controller) (g .activation)
 placed g cycles h =
     let ok = rig-ok g cycles h in
     record {
@@ -232,5 +239,5 @@ placed g cycles h =
     }
 
 pub count-low : (g : Rig) (s : State) → allOf (tableTests g s) ≡ true → s .count ≤ 2147483647
-unfolding tableTests
+unfolding tableTestsOf
 count-low g s e = leb-true (s .count) 2147483647 (allOf-at (tableTests g s) e 0)

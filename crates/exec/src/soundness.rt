@@ -1,6 +1,5 @@
 // The soundness check, in time linear in the record: the rig's rules, the tests over the tables, the chains.
 use crate::Exec;
-use rig::Rig;
 use state::State;
 ghost use mathlib.Core.Path.{_≡_};
 ghost use mathlib.Core.Bool.{true};
@@ -8,45 +7,63 @@ ghost use mathlib.Core.Logic.{_↔_};
 ghost use Prim.Native.Nat.{_≤_};
 ghost use Rattle.laws.specs.All.{allOf};
 ghost use Rattle.exec.specs.Sound.{Sound};
-ghost use Rattle.exec.specs.Check.{Placed, tableTests, ChainsSound};
+ghost use Rattle.exec.specs.Check.{Placed, tableTestsOf, ChainsSound};
 
-// The tests of the soundness check over the tables.
-fn tables_ok(rig: Rig, st: State) -> bool
-    requires { ⌜ Placed rig ⌝ }
-    ensures { λ r. ⌜ r ≡ allOf (tableTests rig st) ⌝ }
+// The tests of the soundness check over the tables. They are lent: a rig by value would be copied again.
+fn tables_ok<'a>(
+    tasks: u8,
+    flags: u8,
+    controller: &'a [u8; 65],
+    priority: &'a [u8; 65],
+    privileged: &'a [u8; 65],
+    activation: &'a [u8; 65],
+    present: &'a [u8; 1040],
+    count: u32,
+    value: &'a [u8; 129],
+    cond: &'a [u8; 1040],
+    state: &'a [u8; 65],
+    wake: &'a [u32; 65],
+    on: &'a [u16; 65],
+    running: u8,
+) -> bool
+    requires { ⌜ Placed (now controller) (now activation) ⌝ }
+    ensures { λ r.
+        ⌜
+        r
+        ≡ allOf (tableTestsOf tasks flags (now (controller .entry)) (now (priority .entry)) (now (privileged .entry)) (now (activation .entry)) (now (present .entry)) count (now (value .entry)) (now (cond .entry)) (now (state .entry)) (now (wake .entry)) (now (on .entry)) running)
+        ⌝ }
 {
-    let tasks = rig.tasks as usize;
-    let flags = rig.flags as usize;
-    let n = st.running as usize;
-    let links = st.links;
-    if 2147483647 < st.count {
+    let many = tasks as usize;
+    let top = flags as usize;
+    let n = running as usize;
+    if 2147483647 < count {
         return false;
     }
-    if !tests::within(&st.state, tasks, 3) {
+    if !tests::within(state, many, 3) {
         return false;
     }
-    if !tests::tree(&rig.controller, &st.state) {
+    if !tests::tree(controller, state) {
         return false;
     }
-    if !tests::within(&st.value, flags, 1) {
+    if !tests::within(value, top, 1) {
         return false;
     }
-    if !tests::conds(&rig.present, &st.cond) {
+    if !tests::conds(present, cond) {
         return false;
     }
-    if !tests::empty(&st.wake, tasks) {
+    if !tests::empty(wake, many) {
         return false;
     }
-    if !tests::flags(&rig.activation, &st.state, &st.value) {
+    if !tests::flags(activation, state, value) {
         return false;
     }
-    if !tests::waits(&st.state, &links.on) {
+    if !tests::waits(state, on) {
         return false;
     }
     if 64 < n {
         return false;
     }
-    n == steps::chosen(&rig.privileged, &rig.priority, &st.state, n)
+    n == steps::chosen(privileged, priority, state, n)
 }
 
 // The links hold chains, and the time chain is in order of waking count, all above the count.
@@ -68,13 +85,50 @@ impl Exec {
     pub fn sound(self) -> bool
         ensures { λ r. ⌜ (r ≡ true) ↔ Sound self ⌝ }
     {
+        // copied here once, and lent from here on
         let rig = self.rig;
+        let row = rig.row;
         let cycles = self.cycles;
-        if !rig::right(rig, cycles) {
+        if rig::broken_in(
+            rig.tasks,
+            rig.flags,
+            rig.master,
+            rig.alines,
+            rig.rows,
+            &rig.controller,
+            &rig.priority,
+            &rig.privileged,
+            &rig.activation,
+            &rig.present,
+            &rig.latched,
+            &rig.desired,
+            &rig.atask,
+            &rig.apos,
+            &rig.aflag,
+            row,
+            cycles,
+        )
+            != 0
+        {
             return false;
         }
         let st = self.st;
-        if !tables_ok(rig, st) {
+        if !tables_ok(
+            rig.tasks,
+            rig.flags,
+            &rig.controller,
+            &rig.priority,
+            &rig.privileged,
+            &rig.activation,
+            &rig.present,
+            st.count,
+            &st.value,
+            &st.cond,
+            &st.state,
+            &st.wake,
+            &st.links.on,
+            st.running,
+        ) {
             return false;
         }
         chains_ok(st)

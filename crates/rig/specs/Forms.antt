@@ -1,4 +1,4 @@
--- THE TWO FORMS of the sixty-four cycles, and the rig of all zeros.
+-- THE TWO FORMS of the sixty-four cycles, the rig of given tables, and the rig of all zeros.
 use mathlib.Core.Path.{_≡_, refl, ap}
 use mathlib.Core.List.{List, [], _∷_, map}
 use Prim.Native.Nat.{ℕ}
@@ -6,6 +6,7 @@ use native.Mathlib.Omega.{arith}
 use lib.ListN.{getD, replicate, List·getD-map}
 use Rattle.rig.specs.declared.Cycle.{Cycle}
 use Rattle.rig.specs.declared.Rig.{Rig}
+use Rattle.rig.specs.declared.Row.{Row}
 use Rattle.rig.specs.Rules.{at, noRow, noCycle, flagAt, Right}
 
 -- "an array of arrays built from M lines, passed by value beside the rig; the record keeps it as an array of row structs"
@@ -20,6 +21,28 @@ cyclesOf table = map cycleOf table
 
 unfoldable pub tableOf : List Cycle → List (List ℕ)
 tableOf cycles = map flagsOf cycles
+
+-- the rig that has these numbers and tables
+abbrev pub rigOf : ℕ → ℕ → ℕ → ℕ → ℕ → List ℕ → List ℕ → List ℕ → List ℕ → List ℕ → List ℕ → List ℕ → List ℕ → List ℕ → List ℕ → List Row → Rig
+rigOf tasks flags master alines rows controller priority privileged activation present latched desired atask apos aflag row =
+    record {
+      tasks = tasks;
+      flags = flags;
+      master = master;
+      alines = alines;
+      rows = rows;
+      controller = controller;
+      priority = priority;
+      privileged = privileged;
+      activation = activation;
+      present = present;
+      latched = latched;
+      desired = desired;
+      atask = atask;
+      apos = apos;
+      aflag = aflag;
+      row = row;
+    }
 
 -- "a refused rig is all zeros"
 abbrev pub noRig : Rig

@@ -1,13 +1,14 @@
 // The rig by value: what a rig file says, by number. Entries beyond its counts are 0. Whether a rig obeys the rules, and if
 // not, which rule it breaks first.
 ghost use mathlib.Core.Path.{_≡_};
+ghost use mathlib.Core.Bool.{true};
 ghost use Prim.Native.Nat.{ℕ, _≤_, _<_};
 ghost use Rattle.laws.specs.All.{allOf};
 ghost use Rattle.laws.specs.First.{firstFalse};
 ghost use Rattle.rigtests.specs.Tables.{marked, LinesFit};
 ghost use Rattle.rig.specs.Rules.{at, flagAt};
-ghost use Rattle.rig.specs.Tests.{listedB, rowTests, rowsB, cyclesRiseB, cyclesSmallB, minorMarks, differB, rowZero, rowZerosB, countTests, sizeTests, orderTests, numberTests, taskTests, lineTests, restTests, firstBroken, rightB};
-ghost use Rattle.rig.specs.Forms.{cyclesOf, tableOf, noRig, noCycles};
+ghost use Rattle.rig.specs.Tests.{listedB, rowTests, rowsB, cyclesRiseB, cyclesSmallB, minorMarks, differB, rowZero, rowZerosB, shapedTests, countTests, sizeTests, orderTests, numberTests, taskTests, lineTests, restTests, firstBroken, rightB};
+ghost use Rattle.rig.specs.Forms.{rigOf, cyclesOf, tableOf, noRig, noCycles};
 
 // A B line: sender and receiver with their sub-addresses, words, period and phase.
 #[repr(C)]
@@ -422,11 +423,12 @@ fn line_rules<'a>(
         ≡ firstFalse 19 (lineTests alines (now (present .entry)) (now (latched .entry)) (now (desired .entry)) (now (atask .entry)) (now (apos .entry)) (now (aflag .entry)) (marked (now (flags .entry))))
         ⌝ }
 {
-    if !rigtests::named(alines, present, atask, apos) {
-        return 19;
-    }
     let table = rigtests::place_owners(alines, atask, apos);
-    if !rigtests::owned(present, &table) {
+    // one pass for both rules; where it fails, which
+    if !rigtests::matched(present, &table) {
+        if !rigtests::names_present(present, &table) {
+            return 19;
+        }
         return 20;
     }
     if !rigtests::minor_conditions(alines, latched, desired, atask, apos, aflag, flags, &table) {
@@ -471,78 +473,110 @@ fn rest_rules<'a>(
     0
 }
 
-// The number of the first rule that the rig and its cycles break, 0 for none.
-pub fn broken(rig: Rig, cycles: [Cycle; 64]) -> u8
-    ensures { λ r. ⌜ r ≡ firstBroken rig cycles ⌝ }
+// The number of the first rule that the rig of these tables and its cycles break, 0 for none. The tables are lent, so that who
+// has a rig hands no copy of it on; what is lent does not tell its length, so that the caller does.
+pub fn broken_in<'a>(
+    tasks: u8,
+    flags: u8,
+    master: u8,
+    alines: u16,
+    rows: u8,
+    controller: &'a [u8; 65],
+    priority: &'a [u8; 65],
+    privileged: &'a [u8; 65],
+    activation: &'a [u8; 65],
+    present: &'a [u8; 1040],
+    latched: &'a [u8; 1040],
+    desired: &'a [u8; 1040],
+    atask: &'a [u8; 1024],
+    apos: &'a [u8; 1024],
+    aflag: &'a [u8; 1024],
+    row: [Row; 64],
+    cycles: [Cycle; 64],
+) -> u8
+    requires { ⌜ allOf (shapedTests (rigOf tasks flags master alines rows (now controller) (now priority) (now privileged) (now activation) (now present) (now latched) (now desired) (now atask) (now apos) (now aflag) row)) ≡ true ⌝ }
+    ensures { λ r.
+        ⌜
+        r
+        ≡ firstBroken (rigOf tasks flags master alines rows (now (controller .entry)) (now (priority .entry)) (now (privileged .entry)) (now (activation .entry)) (now (present .entry)) (now (latched .entry)) (now (desired .entry)) (now (atask .entry)) (now (apos .entry)) (now (aflag .entry)) row) cycles
+        ⌝ }
 {
-    let a = counts(rig.tasks, rig.flags, rig.master, rig.alines, rig.rows);
+    let a = counts(tasks, flags, master, alines, rows);
     if a != 0 {
         return a;
     }
-    let alines = rig.alines as usize;
-    let rows = rig.rows as usize;
-    let tasks = rig.tasks as usize;
-    let row = rig.row;
-    let b = sizes(
-        &rig.priority,
-        &rig.privileged,
-        &rig.present,
-        &rig.latched,
-        &rig.desired,
-        rows,
-        row,
-    );
+    let lines = alines as usize;
+    let filled = rows as usize;
+    let count = tasks as usize;
+    let b = sizes(priority, privileged, present, latched, desired, filled, row);
     if b != 0 {
         return b;
     }
-    let c = orders(alines, &rig.atask, &rig.apos, &rig.aflag, cycles);
+    let c = orders(lines, atask, apos, aflag, cycles);
     if c != 0 {
         return c;
     }
     let d = numbers(
-        rig.tasks,
-        rig.flags,
-        alines,
-        &rig.activation,
-        &rig.present,
-        &rig.atask,
-        &rig.apos,
-        &rig.aflag,
+        tasks,
+        flags,
+        lines,
+        activation,
+        present,
+        atask,
+        apos,
+        aflag,
         cycles,
     );
     if d != 0 {
         return d;
     }
-    let flags = minor_marks(cycles);
-    let e = task_rules(tasks, &rig.controller, &rig.activation, &flags);
+    let minor = minor_marks(cycles);
+    let e = task_rules(count, controller, activation, &minor);
     if e != 0 {
         return e;
     }
-    let f = line_rules(
-        alines,
+    let f = line_rules(lines, present, latched, desired, atask, apos, aflag, &minor);
+    if f != 0 {
+        return f;
+    }
+    rest_rules(
+        tasks,
+        lines,
+        filled,
+        controller,
+        priority,
+        privileged,
+        activation,
+        atask,
+        apos,
+        aflag,
+        row,
+    )
+}
+
+// The number of the first rule that the rig and its cycles break, 0 for none.
+pub fn broken(rig: Rig, cycles: [Cycle; 64]) -> u8
+    ensures { λ r. ⌜ r ≡ firstBroken rig cycles ⌝ }
+{
+    let row = rig.row;
+    broken_in(
+        rig.tasks,
+        rig.flags,
+        rig.master,
+        rig.alines,
+        rig.rows,
+        &rig.controller,
+        &rig.priority,
+        &rig.privileged,
+        &rig.activation,
         &rig.present,
         &rig.latched,
         &rig.desired,
         &rig.atask,
         &rig.apos,
         &rig.aflag,
-        &flags,
-    );
-    if f != 0 {
-        return f;
-    }
-    rest_rules(
-        rig.tasks,
-        alines,
-        rows,
-        &rig.controller,
-        &rig.priority,
-        &rig.privileged,
-        &rig.activation,
-        &rig.atask,
-        &rig.apos,
-        &rig.aflag,
         row,
+        cycles,
     )
 }
 

@@ -1,22 +1,44 @@
 -- The tests that go by a table say what the tests of Tests.antt say.
 use mathlib.Core.Path.{_≡_, refl, sym, _∙_, ap}
 use mathlib.Core.Logic.{_⊎_, inl, inr, ⊎-elim, _≢_}
-use mathlib.Core.Bool.{not}
+use mathlib.Core.Bool.{Bool, true, false, not, cond, _&&_, _||_}
 use mathlib.Core.List.{List}
 use Prim.Native.Nat.{ℕ, zero, suc, _+_, _-_, _≤_, _<_}
 use native.Mathlib.Omega.{arith}
 use lib.Dec.{eqb}
 use borrow.Author.Tests.{eqb-true, eqb-false}
 use Rattle.laws.specs.Cases.{by}
+use Rattle.laws.specs.All.{all-same, all-and}
 use Rattle.laws.specs.Decides.{Is, is-eqb, is-and, is-or, is-not, is-else, is-then, is-if, is-all, is-any, is-said, is-same}
 use Rattle.laws.specs.Owners.{owners, owner-key, owner-some}
-use Rattle.rigtests.specs.Tests.{at, placeOf, servesOne, servesOneB, usedB, minorConditionOne, minorConditionsB}
-use Rattle.rigtests.specs.Tables.{Placed, Owned, marked, servedOne, servedB, hasOwnerB, minorTest, minorOwnerOne, minorOwnerB}
+use Rattle.rigtests.specs.Tests.{at, placeOf, servesOne, servesOneB, namedB, usedB, minorConditionOne, minorConditionsB}
+use Rattle.rigtests.specs.Tables.{Placed, Owned, marked, servedOne, servedB, namedOwnerOne, namedOwnerB, hasOwnerOne, hasOwnerB, matchedOne, matchedB, minorTest, minorOwnerOne, minorOwnerB}
 
 -- what a number that is not 0 is one more than
 pub some-suc : (n : ℕ) → n ≢ 0 → (i : ℕ) × (n ≡ suc i)
 some-suc zero h = absurd (h refl)
 some-suc (suc n) h = (n, refl)
+
+-- a test for both of what is owned and what has an owner
+matched-one : (b : Bool) (n : ℕ) → eqb n (cond b 0 1) ≡ ((b || eqb n 1) && (eqb n 0 || not b))
+matched-one true n = or-none (eqb n 0)
+  where
+    or-none : (a : Bool) → a ≡ (a || false)
+    or-none true = refl
+    or-none false = refl
+matched-one false n = and-any (eqb n 1) (eqb n 0)
+  where
+    and-any : (a c : Bool) → a ≡ (a && (c || true))
+    and-any true true = refl
+    and-any true false = refl
+    and-any false c = refl
+
+matched-each : (present table : List ℕ) → matchedB present table ≡ (namedOwnerB present table && hasOwnerB present table)
+unfolding matchedB namedOwnerB hasOwnerB
+matched-each present table =
+    all-same 1040 (matchedOne present table) (λ p. namedOwnerOne present table p && hasOwnerOne present table p)
+    (λ p h. matched-one (eqb (at table p) 0) (at present p))
+    ∙ all-and 1040 (namedOwnerOne present table) (hasOwnerOne present table)
 
 -- an activation flag serves one task
 abbrev pub Serves : List ℕ → ℕ → Type 0
@@ -67,6 +89,19 @@ module _ (n : ℕ) (atask apos : List ℕ) (placed : Placed n atask apos) where
   pub lasts-owned : (aflag : List ℕ) → ((k : ℕ) → k < n → at aflag k ≤ 128) → Owned n atask apos aflag (owners n (placeOf atask apos) 1040)
   lasts-owned aflag flags = record { fit = record { placed = placed; flags = flags }; some = last-some; few = last-few }
 
+  -- what is owned is a condition exactly where each A line names one
+  pub named-law : (present : List ℕ) → namedOwnerB present (owners n (placeOf atask apos) 1040) ≡ namedB n present atask apos
+  unfolding namedOwnerB namedB
+  named-law present =
+      is-same
+      (is-said (is-all 1040 (λ p h. is-else (is-eqb (at lasts p) 0) (is-eqb (at present p) 1)))
+      (λ f k h. f (placeOf atask apos k) (placed .low k h) (last-some k h))
+      (λ f p h z.
+      let s = some-suc (at lasts p) z in
+      let k = owner-key (placeOf atask apos) 1040 n p (s .0) (s .1) in
+      ap (at present) (sym (k .1)) ∙ f (s .0) (k .0)))
+      (is-all n (λ k h. is-eqb (at present (placeOf atask apos k)) 1))
+
   -- a condition has an owner exactly where it has an A line
   has-is : (p : ℕ) → p < 1040 → Is (not (eqb (at lasts p) 0)) ((k : ℕ) × (k < n) × (placeOf atask apos k ≡ p))
   has-is p h =
@@ -80,6 +115,12 @@ module _ (n : ℕ) (atask apos : List ℕ) (placed : Placed n atask apos) where
       is-same
       (is-all 1040 (λ p h. is-else (is-eqb (at present p) 0) (has-is p h)))
       (is-all 1040 (λ p h. is-else (is-eqb (at present p) 0) (is-any n (λ k g. is-eqb (placeOf atask apos k) p))))
+
+  pub matched-law : (present : List ℕ) → matchedB present (owners n (placeOf atask apos) 1040) ≡ (namedB n present atask apos && usedB n present atask apos)
+  matched-law present =
+      matched-each present lasts
+      ∙ ap (λ (b : Bool). b && hasOwnerB present lasts) (named-law present)
+      ∙ ap (λ (b : Bool). namedB n present atask apos && b) (owned-law present)
 
   -- the last line of the condition that line k names
   lastOf : (k : ℕ) → k < n → (i : ℕ) × (at lasts (placeOf atask apos k) ≡ suc i) × (i < n) × (placeOf atask apos i ≡ placeOf atask apos k)

@@ -39,12 +39,26 @@ servedOne activation table t = eqb (at activation t) 0 || eqb (at table (at acti
 unfoldable pub servedB : List ℕ → List ℕ → Bool
 servedB activation table = all 65 (servedOne activation table)
 
+-- what an A line owns is a condition
+abbrev pub namedOwnerOne : List ℕ → List ℕ → ℕ → Bool
+namedOwnerOne present table p = eqb (at table p) 0 || eqb (at present p) 1
+
+unfoldable pub namedOwnerB : List ℕ → List ℕ → Bool
+namedOwnerB present table = all 1040 (namedOwnerOne present table)
+
 -- each condition is owned by an A line
 abbrev pub hasOwnerOne : List ℕ → List ℕ → ℕ → Bool
 hasOwnerOne present table p = eqb (at present p) 0 || not (eqb (at table p) 0)
 
 unfoldable pub hasOwnerB : List ℕ → List ℕ → Bool
 hasOwnerB present table = all 1040 (hasOwnerOne present table)
+
+-- and both at once: 1 where there is an owner, 0 where there is none
+abbrev pub matchedOne : List ℕ → List ℕ → ℕ → Bool
+matchedOne present table p = eqb (at present p) (cond (eqb (at table p) 0) 0 1)
+
+unfoldable pub matchedB : List ℕ → List ℕ → Bool
+matchedB present table = all 1040 (matchedOne present table)
 
 -- of an A line: where neither its flag nor that of its condition's last line is marked, all is well; else it must itself be
 -- the last, and if its own flag is marked, the condition is unlatched and desires on

@@ -7,9 +7,9 @@ ghost use lib.Dec.{eqb};
 ghost use lib.ListN.{length};
 ghost use Rattle.laws.specs.All.{all};
 ghost use Rattle.laws.specs.Owners.{owners, marks};
-ghost use Rattle.rigtests.specs.Tests.{at, place, within, smallOne, smallB, conditionsB, linesRiseB, flagTest, cycleRises, conditionTasksB, linesB, cycleSmall, climb, controllersB, notMinorB, placeOf, namedB, taskZeroTest, taskZerosB, lineZerosB};
+ghost use Rattle.rigtests.specs.Tests.{at, place, within, smallOne, smallB, conditionsB, linesRiseB, flagTest, cycleRises, conditionTasksB, linesB, cycleSmall, climb, controllersB, notMinorB, placeOf, taskZeroTest, taskZerosB, lineZerosB};
 ghost use Rattle.rigtests.specs.Passes.{underOne, zeroFrom, betweenOne, lineKey};
-ghost use Rattle.rigtests.specs.Tables.{marked, servedB, hasOwnerB, minorTest, minorOwnerB, Low, Placed, Owned};
+ghost use Rattle.rigtests.specs.Tables.{marked, servedB, namedOwnerB, matchedB, minorTest, minorOwnerB, Low, Placed, Owned};
 
 pub fn wide(x: u8) -> usize
     ensures { λ r. ⌜ r ≡ x ⌝ }
@@ -350,27 +350,6 @@ pub fn unmarked<'a>(activation: &'a [u8; 65], table: &'a [u8; 129]) -> bool
     true
 }
 
-// Each A line names a condition with a C line.
-pub fn named<'a>(
-    n: usize,
-    present: &'a [u8; 1040],
-    atask: &'a [u8; 1024],
-    apos: &'a [u8; 1024],
-) -> bool
-    requires { ⌜ Placed n (now atask) (now apos) ⌝ }
-    ensures { λ r. ⌜ r ≡ namedB n (now (present .entry)) (now (atask .entry)) (now (apos .entry)) ⌝ }
-{
-    let mut k: usize = 0;
-    while k < n {
-        let p = place_of(atask[k], apos[k]);
-        if present[p] != 1 {
-            return false;
-        }
-        k = k + 1;
-    }
-    true
-}
-
 // The last A line of each condition, counted from 1; 0 for none.
 pub fn place_owners<'a>(n: usize, atask: &'a [u8; 1024], apos: &'a [u8; 1024]) -> [u16; 1040]
     requires { ⌜ Placed n (now atask) (now apos) ⌝ }
@@ -386,19 +365,40 @@ pub fn place_owners<'a>(n: usize, atask: &'a [u8; 1024], apos: &'a [u8; 1024]) -
     table
 }
 
-// Each condition has an owner.
-pub fn owned<'a>(present: &'a [u8; 1040], table: &'a [u16; 1040]) -> bool
-    ensures { λ r. ⌜ r ≡ hasOwnerB (now (present .entry)) (now (table .entry)) ⌝ }
+// Each condition that an A line names has a C line.
+pub fn names_present<'a>(present: &'a [u8; 1040], table: &'a [u16; 1040]) -> bool
+    ensures { λ r. ⌜ r ≡ namedOwnerB (now (present .entry)) (now (table .entry)) ⌝ }
 {
     let mut bad: u8 = 0;
     let mut p: usize = 0;
     while p < 1040 {
         let has = present[p];
         let owner = table[p];
-        if has != 0 {
-            if owner == 0 {
+        if has != 1 {
+            if owner != 0 {
                 bad = 1;
             }
+        }
+        p = p + 1;
+    }
+    bad == 0
+}
+
+// The owned places are the conditions: in one pass, that each condition has an owner too.
+pub fn matched<'a>(present: &'a [u8; 1040], table: &'a [u16; 1040]) -> bool
+    ensures { λ r. ⌜ r ≡ matchedB (now (present .entry)) (now (table .entry)) ⌝ }
+{
+    let mut bad: u8 = 0;
+    let mut p: usize = 0;
+    while p < 1040 {
+        let has = present[p];
+        let owner = table[p];
+        let mut want: u8 = 0;
+        if owner != 0 {
+            want = 1;
+        }
+        if has != want {
+            bad = 1;
         }
         p = p + 1;
     }

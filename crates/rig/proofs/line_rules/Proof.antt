@@ -1,61 +1,105 @@
-use mathlib.Core.Path.{sym, _∙_, ap}
-use borrow.Author.Tests.{not-true, not-false}
-use Rattle.laws.specs.First.{first-none, first-skip, first-here}
-use mathlib.Core.Path.{subst}
+use mathlib.Core.Path.{_≡_, sym, _∙_, ap, subst}
+use mathlib.Core.Bool.{Bool, true, false, _&&_, false≢true}
 use mathlib.Core.List.{List}
 use Prim.Native.Nat.{ℕ}
-use Rattle.rigtests.specs.Tables.{hasOwnerB, minorOwnerB, Owned}
-use Rattle.rigtests.specs.Laws.{owned-law, minor-law, lasts-owned}
+use borrow.Author.Tests.{not-true, not-false}
+use Rattle.laws.specs.Cases.{and-true}
+use Rattle.laws.specs.First.{first-none, first-skip, first-here}
+use Rattle.rigtests.specs.Tests.{namedB, usedB, minorConditionsB}
+use Rattle.rigtests.specs.Tables.{marked, namedOwnerB, matchedB, minorOwnerB, Owned}
+use Rattle.rigtests.specs.Laws.{named-law, matched-law, minor-law, lasts-owned}
 use borrow.Author.Needs.{needs}
 use Rattle.rig.proofs.line_rules.Statement.{statement}
 use Rattle.rig.proofs.line_rules.Tie as tie
 use Rattle.rig.proofs.line_rules.Reads as reads
 use Rattle.rig.proofs.line_rules.Lts as lts
+use Rattle.rigtests.proofs.matched.Reads as matched-reads
 use Rattle.rigtests.proofs.minor_conditions.Reads as minor-conditions-reads
-use Rattle.rigtests.proofs.named.Reads as named-reads
-use Rattle.rigtests.proofs.owned.Reads as owned-reads
+use Rattle.rigtests.proofs.names_present.Reads as names-present-reads
 use Rattle.rigtests.proofs.place_owners.Reads as place-owners-reads
 
--- src/lib.rt:420:9
-named-requires : tie.Need-named-requires
-named-requires c κs = c .pre .placed
+-- what each test by the table says of the lines
+named-at : (c : tie.After-names-present) → namedB (c .before .before .before .before .before .before .args .alines) (c .before .before .before .before .before .before .args .present .now) (c .before .before .before .before .before .before .args .atask .now) (c .before .before .before .before .before .before .args .apos .now) ≡ c .names-present .result
+named-at c =
+    let s = c .before .before .before .before .before .before in
+    sym (named-law (s .args .alines) (s .args .atask .now) (s .args .apos .now) (s .pre .placed) (s .args .present .now))
+    ∙ ap (namedOwnerB (s .args .present .now)) (sym (c .before .before .before .before .before .place-owners .ensures)) ∙ sym (c .names-present .ensures)
 
--- src/lib.rt:421:9
-returns : tie.Need-returns
-returns c = sym (first-here 19 _ _ (sym (c .before .named .ensures) ∙ not-true _ (c .if1 .taken)))
+both-at : (c : tie.After-matched) → (namedB (c .before .before .before .args .alines) (c .before .before .before .args .present .now) (c .before .before .before .args .atask .now) (c .before .before .before .args .apos .now) && usedB (c .before .before .before .args .alines) (c .before .before .before .args .present .now) (c .before .before .before .args .atask .now) (c .before .before .before .args .apos .now)) ≡ c .matched .result
+both-at c =
+    let s = c .before .before .before in
+    sym (matched-law (s .args .alines) (s .args .atask .now) (s .args .apos .now) (s .pre .placed) (s .args .present .now))
+    ∙ ap (matchedB (s .args .present .now)) (sym (c .before .before .place-owners .ensures)) ∙ sym (c .matched .ensures)
 
--- src/lib.rt:423:17
+-- where the first of two tests holds but not both, the second fails
+second : (a b : Bool) → a ≡ true → (a && b) ≡ false → b ≡ false
+second true b e f = f
+second false b e f = absurd (false≢true e)
+
+both-hold : (c : tie.Else1) → (namedB (c .before .before .before .before .args .alines) (c .before .before .before .before .args .present .now) (c .before .before .before .before .args .atask .now) (c .before .before .before .before .args .apos .now) ≡ true) × (usedB (c .before .before .before .before .args .alines) (c .before .before .before .before .args .present .now) (c .before .before .before .before .args .atask .now) (c .before .before .before .before .args .apos .now) ≡ true)
+both-hold c =
+    let s = c .before .before .before .before in
+    and-true (namedB (s .args .alines) (s .args .present .now) (s .args .atask .now) (s .args .apos .now)) (usedB (s .args .alines) (s .args .present .now) (s .args .atask .now) (s .args .apos .now)) (both-at (c .before) ∙ not-false _ (c .if1 .left))
+
+minor-at : (c : tie.After-minor-conditions) → minorConditionsB (c .before .before .before .before .before .before .args .alines) (c .before .before .before .before .before .before .args .latched .now) (c .before .before .before .before .before .before .args .desired .now) (c .before .before .before .before .before .before .args .atask .now) (c .before .before .before .before .before .before .args .apos .now) (c .before .before .before .before .before .before .args .aflag .now) (marked (c .before .before .before .before .before .before .args .flags .now)) ≡ c .minor-conditions .result
+minor-at c =
+    let s = c .before .before .before .before .before .before in
+    sym (minor-law (s .args .alines) (s .args .atask .now) (s .args .apos .now) (s .pre .placed) (s .args .latched .now) (s .args .desired .now) (s .args .aflag .now) (s .args .flags .now))
+    ∙ ap (minorOwnerB (s .args .alines) (s .args .latched .now) (s .args .desired .now) (s .args .atask .now) (s .args .apos .now) (s .args .aflag .now) (s .args .flags .now)) (sym (c .before .before .before .before .before .place-owners .ensures))
+    ∙ sym (c .minor-conditions .ensures)
+
+-- src/lib.rt:426:17
 place-owners-requires : tie.Need-place-owners-requires
-place-owners-requires c κs = c .before .before .pre .placed
-
--- src/lib.rt:424:9
-owned-requires : tie.Need-owned-requires
-owned-requires c κs = search needs
-
--- src/lib.rt:425:9
-returns-2 : tie.Need-returns-2
-returns-2 c = sym (first-skip 19 _ _ (sym (c .before .before .before .before .before .named .ensures) ∙ not-false _ (c .before .before .before .before .if1 .left)) ∙ first-here 20 _ _ (sym (owned-law (c .before .before .before .before .before .before .args .alines) (c .before .before .before .before .before .before .args .atask .now) (c .before .before .before .before .before .before .args .apos .now) (c .before .before .before .before .before .before .pre .placed) (c .before .before .before .before .before .before .args .present .now)) ∙ ap (hasOwnerB (c .before .before .before .before .before .before .args .present .now)) (sym (c .before .before .before .place-owners .ensures)) ∙ sym (c .before .owned .ensures) ∙ not-true _ (c .if2 .taken)))
-
--- src/lib.rt:427:9
-minor-conditions-requires : tie.Need-minor-conditions-requires
-minor-conditions-requires c κs = subst (λ (l : List ℕ). Owned (c .before .before .before .before .before .before .before .args .alines) (c .before .before .before .before .before .before .before .args .atask .now) (c .before .before .before .before .before .before .before .args .apos .now) (c .before .before .before .before .before .before .before .args .aflag .now) l) (sym (c .before .before .before .before .place-owners .ensures)) (lasts-owned (c .before .before .before .before .before .before .before .args .alines) (c .before .before .before .before .before .before .before .args .atask .now) (c .before .before .before .before .before .before .before .args .apos .now) (c .before .before .before .before .before .before .before .pre .placed) (c .before .before .before .before .before .before .before .args .aflag .now) (c .before .before .before .before .before .before .before .pre .flags))
+place-owners-requires c κs = c .pre .placed
 
 -- src/lib.rt:428:9
-returns-3 : tie.Need-returns-3
-returns-3 c = sym (first-skip 19 _ _ (sym (c .before .before .before .before .before .before .before .before .named .ensures) ∙ not-false _ (c .before .before .before .before .before .before .before .if1 .left)) ∙ first-skip 20 _ _ (sym (owned-law (c .before .before .before .before .before .before .before .before .before .args .alines) (c .before .before .before .before .before .before .before .before .before .args .atask .now) (c .before .before .before .before .before .before .before .before .before .args .apos .now) (c .before .before .before .before .before .before .before .before .before .pre .placed) (c .before .before .before .before .before .before .before .before .before .args .present .now)) ∙ ap (hasOwnerB (c .before .before .before .before .before .before .before .before .before .args .present .now)) (sym (c .before .before .before .before .before .before .place-owners .ensures)) ∙ sym (c .before .before .before .before .owned .ensures) ∙ not-false _ (c .before .before .before .if2 .left)) ∙ first-here 21 _ _ (sym (minor-law (c .before .before .before .before .before .before .before .before .before .args .alines) (c .before .before .before .before .before .before .before .before .before .args .atask .now) (c .before .before .before .before .before .before .before .before .before .args .apos .now) (c .before .before .before .before .before .before .before .before .before .pre .placed) (c .before .before .before .before .before .before .before .before .before .args .latched .now) (c .before .before .before .before .before .before .before .before .before .args .desired .now) (c .before .before .before .before .before .before .before .before .before .args .aflag .now) (c .before .before .before .before .before .before .before .before .before .args .flags .now)) ∙ ap (minorOwnerB (c .before .before .before .before .before .before .before .before .before .args .alines) (c .before .before .before .before .before .before .before .before .before .args .latched .now) (c .before .before .before .before .before .before .before .before .before .args .desired .now) (c .before .before .before .before .before .before .before .before .before .args .atask .now) (c .before .before .before .before .before .before .before .before .before .args .apos .now) (c .before .before .before .before .before .before .before .before .before .args .aflag .now) (c .before .before .before .before .before .before .before .before .before .args .flags .now)) (sym (c .before .before .before .before .before .before .place-owners .ensures)) ∙ sym (c .before .minor-conditions .ensures) ∙ not-true _ (c .if3 .taken)))
+matched-requires : tie.Need-matched-requires
+matched-requires c κs = search needs
 
--- src/lib.rt:403:1
+-- src/lib.rt:429:13
+names-present-requires : tie.Need-names-present-requires
+names-present-requires c κs = search needs
+
+-- src/lib.rt:430:13
+returns : tie.Need-returns
+returns c = sym (first-here 19 _ _ (named-at (c .before) ∙ not-true _ (c .if2 .taken)))
+
+-- src/lib.rt:432:9
+returns-2 : tie.Need-returns-2
+returns-2 c =
+    let s = c .before .before .before .before .before .before .before in
+    let a = named-at (c .before) ∙ not-false _ (c .if2 .left) in
+    sym
+    (first-skip 19 _ _ a
+    ∙ first-here 20 _ _ (second (namedB (s .args .alines) (s .args .present .now) (s .args .atask .now) (s .args .apos .now)) (usedB (s .args .alines) (s .args .present .now) (s .args .atask .now) (s .args .apos .now)) a (both-at (c .before .before .before .before) ∙ not-true _ (c .before .before .before .if1 .taken))))
+
+-- src/lib.rt:434:9
+minor-conditions-requires : tie.Need-minor-conditions-requires
+minor-conditions-requires c κs =
+    let s = c .before .before .before .before .before in
+    subst (λ (l : List ℕ). Owned (s .args .alines) (s .args .atask .now) (s .args .apos .now) (s .args .aflag .now) l) (sym (c .before .before .before .before .place-owners .ensures))
+    (lasts-owned (s .args .alines) (s .args .atask .now) (s .args .apos .now) (s .pre .placed) (s .args .aflag .now) (s .pre .flags))
+
+-- src/lib.rt:435:9
+returns-3 : tie.Need-returns-3
+returns-3 c =
+    let b = both-hold (c .before .before .before) in
+    sym (first-skip 19 _ _ (b .0) ∙ first-skip 20 _ _ (b .1) ∙ first-here 21 _ _ (minor-at (c .before) ∙ not-true _ (c .if3 .taken)))
+
+-- src/lib.rt:409:1
 returns-4 : tie.Need-returns-4
-returns-4 c = sym (first-skip 19 _ _ (sym (c .before .before .before .before .before .before .before .before .named .ensures) ∙ not-false _ (c .before .before .before .before .before .before .before .if1 .left)) ∙ first-skip 20 _ _ (sym (owned-law (c .before .before .before .before .before .before .before .before .before .args .alines) (c .before .before .before .before .before .before .before .before .before .args .atask .now) (c .before .before .before .before .before .before .before .before .before .args .apos .now) (c .before .before .before .before .before .before .before .before .before .pre .placed) (c .before .before .before .before .before .before .before .before .before .args .present .now)) ∙ ap (hasOwnerB (c .before .before .before .before .before .before .before .before .before .args .present .now)) (sym (c .before .before .before .before .before .before .place-owners .ensures)) ∙ sym (c .before .before .before .before .owned .ensures) ∙ not-false _ (c .before .before .before .if2 .left)) ∙ first-skip 21 _ _ (sym (minor-law (c .before .before .before .before .before .before .before .before .before .args .alines) (c .before .before .before .before .before .before .before .before .before .args .atask .now) (c .before .before .before .before .before .before .before .before .before .args .apos .now) (c .before .before .before .before .before .before .before .before .before .pre .placed) (c .before .before .before .before .before .before .before .before .before .args .latched .now) (c .before .before .before .before .before .before .before .before .before .args .desired .now) (c .before .before .before .before .before .before .before .before .before .args .aflag .now) (c .before .before .before .before .before .before .before .before .before .args .flags .now)) ∙ ap (minorOwnerB (c .before .before .before .before .before .before .before .before .before .args .alines) (c .before .before .before .before .before .before .before .before .before .args .latched .now) (c .before .before .before .before .before .before .before .before .before .args .desired .now) (c .before .before .before .before .before .before .before .before .before .args .atask .now) (c .before .before .before .before .before .before .before .before .before .args .apos .now) (c .before .before .before .before .before .before .before .before .before .args .aflag .now) (c .before .before .before .before .before .before .before .before .before .args .flags .now)) (sym (c .before .before .before .before .before .before .place-owners .ensures)) ∙ sym (c .before .minor-conditions .ensures) ∙ not-false _ (c .if3 .left)) ∙ first-none 22)
+returns-4 c =
+    let b = both-hold (c .before .before .before) in
+    sym (first-skip 19 _ _ (b .0) ∙ first-skip 20 _ _ (b .1) ∙ first-skip 21 _ _ (minor-at (c .before) ∙ not-false _ (c .if3 .left)) ∙ first-none 22)
 
 pub line-rules-spec : {M : Type 1} → statement M
 line-rules-spec =
     tie.close
     (tie.spec
-    named-requires
-    returns
     place-owners-requires
-    owned-requires
+    matched-requires
+    names-present-requires
+    returns
     returns-2
     minor-conditions-requires
     returns-3

@@ -18,41 +18,41 @@ Inv-loop cycles table₀ c₀ table c = (table ≡ iter c (markCycle cycles) (re
 abbrev μ-loop : tie.MeasureT-loop
 μ-loop cycles table₀ c₀ table c = 64 - c
 
--- src/lib.rt:209:5
+-- src/lib.rt:214:5
 loop-holds : tie.Need-loop-holds Inv-loop μ-loop
 loop-holds c = (sym (iter-zero _ _), search needs)
 
--- src/lib.rt:210:21
+-- src/lib.rt:215:21
 mul-cycle : tie.Need-mul-cycle Inv-loop μ-loop
 mul-cycle c = search needs
 
--- src/lib.rt:210:21
+-- src/lib.rt:215:21
 array-copy-out-cycle : tie.Need-array-copy-out-cycle Inv-loop μ-loop
 array-copy-out-cycle c = search needs
 
--- src/lib.rt:211:9
+-- src/lib.rt:216:9
 mark-cycle-requires : tie.Need-mark-cycle-requires Inv-loop μ-loop
 mark-cycle-requires c κs = λ i h. c .before .before .before .before .before .before .pre (c .before .before .before .before .before .loop .c) (c .before .before .before .before .loop-test .taken) i h
 
--- src/lib.rt:212:13
+-- src/lib.rt:217:13
 add-c : tie.Need-add-c Inv-loop μ-loop
 add-c c = search needs
 
--- src/lib.rt:209:5
+-- src/lib.rt:214:5
 loop-less : tie.Need-loop-less Inv-loop μ-loop
 loop-less c = search needs
 
--- src/lib.rt:209:5
+-- src/lib.rt:214:5
 loop-again : tie.Need-loop-again Inv-loop μ-loop
 loop-again c =
     let d = c .before .before .before .before .before .before in
     (c .mark-cycle .ensures ∙ iter-step (d .loop .c) (markCycle (d .before .args .t1)) (replicate 129 0) (d .loop .table) (d .loop .inv .0), search needs)
 
--- src/lib.rt:214:5
+-- src/lib.rt:219:5
 array-write-table : tie.Need-array-write-table Inv-loop μ-loop
 array-write-table c = search needs
 
--- src/lib.rt:203:1
+-- src/lib.rt:208:1
 returns : tie.Need-returns Inv-loop μ-loop
 unfolding minorMarks
 returns c =

@@ -17,41 +17,41 @@ Inv-loop cycles table₀ c₀ table c = Mapped flagsOf noCycle cycles c table ×
 abbrev μ-loop : tie.MeasureT-loop
 μ-loop cycles table₀ c₀ table c = 64 - c
 
--- src/lib.rt:110:5
+-- src/lib.rt:114:5
 loop-holds : tie.Need-loop-holds Inv-loop μ-loop
 loop-holds c =
     let z : length (c .args .t1) ≡ 64 = search needs in
     (mapped-none flagsOf noCycle (c .args .t1) (replicate 64 (replicate 15 0)) (sym z), (z, search needs))
 
--- src/lib.rt:111:21
+-- src/lib.rt:115:21
 mul-cycle : tie.Need-mul-cycle Inv-loop μ-loop
 mul-cycle c = search needs
 
--- src/lib.rt:111:21
+-- src/lib.rt:115:21
 array-copy-out-cycle : tie.Need-array-copy-out-cycle Inv-loop μ-loop
 array-copy-out-cycle c = search needs
 
--- src/lib.rt:113:9
+-- src/lib.rt:117:9
 mul-table : tie.Need-mul-table Inv-loop μ-loop
 mul-table c = search needs
 
--- src/lib.rt:113:9
+-- src/lib.rt:117:9
 array-set-from-table : tie.Need-array-set-from-table Inv-loop μ-loop
 array-set-from-table c = search needs
 
--- src/lib.rt:114:13
+-- src/lib.rt:118:13
 add-c : tie.Need-add-c Inv-loop μ-loop
 add-c c = search needs
 
--- src/lib.rt:110:5
+-- src/lib.rt:114:5
 loop-less : tie.Need-loop-less Inv-loop μ-loop
 loop-less c = search needs
 
--- src/lib.rt:110:5
+-- src/lib.rt:114:5
 loop-again : tie.Need-loop-again Inv-loop μ-loop
 loop-again c = (mapped-turn flagsOf noCycle (c .before .before .before .before .args .t1) (c .before .before .before .loop .c) (c .before .before .before .loop .table) (omega arith) (c .before .before .before .loop .inv .0), search needs)
 
--- src/lib.rt:105:1
+-- src/lib.rt:109:1
 returns : tie.Need-returns Inv-loop μ-loop
 unfolding tableOf
 returns c = mapped-all flagsOf noCycle (c .before .before .args .t1) (c .before .loop .c) (c .before .loop .table) (omega arith) (c .before .loop .inv .0)
