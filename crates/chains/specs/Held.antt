@@ -7,6 +7,7 @@ use native.Mathlib.Omega.{arith}
 use lib.Dec.{eqb, leb, lit<}
 use borrow.Author.Tests.{leb-true, leb-false, eqb-true, eqb-false}
 use lib.ListN.{length, getD, set, length-set, length-append, replicate, length-replicate}
+use Rattle.laws.specs.Tables.{zeros-at}
 use lib.Seq.{getD-set-same, getD-set-other}
 use Rattle.laws.specs.Cases.{by}
 use Rattle.laws.specs.Functions.{upd, on-upd}
@@ -253,17 +254,12 @@ pub record Selves (l : List ℕ) (i : ℕ) : Type 0 where
   pub anchor : (k : ℕ) → 64 < k → k < i → at l k ≡ k
   pub none : (k : ℕ) → k ≤ 64 → at l k ≡ 0
 
-pub zeros : (n k : ℕ) → at (replicate n 0) k ≡ 0
-zeros zero k = refl
-zeros (suc n) zero = refl
-zeros (suc n) (suc k) = zeros n k
-
 pub selves-start : Selves (replicate 322 0) 65
 selves-start =
     record {
       size = length-replicate {A = ℕ} 322 0;
       anchor = λ k a b. let z : ⊥ = omega arith in absurd z;
-      none = λ k a. zeros 322 k;
+      none = λ k a. zeros-at 322 k;
     }
 
 pub selves-step : (l : List ℕ) (i : ℕ) → 64 < i → i < 322 → Selves l i → Selves (set l i i) (i + 1)
@@ -282,5 +278,5 @@ selves-empty next prev n p =
     record {
       link = λ s ls hs. (n .anchor s ls hs, p .anchor s ls hs, tt);
       own = λ s ls hs a i. absurd i;
-      task = λ a aT. inl (zeros 65 a, n .none a aT, p .none a aT);
+      task = λ a aT. inl (zeros-at 65 a, n .none a aT, p .none a aT);
     }

@@ -3,7 +3,7 @@ use mathlib.Core.List.{List}
 use Prim.Native.Nat.{ℕ, _<_, _≤_}
 use lib.ListN.{getD}
 use Rattle.rig.specs.declared.Row.{Row}
-use Rattle.compool.specs.View.{noRow}
+use Rattle.rig.specs.Rules.{noRow}
 
 pub record RowFits (b : Row) : Type 0 where
   pub sender : b .sender ≤ 31

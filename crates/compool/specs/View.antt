@@ -2,6 +2,7 @@
 use mathlib.Core.List.{List}
 use Prim.Native.Nat.{ℕ}
 use lib.ListN.{getD}
+use Rattle.rig.specs.Rules.{noRow}
 use Rattle.rig.specs.declared.Row.{Row}
 use Rattle.rules.specs.Rig as R
 
@@ -16,9 +17,6 @@ rowOf b =
       period = b .period;
       phase = b .phase;
     }
-
-abbrev pub noRow : Row
-noRow = record { sender = 0; sendersub = 0; receiver = 0; receiversub = 0; words = 0; period = 0; phase = 0 }
 
 -- rows in order from 0
 abbrev pub rowsOf : List Row → ℕ → R.Row

@@ -9,13 +9,11 @@ use lib.ListN.{length, List·getD-eq-default}
 use borrow.Author.Tests.{leb-true, leb-false, ltb-true, ltb-false}
 use Rattle.laws.specs.Cases.{by}
 use Rattle.laws.specs.Tables.{has-place}
-use Rattle.laws.specs.Reading.{default-free}
-use Rattle.rig.specs.Rules.{at, noCycle, flagAt, Right, Ancestor, nearest, further}
+use Rattle.rig.specs.Rules.{at, flagAt, Right, Ancestor, nearest, further}
 use Rattle.rig.specs.declared.Cycle.{Cycle}
 use Rattle.rig.specs.declared.Rig.{Rig}
 use Rattle.rules.specs.RigOk.{RigOk}
 use Rattle.steps.specs.View.{minorOf}
-use Rattle.steps.specs.View as Steps
 use Rattle.state.specs.View.{rigOf}
 
 -- a bound on the entries that are there bounds them all
@@ -76,10 +74,6 @@ module _ (g : Rig) (cycles : List Cycle) (h : Right g cycles) where
       one : t ≤ 1 → t ≡ 1
       one y = omega (arith, z)
 
-  -- the flags of a cycle that is there, by either reading
-  flag-is : (c i : ℕ) → c < 64 → minorOf cycles c i ≡ flagAt cycles c i
-  flag-is c i b = ap (λ (k : Cycle). at (k .flags) i) (default-free cycles c Steps.noCycle noCycle (omega (arith, h .shaped .sixty-four)))
-
   pub rig-ok : RigOk (rigOf g cycles)
   rig-ok =
       record {
@@ -95,8 +89,8 @@ module _ (g : Rig) (cycles : List Cycle) (h : Right g cycles) where
             (omega (arith, has-place (g .activation) u (λ q. n (e ∙ q)), h .shaped .activation))
             n e;
         activation-not-minor = λ t c i hc hi n e.
-            h .activation-not-minor t (omega (arith, has-place (g .activation) t n, h .shaped .activation)) (n, c, i, hc, hi, sym (flag-is c i hc) ∙ e);
-        minor-le = λ c i hc hi. omega (arith, flag-is c i hc, h .cycle-numbers c hc i hi);
+            h .activation-not-minor t (omega (arith, has-place (g .activation) t n, h .shaped .activation)) (n, c, i, hc, hi, e);
+        minor-le = λ c i hc hi. omega (arith, h .cycle-numbers c hc i hi);
         controller-none = controller-none;
         controller-low = λ t n. low-below (suc t) t (omega arith) n;
         controller-some = controller-some;

@@ -1,6 +1,5 @@
 -- The tick: what its parts ask, and what it owes.
 use mathlib.Core.Path.{_≡_, sym, _∙_, ap}
-use mathlib.Core.Logic.{inl, inr}
 use mathlib.Core.Bool.{Bool, true, false, cond}
 use mathlib.Core.List.{List, [], _++_}
 use Prim.Native.Nat.{ℕ, suc, _+_, _<_, _≤_}
@@ -8,10 +7,9 @@ use native.Mathlib.Omega.{arith}
 use lib.Dec.{leb, ltb}
 use lib.ListN.{length, length-append}
 use borrow.Author.Tests.{leb-false, ltb-false}
-use Rattle.laws.specs.Members.{In}
 use Rattle.laws.specs.Iter.{iter-ind}
 use Rattle.laws.specs.Put.{put}
-use Rattle.rig.specs.Rules.{Right, periods}
+use Rattle.rig.specs.Rules.{Right}
 use Rattle.rig.specs.declared.Cycle.{Cycle}
 use Rattle.rig.specs.declared.Rig.{Rig}
 use Rattle.rules.specs.Rig as G
@@ -34,16 +32,6 @@ use Rattle.exec.specs.Settling.{Settled, next-is, served-is}
 use Rattle.exec.specs.declared.Exec.{Exec}
 
 -- the rows are as the bus words ask
-some-period : (n : ℕ) → In n periods → 0 < n
-some-period n (inl e) = omega (arith, e)
-some-period n (inr (inl e)) = omega (arith, e)
-some-period n (inr (inr (inl e))) = omega (arith, e)
-some-period n (inr (inr (inr (inl e)))) = omega (arith, e)
-some-period n (inr (inr (inr (inr (inl e))))) = omega (arith, e)
-some-period n (inr (inr (inr (inr (inr (inl e)))))) = omega (arith, e)
-some-period n (inr (inr (inr (inr (inr (inr (inl e))))))) = omega (arith, e)
-some-period n (inr (inr (inr (inr (inr (inr (inr e))))))) = absurd e
-
 pub rows-fit : (g : Rig) (cycles : List Cycle) → Right g cycles → RowsFit (g .rows) (g .row)
 rows-fit g cycles h =
     record {

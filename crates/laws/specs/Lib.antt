@@ -9,7 +9,6 @@ pub mod Functions
 pub mod Members
 pub mod Order
 pub mod First
-pub mod Says
 pub mod Stores
 pub mod Bits
 pub mod Ordered

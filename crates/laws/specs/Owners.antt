@@ -39,11 +39,6 @@ module _ (key : ℕ → ℕ) (m : ℕ) where
       (set-cases l (key k) p (k + 1) (suc i) e))
       n
 
-  pub owners-length : (n : ℕ) → length (owners n key m) ≡ m
-  unfolding owners
-  owners-length n =
-      iter-ind (λ k l. length l ≡ m) (ownOne key) (replicate m 0) (length-replicate m 0) (λ k l h. length-set l (key k) (k + 1) ∙ h) n
-
   -- each number's key has an owner
   pub owner-some : (n i : ℕ) → i < n → key i < m → getD (owners n key m) (key i) 0 ≢ 0
   unfolding owners

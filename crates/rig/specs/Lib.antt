@@ -6,4 +6,3 @@ pub mod Tree
 pub mod Exact
 pub mod Whole
 pub mod Which
-pub mod Facts

@@ -101,9 +101,6 @@ controllers-is g few =
           (led-some (g .controller) (g .tasks) few (r .first) (r .others) t i (omega arith), led-climb (g .controller) (g .tasks) few (r .first) (r .others) t i (omega arith))),
     ))
 
--- every controller has a lower number, and only task 1 has none
+-- every controller has a lower number
 pub controllers-low : (g : Rig) → g .tasks ≤ 64 → Controllers g → Low (g .controller) (g .tasks + 1)
 controllers-low g few r = led-low (g .controller) (g .tasks) few (r .first) (r .others) (g .tasks + 1) (omega arith)
-
-pub controllers-some : (g : Rig) → g .tasks ≤ 64 → Controllers g → (t : ℕ) → 1 < t → t ≤ g .tasks → at (g .controller) t ≢ 0
-controllers-some g few r = led-some (g .controller) (g .tasks) few (r .first) (r .others)

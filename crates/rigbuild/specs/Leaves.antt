@@ -6,10 +6,9 @@ use mathlib.Core.Bool.{Bool, true, false, cond}
 use mathlib.Core.List.{List, [], _∷_}
 use native.Mathlib.Omega.{arith}
 use lib.Dec.{eqb}
-use lib.ListN.{length, getD, replicate}
+use lib.ListN.{length, getD}
 use borrow.Author.Tests.{ne-eqb, eq-eqb}
 use Rattle.laws.specs.All.{all, all-not, all-zero, all-next}
-use Rattle.rigbuild.specs.Built.{zeros}
 use Rattle.rigbuild.specs.MarkTests.{markedOne}
 
 -- nine numbers, one by one
@@ -41,14 +40,3 @@ pub not-there : (tline : List ℕ) (n i : ℕ) → i < n → length tline ≡ 65
 not-there tline n i h l e =
     let z = past-end tline (i + 1) (omega arith) in
     not-marked tline n i h (λ q. let y : _≡_ {A = ℕ} 0 1 = sym z ∙ q in omega arith)
-
--- what a list of one element holds
-pub same-at : {A : Type 0} (m i : ℕ) (x d : A) → i < m → getD (replicate m x) i d ≡ x
-same-at zero i x d h = absurd (omega arith)
-same-at (suc m) zero x d h = refl
-same-at (suc m) (suc i) x d h = same-at m i x d (omega arith)
-
-pub zero-at : (m i : ℕ) → getD (zeros m) i 0 ≡ 0
-zero-at zero i = refl
-zero-at (suc m) zero = refl
-zero-at (suc m) (suc i) = zero-at m i

@@ -13,7 +13,7 @@ use borrow.Author.Tests.{eqb-true, eqb-false, eq-eqb, ne-eqb, le-leb, lt-leb, le
 use lib.Seq.{getD-set-same, getD-set-other}
 use Rattle.laws.specs.Cases.{by}
 use Rattle.laws.specs.All.{all, all-all, all-not, all-same, and-left, and-right}
-use Rattle.laws.specs.Tables.{getD-set}
+use Rattle.laws.specs.Tables.{getD-set, zeros-at}
 use Rattle.laws.specs.First.{firstFalse}
 use Rattle.rig.specs.Forms.{noRig}
 use Rattle.rigrows.specs.Kinds.{countOf, counts, keysOf, keys, highOf, highs, sorts, sortOf, under, keyed, rank, follows}
@@ -26,7 +26,6 @@ use Rattle.rigrows.specs.RoundTrip.{written, some-line}
 use Rattle.rigbuild.specs.declared.Marks.{Marks}
 use Rattle.rigbuild.specs.Built.{Built, built, numbers, zeros, noMarks, noTable, nothing, underOne, aboveAfter, withAbove, withCounts, byKind, store, build}
 use Rattle.rigbuild.specs.Cases.{Cases, by-cases}
-use Rattle.rigbuild.specs.Leaves.{zero-at}
 use Rattle.rigbuild.specs.MarkTests.{markedOne, markTests}
 use Rattle.rigbuild.specs.Read.{tasksOf, flagsOf, lineUnder, linesUnder, noneAbove, howMany, hasTask, hasTaskOne, flagsIn, fewFlagsOne, lineTests, judged, wholeFile, byLines}
 use Rattle.rigbuild.specs.Laws.{by-whole}
@@ -38,10 +37,6 @@ number-most p r e i k d h =
     let c : length (r .nums) ≡ countOf k = shaped-count r (w .shape) ∙ ap countOf d in
     let z : 0 + i ≡ i = omega arith in
     within-is k i (getD (r .nums) i 0) (rw (z, d) at (fits-at (r .kind) 0 (r .nums) (sized-fits r (w .size)) i (omega arith))) .1
-
-pub task-most : (p : ℕ) (r : Line) → judge p r ≡ 0 → r .kind ≡ 2 → getD (r .nums) 0 0 ≤ 64
-unfolding highOf highs countOf counts
-task-most p r e d = number-most p r e 0 2 d (omega arith)
 
 pub cycle-most : (p : ℕ) (r : Line) → judge p r ≡ 0 → r .kind ≡ 5 → getD (r .nums) 0 0 ≤ 63
 unfolding highOf highs countOf counts
@@ -508,7 +503,7 @@ module _ (r : Line) (rs : List Line) (d : r .kind ≡ 1) (w : Faultless (placed 
   task-say i h =
       rw add-one
       (build-tline rs (placed r) (begun (numbers (r .nums))) w (suc i) (omega arith) (length-replicate {A = ℕ} 65 0)
-      ∙ rw (zero-at 65 (suc i), d) (or-false (hasTask (suc i) rs)))
+      ∙ rw (zeros-at 65 (suc i), d) (or-false (hasTask (suc i) rs)))
     where
       or-false : (t : Bool) → (t || false) ≡ t
       or-false true = refl
@@ -521,8 +516,8 @@ module _ (r : Line) (rs : List Line) (d : r .kind ≡ 1) (w : Faultless (placed 
   crowded-say : eqb (build (begun (numbers (r .nums))) rs .marks .crowded) 0 ≡ all 64 (fewFlagsOne (r ∷ rs))
   unfolding flagsIn noMarks
   crowded-say =
-      build-crowded rs (placed r) (begun (numbers (r .nums))) w refl (record { all-of = length-replicate {A = ℕ} 64 0; few = λ c. omega (arith, zero-at 64 c) })
-      ∙ all-same 64 (fewOne (zeros 64) rs) (fewFlagsOne (r ∷ rs)) (λ c h. rw (zero-at 64 c, zero-add (flagsIn c rs), d))
+      build-crowded rs (placed r) (begun (numbers (r .nums))) w refl (record { all-of = length-replicate {A = ℕ} 64 0; few = λ c. omega (arith, zeros-at 64 c) })
+      ∙ all-same 64 (fewOne (zeros 64) rs) (fewFlagsOne (r ∷ rs)) (λ c h. rw (zeros-at 64 c, zero-add (flagsIn c rs), d))
 
   pub marks-say : markTests (build nothing (r ∷ rs) .marks) (build nothing (r ∷ rs) .rig .tasks) ≡ lineTests (r ∷ rs)
   unfolding markTests lineTests

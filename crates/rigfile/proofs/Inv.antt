@@ -27,7 +27,7 @@ use Rattle.rigrows.specs.Judged.{judged-one, judged-two, judged-three, sound-ju
 use Rattle.rigrows.specs.Turns.{said, fault-line, lines-line, lines-end, end-clean, end-empty, end-open, rest-turn, decimals-turn, decimals-bad, put-turn, put-none, put-at, fits-turn, fits-bad, fits-end, timed-same, rank-same}
 use Rattle.rigbuild.specs.Built.{Built, nothing, numbers, zeros, store, build}
 use Rattle.rigbuild.specs.Laws.{store-same}
-use Rattle.rigbuild.specs.Leaves.{zero-at}
+use Rattle.laws.specs.Tables.{zeros-at}
 
 -- between lines: what is left has the fault that the whole has, and builds what the whole builds
 pub record InLines (s : List ℕ) (n : ℕ) (b : Built) (prev line at : ℕ) : Type 0 where
@@ -148,7 +148,7 @@ module _ (s : List ℕ) (n : ℕ) (b : Built) (prev line at e q k : ℕ) (w : Of
         low = w .name .high;
         few = omega arith;
         nine = refl;
-        small = λ i. omega (arith, zero-at 9 i);
+        small = λ i. omega (arith, zeros-at 9 i);
         counted = omega arith;
         fine = refl;
         filled = refl;
@@ -223,7 +223,7 @@ module _ (s : List ℕ) (n : ℕ) (b : Built) (prev line at e q k m : ℕ) (v : 
         nine = w .nine;
         shape = shaped-if (said s at q e) (rw (← w .of .kind) (w .sort .known)) (sym i ∙ (t ∙ (w .sort .count ∙ ap countOf (w .of .kind)))) d;
         counted = sym i ∙ t;
-        same = λ j. rw (← y) (put-at (nums s q e) (zeros 9) (zero-at 9) j);
+        same = λ j. rw (← y) (put-at (nums s q e) (zeros 9) (zeros-at 9) j);
       }
 
 pub sizes-start : (s : List ℕ) (n : ℕ) (b : Built) (prev line at e q k m : ℕ) (v : List ℕ) → Shaped s n b prev line at e q k m v → InSizes s n b prev line at e q k m v 0

@@ -94,10 +94,6 @@ pub sized-fits : (r : Line) → sized r ≡ true → fits (r .kind) 0 (r .nums) 
 unfolding sized
 sized-fits r e = and-left (fits (r .kind) 0 (r .nums)) (timed (r .kind) (r .nums)) e
 
-pub sized-timed : (r : Line) → sized r ≡ true → timed (r .kind) (r .nums) ≡ true
-unfolding sized
-sized-timed r e = and-right (fits (r .kind) 0 (r .nums)) (timed (r .kind) (r .nums)) e
-
 pub sized-if : (r : Line) → fits (r .kind) 0 (r .nums) ≡ true → timed (r .kind) (r .nums) ≡ true → sized r ≡ true
 unfolding sized
 sized-if r e f = rw e f

@@ -8,7 +8,7 @@ use mathlib.Core.List.{List, [], _∷_, _++_, map, append-nil}
 use native.Mathlib.Omega.{arith}
 use native.Mathlib.Numerals.{add-one}
 use lib.Dec.{eqb, leb, ltb}
-use lib.ListN.{length, getD, set, replicate, length-set, length-replicate, length-map}
+use lib.ListN.{length, getD, set, replicate, length-set, getD-replicate, length-replicate, length-map}
 use lib.Seq.{getD-set-same, getD-set-other, ext-getD}
 use borrow.Author.Tests.{eqb-true, eqb-false, eq-eqb, ne-eqb, lt-ltb, le-ltb, le-leb, ltb-true, ltb-false, leb-true}
 use Rattle.laws.specs.Cases.{by}
@@ -23,7 +23,7 @@ use Rattle.rigrows.specs.Kinds.{counts, countOf, sorts, sortOf, under}
 use Rattle.rigrows.specs.Line.{Line}
 use Rattle.rigbuild.specs.declared.Marks.{Marks}
 use Rattle.rigbuild.specs.Built.{Built, built, numbers, zeros, noMarks, noTable, nothing, underOne, aboveAfter, withAbove, withCounts, rowOf, putFlag, byKind, store, build}
-use Rattle.rigbuild.specs.Leaves.{zero-at, same-at}
+use Rattle.laws.specs.Tables.{zeros-at}
 use Rattle.rigbuild.specs.Marked.{begun}
 use Rattle.rigwrite.specs.Kept.{kept}
 use Rattle.rigwrite.specs.File.{line, rigLine, isTask, taskLine, isCondition, conditionLine, isLine, flagLine, flagAt, isFlag, cycleLine, isRow, rowLine, linesFrom}
@@ -224,7 +224,7 @@ module _ (g : Rig) (cycles : List Cycle) (r : Right g cycles) where
   -- a cycle of which nothing was read has no flag yet
   inside-none : (i c : ℕ) → i ≤ 15 * c → c < 64 → getD (inside i) c 0 ≡ 0
   unfolding inside
-  inside-none zero c h k = zero-at 64 c
+  inside-none zero c h k = zeros-at 64 c
   inside-none (suc i) c h k =
       by (isFlag (tableOf cycles) i)
       (λ e. rw (e, getD-set-other (inside i) (i / 15) c (i % 15 + 1) 0 (omega arith)) (inside-none i c (omega arith) k))
@@ -284,7 +284,7 @@ module _ (g : Rig) (cycles : List Cycle) (r : Right g cycles) where
 
   tabled-whole : (i : ℕ) → i ≤ 960 → (length (tabled i) ≡ 64) × ((c : ℕ) → c < 64 → length (getD (tabled i) c []) ≡ 15)
   unfolding tabled noTable
-  tabled-whole zero h = (length-replicate 64 (zeros 15), λ c k. ap length (same-at 64 c (zeros 15) [] k) ∙ length-replicate {A = ℕ} 15 0)
+  tabled-whole zero h = (length-replicate 64 (zeros 15), λ c k. ap length (getD-replicate 64 c (zeros 15) [] k) ∙ length-replicate {A = ℕ} 15 0)
   tabled-whole (suc i) h =
       let w = tabled-whole i (omega arith) in
       let a = w .0 in
@@ -295,7 +295,7 @@ module _ (g : Rig) (cycles : List Cycle) (r : Right g cycles) where
 
   tabled-none : (c n : ℕ) → c < 64 → cell (tabled 0) c n ≡ 0
   unfolding tabled noTable
-  tabled-none c n k = ap (λ (x : List ℕ). getD x n 0) (same-at 64 c (zeros 15) [] k) ∙ zero-at 15 n
+  tabled-none c n k = ap (λ (x : List ℕ). getD x n 0) (getD-replicate 64 c (zeros 15) [] k) ∙ zeros-at 15 n
 
   tabled-cell : (i : ℕ) → i ≤ 960 → (c n : ℕ) → c < 64 → n < 15 → cell (tabled i) c n ≡ cond (ltb (15 * c + n) i) (cell (tableOf cycles) c n) 0
   unfolding tabled

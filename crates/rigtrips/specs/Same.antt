@@ -10,7 +10,7 @@ use mathlib.Core.List.{List, [], _∷_, _++_, map, append-assoc, append-nil}
 use native.Mathlib.Omega.{arith}
 use native.Mathlib.Numerals.{add-one}
 use lib.Dec.{eqb, leb, ltb}
-use lib.ListN.{length, getD, set, replicate, length-replicate}
+use lib.ListN.{length, getD, set, replicate, getD-replicate, length-replicate}
 use borrow.Author.Tests.{eqb-true, eqb-false, eq-eqb, ne-eqb, le-ltb, le-leb, leb-true}
 use Rattle.laws.specs.Cases.{by}
 use Rattle.laws.specs.All.{all, all-at, allOf, allOf-at, and-left, and-right}
@@ -28,7 +28,7 @@ use Rattle.rigrows.specs.RoundTrip.{written, some-line}
 use Rattle.rigbuild.specs.declared.Marks.{Marks}
 use Rattle.rigbuild.specs.declared.Answer.{Answer}
 use Rattle.rigbuild.specs.Built.{Built, built, numbers, zeros, noMarks, noTable, nothing, underOne, aboveAfter, withAbove, withCounts, withTask, withCondition, withLine, withRow, rowOf, hasLine, oneFlag, putFlag, store, build}
-use Rattle.rigbuild.specs.Leaves.{zero-at, same-at}
+use Rattle.laws.specs.Tables.{zeros-at}
 use Rattle.rigbuild.specs.Cases.{Cases, by-cases}
 use Rattle.rigbuild.specs.MarkTests.{markedOne, markTests}
 use Rattle.rigbuild.specs.Marked.{first-rig, not-rig, place-low, tasks-most, begun, after-rig, marks-say}
@@ -192,17 +192,17 @@ first-upto ns p e =
         aflag = length-replicate {A = ℕ} 1024 0;
         row = length-replicate 64 noRow;
         table = length-replicate 64 (zeros 15);
-        cells = λ c h. ap length (same-at 64 c (zeros 15) [] h) ∙ length-replicate {A = ℕ} 15 0;
+        cells = λ c h. ap length (getD-replicate 64 c (zeros 15) [] h) ∙ length-replicate {A = ℕ} 15 0;
         tline = length-replicate {A = ℕ} 65 0;
         inside = length-replicate {A = ℕ} 64 0;
       };
       begun = omega arith;
-      tasks = λ t h. absurd (none-of (getD (zeros 65) t 0) (zero-at 65 t) h);
-      under = λ _ t h. absurd (none-of (getD (zeros 65) t 0) (zero-at 65 t) h);
-      conditions = λ i h. absurd (none-of (getD (zeros 1040) i 0) (zero-at 1040 i) h);
+      tasks = λ t h. absurd (none-of (getD (zeros 65) t 0) (zeros-at 65 t) h);
+      under = λ _ t h. absurd (none-of (getD (zeros 65) t 0) (zeros-at 65 t) h);
+      conditions = λ i h. absurd (none-of (getD (zeros 1040) i 0) (zeros-at 1040 i) h);
       lines = λ _. refl;
-      flags = λ c n h k f. absurd (f (ap (λ (l : List ℕ). getD l n 0) (same-at 64 c (zeros 15) [] h) ∙ zero-at 15 n));
-      inside = λ c n h k _. ap (λ (l : List ℕ). getD l n 0) (same-at 64 c (zeros 15) [] h) ∙ zero-at 15 n;
+      flags = λ c n h k f. absurd (f (ap (λ (l : List ℕ). getD l n 0) (getD-replicate 64 c (zeros 15) [] h) ∙ zeros-at 15 n));
+      inside = λ c n h k _. ap (λ (l : List ℕ). getD l n 0) (getD-replicate 64 c (zeros 15) [] h) ∙ zeros-at 15 n;
       rows = λ _. refl;
     }
 

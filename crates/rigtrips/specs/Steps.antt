@@ -76,13 +76,6 @@ pub later-row : (p k x : ℕ) → 0 < p → k ≡ 6 → follows p k x ≡ true �
 unfolding follows
 later-row p k x h n e = leb-true p x (rw (ne-eqb p 0 (omega arith), n) at e)
 
--- an element after a store
-pub set-at : (l : List ℕ) (i j x : ℕ) → i < length l → getD (set l i x) j 0 ≡ cond (eqb j i) x (getD l j 0)
-set-at l i j x h =
-    by (eqb j i)
-    (λ e. rw (e, eqb-true j i e) (getD-set-same l i x 0 h))
-    (λ e. rw (e) (getD-set-other l i j x 0 (eqb-false j i e)))
-
 -- ---- T
 
 module _ (p : ℕ) (g : Rig) (t : List (List ℕ)) (m : Marks) (ns : List ℕ) (a : ℕ) (u : Upto p (built g t m)) (w : Fine p 2 ns)

@@ -8,6 +8,7 @@ use native.Mathlib.Omega.{arith}
 use native.Mathlib.Numerals.{add-one}
 use lib.Dec.{eqb}
 use lib.ListN.{length, getD, set, length-set, replicate}
+use Rattle.laws.specs.Tables.{zeros-at}
 use borrow.Author.Tests.{eq-eqb, ne-eqb, lt-leb, le-leb, le-ltb, lt-ltb}
 use Rattle.laws.specs.Cases.{by}
 use Rattle.chains.specs.Ops.{walk}
@@ -115,17 +116,12 @@ module _ (N P O S : ℕ → ℕ) (t : ℕ) where
   unfolding taskb
   task-on o = rw (ne-eqb (O t) 0 o)
 
-pub zeros : (n t : ℕ) → _≡_ {A = ℕ} (getD (replicate n 0) t 0) 0
-zeros zero t = refl
-zeros (suc n) zero = refl
-zeros (suc n) (suc t) = zeros n t
-
 module _ (l : Links) where
   abbrev pub RingsTo : List ℕ → ℕ → Type 0
   RingsTo seen s = Rings 64 (at (l .next)) (at (l .prev)) (at (l .on)) (at seen) s
 
   pub all-start : RingsTo (replicate 65 0) 65
-  all-start = rings-start 64 (at (l .next)) (at (l .prev)) (at (l .on)) (at (replicate 65 0)) (zeros 65)
+  all-start = rings-start 64 (at (l .next)) (at (l .prev)) (at (l .on)) (at (replicate 65 0)) (zeros-at 65)
 
   pub all-next : (seen : List ℕ) (s : ℕ) (r : Ring) → 64 < s → RingsTo seen s → Walked l s seen r → r .ok ≡ true → RingsTo (r .seen) (s + 1)
   all-next seen s r ls k w o =

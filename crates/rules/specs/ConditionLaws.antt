@@ -8,7 +8,7 @@ use borrow.Author.Tests.{eqb-true, eq-eqb}
 use lib.Dec.{eqb}
 use lib.ListN.{length, getD}
 use Rattle.laws.specs.Cases.{and-true, and-go}
-use Rattle.laws.specs.Says.{says-not, says-or, says-and, says-eq, says-all, says-any, says-iff}
+use Rattle.laws.specs.Decides.{is-eqb, is-not, is-or, is-and, is-all, is-any}
 use Rattle.laws.specs.Stores.{stores-hit, stores-miss}
 use Rattle.rules.specs.Rig.{place}
 use Rattle.rules.specs.Conditions.{relax, metOne, met, drive, namesOne, names}
@@ -38,11 +38,8 @@ module _ (present latched desired : ℕ → ℕ) (t : ℕ) (conds : List ℕ) wh
   pub met-is : (met present desired t conds ≡ true) ↔ ((p : ℕ) → p < 16 → (present (place t p) ≢ 1) ⊎ (getD conds (place t p) 0 ≡ desired (place t p)))
   unfolding met
   met-is =
-      says-iff (met present desired t conds) _
-      (says-all 16 (metOne present desired t conds) (λ p. (present (place t p) ≢ 1) ⊎ (getD conds (place t p) 0 ≡ desired (place t p)))
-      (λ p. says-or (not (eqb (present (place t p)) 1)) (eqb (getD conds (place t p) 0) (desired (place t p))) _ _
-      (says-not (eqb (present (place t p)) 1) (present (place t p) ≡ 1) (says-eq (present (place t p)) 1))
-      (says-eq (getD conds (place t p) 0) (desired (place t p)))))
+      is-all 16
+      (λ p h. is-or (is-not (is-eqb (present (place t p)) 1)) (is-eqb (getD conds (place t p) 0) (desired (place t p))))
 
 module _ (lines : ℕ) (lineTask linePos lineFlag : ℕ → ℕ) (f v : ℕ) (conds : List ℕ) where
   -- "every condition with that flag takes it"
@@ -63,6 +60,4 @@ pub names-is : (lines : ℕ) (lineTask lineFlag : ℕ → ℕ) (t f : ℕ)
     → (names lines lineTask lineFlag t f ≡ true) ↔ ((k : ℕ) × (k < lines) × ((lineTask k ≡ t) × (lineFlag k ≡ f)))
 unfolding names
 names-is lines lineTask lineFlag t f =
-    says-iff (names lines lineTask lineFlag t f) _
-    (says-any lines (namesOne lineTask lineFlag t f) (λ k. (lineTask k ≡ t) × (lineFlag k ≡ f))
-    (λ k. says-and (eqb (lineTask k) t) (eqb (lineFlag k) f) _ _ (says-eq (lineTask k) t) (says-eq (lineFlag k) f)))
+    is-any lines (λ k h. is-and (is-eqb (lineTask k) t) (is-eqb (lineFlag k) f))

@@ -3,12 +3,10 @@ use mathlib.Core.List.{List, [], _∷_}
 use Prim.Native.Nat.{ℕ, zero, suc, _+_}
 use lib.ListN.{getD}
 use Rattle.chains.specs.Held.{at}
+use Rattle.rig.specs.Rules.{noCycle}
 use Rattle.rig.specs.declared.Cycle.{Cycle}
 use Rattle.rules.specs.State.{Entry}
 use Rattle.steps.specs.declared.Queue.{Queue}
-
-abbrev pub noCycle : Cycle
-noCycle = record { flags = [] }
 
 -- the flag at a place of a cycle's list
 abbrev pub minorOf : List Cycle → ℕ → ℕ → ℕ
