@@ -27,10 +27,10 @@ impl Exec {
     pub(crate) fn accept(self, st: State, report: Report) -> Step
         ensures { λ r. ⌜ r ≡ accept self st report ⌝ }
     {
-        let rig = self.rig;
-        let cycles = self.cycles;
+        let mut exec = self;
+        exec.st = st;
         Step {
-            exec: Exec { rig, cycles, st },
+            exec,
             answer: Answer::Accepted(report),
         }
     }
