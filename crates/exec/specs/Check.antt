@@ -45,10 +45,10 @@ pub record Placed (controllers activations : List ℕ) : Type 0 where
   pub activation : (t : ℕ) → t < 65 → at activations t < 129
 
 -- the links hold chains, the time chain in order, all of it above the count
-pub record ChainsSound (s : State) : Type 0 where
-  pub sized : Sized (s .links)
-  pub links : L.Sound (s .links)
-  pub order : risingb (at (s .wake)) (s .count + 1) (chainsOf (s .links) 65) ≡ true
+pub record ChainsSound (count : ℕ) (wake : List ℕ) (l : Links) : Type 0 where
+  pub sized : Sized l
+  pub links : L.Sound l
+  pub order : risingb (at wake) (count + 1) (chainsOf l 65) ≡ true
 
 -- who runs by the rules
 abbrev pub runner : Rig → State → ℕ
@@ -143,20 +143,20 @@ module _ (l : Links) (h : Held l (chainsOf l)) where
 
 -- ---- the time chain's test
 
-module _ (s : State) (h : L.Sound (s .links)) (b : Bool) (e : (X : ℕ → List ℕ) → Held (s .links) X → b ≡ risingb (at (s .wake)) (s .count + 1) (X 65)) where
-  is : b ≡ risingb (at (s .wake)) (s .count + 1) (chainsOf (s .links) 65)
-  is = e (chainsOf (s .links)) (sound-chains (s .links) h)
+module _ (count : ℕ) (wake : List ℕ) (l : Links) (h : L.Sound l) (b : Bool) (e : (X : ℕ → List ℕ) → Held l X → b ≡ risingb (at wake) (count + 1) (X 65)) where
+  is : b ≡ risingb (at wake) (count + 1) (chainsOf l 65)
+  is = e (chainsOf l) (sound-chains l h)
 
-  pub order-facts : Sized (s .links) → b ≡ true → ChainsSound s
+  pub order-facts : Sized l → b ≡ true → ChainsSound count wake l
   order-facts z q = record { sized = z; links = h; order = sym is ∙ q }
 
-  pub order-back : ChainsSound s → b ≡ true
+  pub order-back : ChainsSound count wake l → b ≡ true
   order-back c = is ∙ c .order
 
 -- ---- the tests and what they say
 
 module _ (x : Exec) (z : Sizes (x .st)) (g : Right (x .rig) (x .cycles)) where
-  pub tests-sound : allOf (tableTests (x .rig) (x .st)) ≡ true → ChainsSound (x .st) → Sound x
+  pub tests-sound : allOf (tableTests (x .rig) (x .st)) ≡ true → ChainsSound (x .st .count) (x .st .wake) (x .st .links) → Sound x
   unfolding tableTestsOf lastCount
   tests-sound e c =
       let s = x .st in
@@ -216,7 +216,7 @@ sound-tests x h =
     (sym (runs-chosen (at (x .rig .privileged)) (at (x .rig .priority)) (s .state) (p .tasks .sized) (s .running) (p .runs))))
     allOf-nil)))))))))
 
-pub sound-order : (x : Exec) → Sound x → ChainsSound (x .st)
+pub sound-order : (x : Exec) → Sound x → ChainsSound (x .st .count) (x .st .wake) (x .st .links)
 sound-order x h =
     record {
       sized = h .sized;

@@ -1,11 +1,12 @@
 // The soundness check, in time linear in the record: the rig's rules, the tests over the tables, the chains.
 use crate::Exec;
-use state::State;
 ghost use mathlib.Core.Path.{_≡_};
 ghost use mathlib.Core.Bool.{true};
 ghost use mathlib.Core.Logic.{_↔_};
 ghost use Prim.Native.Nat.{_≤_};
 ghost use Rattle.laws.specs.All.{allOf};
+ghost use Rattle.chains.specs.Held.{Sized};
+ghost use Rattle.rings.specs.Post.{linksOf};
 ghost use Rattle.exec.specs.Sound.{Sound};
 ghost use Rattle.exec.specs.Check.{Placed, tableTestsOf, ChainsSound};
 
@@ -67,17 +68,21 @@ fn tables_ok<'a>(
 }
 
 // The links hold chains, and the time chain is in order of waking count, all above the count.
-fn chains_ok(st: State) -> bool
-    requires { ⌜ st .count ≤ 2147483647 ⌝ }
-    ensures { λ r. ⌜ (r ≡ true) ↔ ChainsSound st ⌝ }
+fn chains_ok<'a>(
+    count: u32,
+    wake: &'a [u32; 65],
+    next: &'a [u16; 322],
+    prev: &'a [u16; 322],
+    on: &'a [u16; 65],
+) -> bool
+    requires { ⌜ count ≤ 2147483647 ⌝ }
+    requires { ⌜ Sized (linksOf (now next) (now prev) (now on)) ⌝ }
+    ensures { λ r. ⌜ (r ≡ true) ↔ ChainsSound count (now (wake .entry)) (linksOf (now (next .entry)) (now (prev .entry)) (now (on .entry))) ⌝ }
 {
-    let links = st.links;
-    if !rings::sound(links) {
+    if !rings::sound(next, prev, on) {
         return false;
     }
-    let wake = st.wake;
-    let lo = st.count + 1;
-    rings::in_order(links, wake, 65, lo)
+    rings::in_order(next, prev, on, wake, 65, count + 1)
 }
 
 impl Exec {
@@ -131,6 +136,12 @@ impl Exec {
         ) {
             return false;
         }
-        chains_ok(st)
+        chains_ok(
+            st.count,
+            &st.wake,
+            &st.links.next,
+            &st.links.prev,
+            &st.links.on,
+        )
     }
 }

@@ -1,22 +1,22 @@
 -- The laws that the proofs of the check cite.
 use mathlib.Core.Path.{_≡_, refl, sym, _∙_, ap, subst}
-use mathlib.Core.Logic.{_≢_, _↔_}
+use mathlib.Core.Logic.{_⊎_, inl, inr, _≢_, _↔_}
 use mathlib.Core.Bool.{Bool, true, false, not, false≢true}
 use mathlib.Core.List.{List, _∷_}
 use Prim.Native.Nat.{ℕ, zero, suc, _+_, _-_, _≤_, _<_}
 use native.Mathlib.Omega.{arith}
-use native.Mathlib.Numerals.{add-one}
 use lib.Dec.{eqb}
-use lib.ListN.{length, getD, set, length-set, replicate}
+use lib.ListN.{length, set, length-set, replicate}
 use Rattle.laws.specs.Tables.{zeros-at}
-use borrow.Author.Tests.{eq-eqb, ne-eqb, lt-leb, le-leb, le-ltb, lt-ltb}
-use Rattle.laws.specs.Cases.{by}
+use borrow.Author.Tests.{eq-eqb, ne-eqb, eqb-true, lt-leb, le-leb, le-ltb, lt-ltb}
+use Rattle.laws.specs.Cases.{by, and-true, and-no}
+use Rattle.laws.specs.All.{all, Passed, passed-next, passed-not}
 use Rattle.chains.specs.Ops.{walk}
-use Rattle.chains.specs.Check.{stepb, step-out, ringb, marked, Rings, rings-start, rings-next, taskb, ring-end, ring-out, ring-bad, ring-next, walk-end, walk-next, tasks-accepted, accepted-tasks, equivalence}
+use Rattle.chains.specs.Check.{stepb, step-out, ringb, marked, rings-start, rings-next, taskb, ring-end, ring-out, ring-bad, ring-next, walk-end, walk-next, tasks-accepted, accepted-tasks, equivalence}
 use Rattle.chains.specs.Held.{at, at-set, Sound}
 use Rattle.chains.specs.declared.Links.{Links}
 use Rattle.rings.specs.declared.Ring.{Ring}
-use Rattle.rings.specs.Post.{Walked, AllWalked, TasksTested}
+use Rattle.rings.specs.Post.{aloneb, RingsTo, Walked, WalkedFrom, AllWalked, TasksTested}
 
 -- step_ok's four ways out
 module _ (P O : ℕ → ℕ) (s u v : ℕ) where
@@ -116,28 +116,79 @@ module _ (N P O S : ℕ → ℕ) (t : ℕ) where
   unfolding taskb
   task-on o = rw (ne-eqb (O t) 0 o)
 
-module _ (l : Links) where
-  abbrev pub RingsTo : List ℕ → ℕ → Type 0
-  RingsTo seen s = Rings 64 (at (l .next)) (at (l .prev)) (at (l .on)) (at seen) s
+-- what alone_from keeps: an anchor's two tests
+module _ (N P : ℕ → ℕ) (s i : ℕ) {bad mid new : ℕ} (p : Passed bad i (λ k. aloneb N P (s + k))) where
+  pub alone-turn : ((N (s + i) ≢ s + i) × (mid ≡ 1)) ⊎ ((N (s + i) ≡ s + i) × (mid ≡ bad))
+      → ((P (s + i) ≢ s + i) × (new ≡ 1)) ⊎ ((P (s + i) ≡ s + i) × (new ≡ mid))
+      → Passed new (i + 1) (λ k. aloneb N P (s + k))
+  unfolding aloneb
+  alone-turn n (inl b) = passed-not i (λ k. aloneb N P (s + k)) (rw (ne-eqb (P (s + i)) (s + i) (b .0)) (and-no (eqb (N (s + i)) (s + i)))) (b .1)
+  alone-turn (inl a) (inr b) = passed-not i (λ k. aloneb N P (s + k)) (rw (ne-eqb (N (s + i)) (s + i) (a .0))) (b .1 ∙ a .1)
+  alone-turn (inr a) (inr b) =
+      passed-next i (λ k. aloneb N P (s + k)) p (rw (eq-eqb (N (s + i)) (s + i) (a .0), eq-eqb (P (s + i)) (s + i) (b .0))) (b .1 ∙ a .1)
 
-  pub all-start : RingsTo (replicate 65 0) 65
+module _ (l : Links) where
+  pub all-start : RingsTo l (replicate 65 0) 65
   all-start = rings-start 64 (at (l .next)) (at (l .prev)) (at (l .on)) (at (replicate 65 0)) (zeros-at 65)
 
-  pub all-next : (seen : List ℕ) (s : ℕ) (r : Ring) → 64 < s → RingsTo seen s → Walked l s seen r → r .ok ≡ true → RingsTo (r .seen) (s + 1)
+  all-next : (seen : List ℕ) (s : ℕ) (r : Ring) → 64 < s → RingsTo l seen s → Walked l s seen r → r .ok ≡ true → RingsTo l (r .seen) (suc s)
   all-next seen s r ls k w o =
-      rw add-one
-      (rings-next 64 (at (l .next)) (at (l .prev)) (at (l .on)) (at seen) (at (r .seen)) s ls k (sym (w .ok) ∙ o) (w .marks o))
+      rings-next 64 (at (l .next)) (at (l .prev)) (at (l .on)) (at seen) (at (r .seen)) s ls k (sym (w .ok) ∙ o) (w .marks o)
 
-  pub all-refused : (seen : List ℕ) (s : ℕ) (r : Ring) → 64 < s → s < 322 → Walked l s seen r → r .ok ≡ false → AllWalked l (record { ok = false; seen = r .seen })
-  all-refused seen s r ls hs w o =
+  -- a ring whose anchor is linked to itself is walked, with nothing marked
+  alone-walked : (seen : List ℕ) (s : ℕ) → 64 < s → length seen ≡ 65 → aloneb (at (l .next)) (at (l .prev)) s ≡ true → Walked l s seen (record { ok = true; seen = seen })
+  unfolding aloneb marked
+  alone-walked seen s ls z e =
+      let N = at (l .next) in
+      let P = at (l .prev) in
+      let O = at (l .on) in
+      let a = and-true (eqb (N s) s) (eqb (P s) s) e in
+      let n = eqb-true (N s) s (a .0) in
       record {
-        yes = λ q. absurd (false≢true q);
-        no = λ q a. false≢true (sym o ∙ w .ok ∙ a .ring s ls hs);
+        ok = sym (ring-end N P O 64 s ls 64 s n ∙ a .1);
+        marks = λ o. ap (marked (at seen)) (sym (walk-end N P O 64 s ls 64 s n));
+        size = z;
       }
 
-  pub all-over : (seen : List ℕ) (s : ℕ) → s ≡ 322 → RingsTo seen s → AllWalked l (record { ok = true; seen = seen })
-  all-over seen s e k =
-      record { yes = λ q. subst (λ (m : ℕ). RingsTo seen m) e k; no = λ q. absurd (false≢true (sym q)) }
+  module _ (s : ℕ) (ls : 64 < s) (seen : List ℕ) where
+    pub from-start : length seen ≡ 65 → WalkedFrom l s 0 seen (record { ok = true; seen = seen })
+    from-start z =
+        let e : s ≡ s + 0 = omega arith in
+        record { yes = λ q k. subst (RingsTo l seen) e k; no = λ q. absurd (false≢true (sym q)); size = z }
+
+    pub from-next : (i : ℕ) (m : List ℕ) (r : Ring) → WalkedFrom l s i seen (record { ok = true; seen = m }) → Walked l (s + i) m r → r .ok ≡ true
+        → WalkedFrom l s (i + 1) seen (record { ok = true; seen = r .seen })
+    from-next i m r k w o =
+        let e : suc (s + i) ≡ s + (i + 1) = omega arith in
+        record {
+          yes = λ q b. subst (RingsTo l (r .seen)) e (all-next m (s + i) r (omega arith) (k .yes refl b) w o);
+          no = λ q. absurd (false≢true (sym q));
+          size = w .size;
+        }
+
+    pub from-refused : (i m : ℕ) (x : List ℕ) (r : Ring) → s + i < 322 → Walked l (s + i) x r → r .ok ≡ false → WalkedFrom l s m seen (record { ok = false; seen = r .seen })
+    from-refused i m x r h w o =
+        record {
+          yes = λ q. absurd (false≢true q);
+          no = λ q a. false≢true (sym o ∙ w .ok ∙ a .ring (s + i) (omega arith) h);
+          size = w .size;
+        }
+
+    -- so a block of such anchors is walked
+    pub from-alone : (m : ℕ) → length seen ≡ 65 → all m (λ i. aloneb (at (l .next)) (at (l .prev)) (s + i)) ≡ true → WalkedFrom l s m seen (record { ok = true; seen = seen })
+    unfolding all
+    from-alone zero z e = from-start z
+    from-alone (suc m) z e =
+        let a = and-true (all m (λ i. aloneb (at (l .next)) (at (l .prev)) (s + i))) (aloneb (at (l .next)) (at (l .prev)) (s + m)) e in
+        let n : m + 1 ≡ suc m = omega arith in
+        rw n at
+        (from-next m seen (record { ok = true; seen = seen }) (from-alone m z (a .0)) (alone-walked seen (s + m) (omega arith) z (a .1)) refl)
+
+  pub all-refused : (r : Ring) (s m : ℕ) (seen : List ℕ) → WalkedFrom l s m seen r → r .ok ≡ false → AllWalked l (record { ok = false; seen = r .seen })
+  all-refused r s m seen w o = record { yes = λ q. absurd (false≢true q); no = λ q. w .no o }
+
+  pub all-over : (r : Ring) (s m : ℕ) (seen : List ℕ) → s + m ≡ 322 → RingsTo l seen s → WalkedFrom l s m seen r → AllWalked l r
+  all-over r s m seen e k w = record { yes = λ q. subst (RingsTo l (r .seen)) e (w .yes q k); no = w .no }
 
   -- the whole check's two ways out
   pub not-sound : (r : Ring) → AllWalked l r → r .ok ≡ false → (false ≡ true) ↔ Sound l

@@ -3,6 +3,7 @@ use mathlib.Core.Bool.{true, false≢true}
 use borrow.Author.Needs.{needs}
 use borrow.Author.Tests.{not-true, not-false}
 use Rattle.laws.specs.All.{allOf}
+use Rattle.chains.specs.Held.{Sized}
 use Rattle.rig.specs.Rules.{Right}
 use Rattle.rig.specs.Tests.{shapedTests}
 use Rattle.rig.specs.Whole.{lengths-hold, broken-none}
@@ -18,6 +19,10 @@ shape c =
 
 sizes : (c : tie.Start) → Sizes (c .args .self .st)
 sizes c = record { state = search needs; value = search needs; cond = search needs; wake = search needs }
+
+-- of the links too; what is lent does not tell its length
+sized : (c : tie.Start) → Sized (c .args .self .st .links)
+sized c = record { next = search needs; prev = search needs; on = search (needs, c .good .0 .1 .1 .1 .1 .0) }
 
 rig : (c : tie.Else1) → Right (c .before .before .before .before .before .before .before .before .before .before .before .before .before .before .before .before .args .self .rig) (c .before .before .before .before .before .before .before .before .before .before .before .before .before .before .before .before .args .self .cycles)
 rig c =
@@ -45,13 +50,16 @@ returns-2 c =
 
 chains-ok-requires : tie.Need-chains-ok-requires
 chains-ok-requires c κs =
-    let x = c .before .before .before .before .before .before .before .before .before .before .before .before .before .before .before .before .before .before .before .before .before .before .before .before .before .before .before .before .before .before .before .args .self in
-    count-low (x .rig) (x .st) (tables c)
+    let e = c .before .before .before .before .before in
+    let s = e .before .before .before .before .before .before .before .before .before .before .before .before .before .before .before .before .before .before .before .before .before .before .before .before .before .before .before .before .before .before .before in
+    (count-low (s .args .self .rig) (s .args .self .st) (tables e), sized s)
 
 returns-3 : tie.Need-returns-3
 returns-3 c =
-    let x = c .before .before .before .before .before .before .before .before .before .before .before .before .before .before .before .before .before .before .before .before .before .before .before .before .before .before .before .before .before .before .before .before .args .self in (
-      (λ e. tests-sound x (sizes (c .before .before .before .before .before .before .before .before .before .before .before .before .before .before .before .before .before .before .before .before .before .before .before .before .before .before .before .before .before .before .before .before)) (rig (c .before .before .before .before .before .before .before .before .before .before .before .before .before .before .before .before)) (tables (c .before)) (c .chains-ok .ensures .0 e)),
+    let e = c .before .before .before .before .before .before in
+    let s = e .before .before .before .before .before .before .before .before .before .before .before .before .before .before .before .before .before .before .before .before .before .before .before .before .before .before .before .before .before .before .before in
+    let x = s .args .self in (
+      (λ q. tests-sound x (sizes s) (rig (e .before .before .before .before .before .before .before .before .before .before .before .before .before .before .before)) (tables e) (c .chains-ok .ensures .0 q)),
       (λ h. c .chains-ok .ensures .1 (sound-order x h)),
     )
 

@@ -2,14 +2,18 @@ use mathlib.Core.Path.{sym, _∙_}
 use mathlib.Core.Bool.{false≢true}
 use borrow.Author.Tests.{not-true, not-false}
 use native.Mathlib.Omega.{arith}
-use Rattle.exec.specs.Check.{order-facts, order-back}
 use Rattle.chains.specs.Held.{Sound}
-use Rattle.chains.specs.Held.{Sized}
+use Rattle.chains.specs.declared.Links.{Links}
+use Rattle.rings.specs.Post.{linksOf}
+use Rattle.exec.specs.Check.{order-facts, order-back}
 use borrow.Author.Needs.{needs}
 use Rattle.exec.proofs.soundness.chains_ok.Statement.{statement}
 use Rattle.exec.proofs.soundness.chains_ok.Tie as tie
 
-held : (c : tie.Else1) → Sound (c .before .before .before .args .st .links)
+abbrev tables : tie.Start → Links
+tables s = linksOf (s .args .next .now) (s .args .prev .now) (s .args .on .now)
+
+held : (c : tie.Else1) → Sound (tables (c .before .before))
 held c = c .before .sound .ensures .0 (not-false (c .before .sound .result) (c .if1 .left))
 
 sound-requires : tie.Need-sound-requires
@@ -18,18 +22,20 @@ sound-requires c κs = search needs
 returns : tie.Need-returns
 returns c = ((λ e. absurd (false≢true e)), (λ h. absurd (false≢true (sym (not-true (c .before .sound .result) (c .if1 .taken)) ∙ c .before .sound .ensures .1 (h .links)))))
 
-add-lo : tie.Need-add-lo
-add-lo c = search needs
+add-in-order : tie.Need-add-in-order
+add-in-order c = search needs
 
 in-order-requires : tie.Need-in-order-requires
-in-order-requires c κs = (held (c .before .before), (omega arith, omega arith))
+in-order-requires c κs = (held c, (omega arith, omega arith))
 
 returns-2 : tie.Need-returns-2
 returns-2 c =
-    let s = c .before .before .before .before .before .before .args .st in
-    let h = held (c .before .before .before) in
-    let z : Sized (s .links) = record { next = search needs; prev = search needs; on = search needs } in
-    (order-facts s h (c .in-order .result) (c .in-order .ensures) z, order-back s h (c .in-order .result) (c .in-order .ensures))
+    let s = c .before .before .before in
+    let h = held (c .before) in (
+      order-facts (s .args .count) (s .args .wake .now) (tables s) h (c .in-order .result) (c .in-order .ensures) (s .pre .1),
+      order-back (s .args .count) (s .args .wake .now) (tables s) h (c .in-order .result) (c .in-order .ensures),
+    )
 
 pub chains-ok-spec : {M : Type 1} → statement M
-chains-ok-spec = tie.close (tie.spec sound-requires returns add-lo in-order-requires returns-2)
+chains-ok-spec =
+    tie.close (tie.spec sound-requires returns add-in-order in-order-requires returns-2)
