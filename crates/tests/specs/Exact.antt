@@ -18,7 +18,7 @@ use Rattle.rules.specs.Acceptance.{there-is}
 use Rattle.tests.specs.Tests.{withinOne, withinB, emptyOne, emptyB, condOne, condsB, treeOne, treeB, waitOne, waitsB, flagOne, flagsB}
 
 -- a number that is none of 1 to many
-no-such : (many n : ℕ) → noSuch many n ≡ true → (1 ≤ n) × (n ≤ many) → ⊥
+pub no-such : (many n : ℕ) → noSuch many n ≡ true → (1 ≤ n) × (n ≤ many) → ⊥
 unfolding noSuch
 no-such many n e h = true≢false (sym e ∙ rw (ne-eqb n 0 (λ q. omega (arith, h .0)), le-ltb many n (h .1)))
 

@@ -1,12 +1,14 @@
 // The loops of the soundness check: each over single tables, with the test that it computes as its contract.
 ghost use mathlib.Core.Path.{_≡_};
 ghost use mathlib.Core.Bool.{not, cond, _||_};
-ghost use Prim.Native.Nat.{ℕ, _<_};
-ghost use lib.Dec.{eqb, leb};
-ghost use lib.ListN.{getD};
+ghost use Prim.Native.Nat.{ℕ, _<_, _≤_};
+ghost use lib.Dec.{eqb};
+ghost use lib.ListN.{length, getD};
+ghost use Rattle.laws.specs.All.{all, since};
 ghost use Rattle.rules.specs.State.{active};
 ghost use Rattle.rules.specs.Calls.{noSuch};
 ghost use Rattle.tests.specs.Tests.{withinB, emptyB, condsB, treeB, waitsB, flagsB};
+ghost use Rattle.tests.specs.Passes.{cap, After};
 
 // Whether n is none of the numbers 1 to many.
 pub fn no_such(many: usize, n: usize) -> bool
@@ -18,50 +20,63 @@ pub fn no_such(many: usize, n: usize) -> bool
     many < n
 }
 
-fn within_ok(entry: u8, many: usize, top: u8, i: usize) -> bool
-    ensures { λ r. ⌜ r ≡ leb entry (cond (noSuch many i) 0 top) ⌝ }
+// The entries from one place up to another are at most top. The loop keeps the largest: so it compares many at once.
+fn at_most(table: &[u8], from: usize, to: usize, top: u8) -> bool
+    requires { ⌜ to ≤ length (now table) ⌝ }
+    ensures { λ r. ⌜ r ≡ all to (since from (cap top (now (table .entry)))) ⌝ }
 {
-    if no_such(many, i) {
-        return entry == 0;
+    let mut most: u8 = 0;
+    let mut i = from;
+    while i < to {
+        let x = table[i];
+        if most < x {
+            most = x;
+        }
+        i = i + 1;
     }
-    entry <= top
+    most <= top
+}
+
+// The place after the last of 0 to many, in a table of a size.
+fn after(many: usize, size: usize) -> usize
+    ensures { λ r. ⌜ After many size r ⌝ }
+{
+    if many < size { many + 1 } else { size }
 }
 
 // The entries of 1 to many are at most top, the others 0.
 pub fn within(table: &[u8], many: usize, top: u8) -> bool
     ensures { λ r. ⌜ r ≡ withinB (now (table .entry)) many top ⌝ }
 {
-    let mut i: usize = 0;
-    while i < table.len() {
-        if !within_ok(table[i], many, top, i) {
-            return false;
-        }
-        i = i + 1;
+    let size = table.len();
+    let first = after(0, size);
+    let end = after(many, size);
+    if !at_most(table, 0, first, 0) {
+        return false;
     }
-    true
+    if !at_most(table, first, end, top) {
+        return false;
+    }
+    at_most(table, end, size, 0)
 }
 
-fn empty_ok(entry: u32, many: usize, i: usize) -> bool
-    ensures { λ r. ⌜ r ≡ (not (noSuch many i) || eqb entry 0) ⌝ }
-{
-    if no_such(many, i) {
-        return entry == 0;
-    }
-    true
-}
-
-// The entries of other numbers than 1 to many are 0.
+// The entries of other numbers than 1 to many are 0. The loop marks what fails and goes on, as in conds.
 pub fn empty(table: &[u32; 65], many: usize) -> bool
     ensures { λ r. ⌜ r ≡ emptyB (now (table .entry)) many ⌝ }
 {
-    let mut i: usize = 0;
+    let first = after(many, 65);
+    if table[0] != 0 {
+        return false;
+    }
+    let mut bad: u32 = 0;
+    let mut i = first;
     while i < 65 {
-        if !empty_ok(table[i], many, i) {
-            return false;
+        if table[i] != 0 {
+            bad = 1;
         }
         i = i + 1;
     }
-    true
+    bad == 0
 }
 
 // The largest value of a condition.
