@@ -7,6 +7,7 @@ ghost use lib.ListN.{length, getD};
 ghost use Rattle.laws.specs.All.{all, since};
 ghost use Rattle.rules.specs.State.{active};
 ghost use Rattle.rules.specs.Calls.{noSuch};
+ghost use Rattle.rules.specs.Soundness.{Within};
 ghost use Rattle.tests.specs.Tests.{withinB, emptyB, condsB, treeB, waitsB, flagsB};
 ghost use Rattle.tests.specs.Passes.{cap, After};
 
@@ -114,13 +115,13 @@ fn tree_ok(t: usize, state: u8, above: u8) -> bool
     above != 0
 }
 
-// Each invoked task but task 1 has an invoked controller.
-pub fn tree<'a>(controller: &'a [u8; 65], states: &'a [u8; 65]) -> bool
-    requires { ⌜ ((t : ℕ) → t < 65 → getD (now controller) t 0 < 65) ⌝ }
+// Each invoked task but task 1 has an invoked controller. Beyond the last task none is invoked.
+pub fn tree<'a>(controller: &'a [u8; 65], states: &'a [u8; 65], many: usize) -> bool
+    requires { ⌜ ((t : ℕ) → t < 65 → getD (now controller) t 0 < 65) × (Within many (now states) × (many ≤ 64)) ⌝ }
     ensures { λ r. ⌜ r ≡ treeB (now (controller .entry)) (now (states .entry)) ⌝ }
 {
     let mut t: usize = 0;
-    while t < 65 {
+    while t <= many {
         let c = controller[t] as usize;
         if !tree_ok(t, states[t], states[c]) {
             return false;
@@ -165,13 +166,18 @@ fn flag_ok(activation: u8, value: u8, state: u8) -> bool
     value == active_of(state)
 }
 
-// An activation flag is on exactly when its task is active.
-pub fn flags<'a>(activation: &'a [u8; 65], states: &'a [u8; 65], values: &'a [u8; 129]) -> bool
-    requires { ⌜ ((t : ℕ) → t < 65 → getD (now activation) t 0 < 129) ⌝ }
+// An activation flag is on exactly when its task is active. Beyond the last task none has one.
+pub fn flags<'a>(
+    activation: &'a [u8; 65],
+    states: &'a [u8; 65],
+    values: &'a [u8; 129],
+    many: usize,
+) -> bool
+    requires { ⌜ ((t : ℕ) → t < 65 → getD (now activation) t 0 < 129) × (Within many (now activation) × (many ≤ 64)) ⌝ }
     ensures { λ r. ⌜ r ≡ flagsB (now (activation .entry)) (now (states .entry)) (now (values .entry)) ⌝ }
 {
     let mut t: usize = 0;
-    while t < 65 {
+    while t <= many {
         let f = activation[t] as usize;
         if !flag_ok(activation[t], values[f], states[t]) {
             return false;

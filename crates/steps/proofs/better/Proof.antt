@@ -1,4 +1,3 @@
-use borrow.Author.Needs.{needs}
 use borrow.Author.Tests.{eq-eqb, ne-eqb}
 use Rattle.laws.specs.Cases.{or-yes, or-skip}
 use Rattle.steps.proofs.better.Statement.{statement}
