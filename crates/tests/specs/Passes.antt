@@ -54,6 +54,9 @@ most-next top l from most new i h p a b f =
 
 -- ---- what the parts say together
 
+some : (i : ℕ) → i ≢ 0 → 1 ≤ i
+some i n = omega arith
+
 module _ (many : ℕ) where
   -- i is one of the numbers 1 to many
   abbrev Named : ℕ → Type 0
@@ -61,9 +64,6 @@ module _ (many : ℕ) where
 
   is-no-such : (i : ℕ) → Is (noSuch many i) (Named i → ⊥)
   is-no-such i = (no-such many i, (λ n. by (noSuch many i) (λ e. e) (λ e. absurd (n (there-is many i e)))))
-
-  some : (i : ℕ) → i ≢ 0 → 1 ≤ i
-  some i n = omega arith
 
   -- a place that is not of such a number is place 0 or beyond the last
   beyond : (size end i : ℕ) → After many size end → (Named i → ⊥) → i ≢ 0 → i < end → ⊥
