@@ -39,10 +39,12 @@ pub record Sizes (s : State) : Type 0 where
   pub cond : length (s .cond) ≡ 1040
   pub wake : length (s .wake) ≡ 65
 
--- what a rig's numbers name is there in the tables
-pub record Placed (controllers activations : List ℕ) : Type 0 where
+-- what a rig's numbers name is there in the tables, and only its tasks have activation flags
+pub record Placed (tasks : ℕ) (controllers activations : List ℕ) : Type 0 where
+  pub few : tasks ≤ 64
   pub controller : (t : ℕ) → t < 65 → at controllers t < 65
   pub activation : (t : ℕ) → t < 65 → at activations t < 129
+  pub flagged : R.Within tasks activations
 
 -- the links hold chains, the time chain in order, all of it above the count
 pub record ChainsSound (count : ℕ) (wake : List ℕ) (l : Links) : Type 0 where
@@ -227,15 +229,17 @@ sound-order x h =
     }
 
 -- what the tests ask of the rig and of the count
-pub placed : (g : Rig) (cycles : List Cycle) → Right g cycles → Placed (g .controller) (g .activation)
+pub placed : (g : Rig) (cycles : List Cycle) → Right g cycles → Placed (g .tasks) (g .controller) (g .activation)
 placed g cycles h =
     let ok = rig-ok g cycles h in
     record {
+      few = ok .tasks-le;
       controller = λ t b.
           by (eqb t 0)
           (λ e. let z : t ≡ 0 = eqb-true t 0 e in omega (arith, ap (at (g .controller)) z, ok .controller-none))
           (λ e. omega (arith, ok .controller-low t (eqb-false t 0 e)));
       activation = λ t b. omega (arith, ok .activation-le t, h .flag-count .1);
+      flagged = ok .activation-task;
     }
 
 pub count-low : (g : Rig) (s : State) → allOf (tableTests g s) ≡ true → s .count ≤ 2147483647

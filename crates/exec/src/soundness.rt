@@ -27,7 +27,7 @@ fn tables_ok<'a>(
     on: &'a [u16; 65],
     running: u8,
 ) -> bool
-    requires { ⌜ Placed (now controller) (now activation) ⌝ }
+    requires { ⌜ Placed tasks (now controller) (now activation) ⌝ }
     ensures { λ r.
         ⌜
         r
@@ -43,7 +43,7 @@ fn tables_ok<'a>(
     if !tests::within(state, many, 3) {
         return false;
     }
-    if !tests::tree(controller, state) {
+    if !tests::tree(controller, state, many) {
         return false;
     }
     if !tests::within(value, top, 1) {
@@ -55,7 +55,7 @@ fn tables_ok<'a>(
     if !tests::empty(wake, many) {
         return false;
     }
-    if !tests::flags(activation, state, value) {
+    if !tests::flags(activation, state, value, many) {
         return false;
     }
     if !tests::waits(state, on) {

@@ -1,13 +1,14 @@
 -- A test at each of the first n numbers, as a Bool that code can compute, and what it says of each.
 use mathlib.Core.Path.{_≡_, refl, sym, _∙_, ap}
-use mathlib.Core.Bool.{Bool, true, false, _&&_, true≢false, false≢true}
-use Prim.Native.Nat.{ℕ, zero, suc, _+_, _<_}
+use mathlib.Core.Bool.{Bool, true, false, _&&_, _||_, true≢false, false≢true}
+use Prim.Native.Nat.{ℕ, zero, suc, _+_, _-_, _≤_, _<_}
 use mathlib.Core.List.{List, [], _∷_}
-use lib.Dec.{eqb}
+use lib.Dec.{eqb, ltb}
 use lib.ListN.{getD}
 use native.Mathlib.Numerals.{add-one}
 use native.Mathlib.Omega.{arith}
-use Rattle.laws.specs.Cases.{by-bool, by-eqb, below-but, and-go, and-yes}
+use borrow.Author.Tests.{ltb-true, ltb-false, lt-ltb, le-ltb}
+use Rattle.laws.specs.Cases.{by, by-bool, by-eqb, below-but, and-go, and-yes, or-yes, or-skip}
 
 -- shut but for `unfolding all`, so that `all 64 p` is never run out
 unfoldable pub all : ℕ → (ℕ → Bool) → Bool
@@ -111,3 +112,27 @@ passed-next i test p e q = rw q (p ∙ sym (rw add-one (rw e (and-yes (all i tes
 
 pub passed-not : {new : ℕ} (i : ℕ) (test : ℕ → Bool) → test i ≡ false → new ≡ 1 → Passed new (i + 1) test
 passed-not i test e q = rw q (sym (all-not (i + 1) test i (omega arith) e))
+
+-- numbers that pass make no difference
+pub all-more : (n m : ℕ) (p : ℕ → Bool) → n ≤ m → ((k : ℕ) → n ≤ k → k < m → p k ≡ true) → all n p ≡ all m p
+all-more n m p h f =
+    by-bool (all n p) (λ b. b ≡ all m p)
+    (λ e. sym (all-all m p (λ k l. by (ltb k n) (λ q. all-at n p e k (ltb-true k n q)) (λ q. f k (ltb-false k n q) l))))
+    (λ e. by-bool (all m p) (λ b. false ≡ b) (λ w. sym e ∙ all-all n p (λ k l. all-at m p w k (omega (arith, l, h)))) (λ w. refl))
+
+-- A test of the numbers from one on, for a loop that begins there: the numbers before it pass. Where the loop begins, a number
+-- that it comes to, and where it ends: at `to`, or at once.
+abbrev pub since : ℕ → (ℕ → Bool) → ℕ → Bool
+since from p i = ltb i from || p i
+
+pub since-start : (from : ℕ) (p : ℕ → Bool) (n : ℕ) → n ≤ from → all n (since from p) ≡ true
+since-start from p n h = all-all n (since from p) (λ k g. sym (or-yes (ltb k from) (p k) (lt-ltb k from (omega (arith, g, h)))))
+
+pub since-at : (from : ℕ) (p : ℕ → Bool) (i : ℕ) → from ≤ i → p i ≡ since from p i
+since-at from p i h = or-skip (ltb i from) (p i) (le-ltb i from h)
+
+pub since-end : (from to i : ℕ) (p : ℕ → Bool) → from ≤ i → i - from ≤ to - from → to ≤ i → all i (since from p) ≡ all to (since from p)
+since-end from to i p a b d =
+    by (ltb to from)
+    (λ e. since-start from p i (omega (arith, ltb-true to from e)) ∙ sym (since-start from p to (omega (arith, ltb-true to from e))))
+    (λ e. ap (λ (k : ℕ). all k (since from p)) (omega (arith, ltb-false to from e)))

@@ -1,14 +1,14 @@
 -- The tests of a table's entries as the loops that do not leave early compute them, and that together they say what the tests
 -- of Tests.antt say.
-use mathlib.Core.Path.{_≡_, refl, sym, _∙_, ap, subst}
+use mathlib.Core.Path.{_≡_, refl, _∙_, subst}
 use mathlib.Core.Bool.{Bool, true, false, cond, _&&_, _||_}
 use mathlib.Core.List.{List}
 use Prim.Native.Nat.{ℕ, _+_, _-_, _*_, _≤_, _<_}
 use native.Mathlib.Omega.{arith}
 use lib.Dec.{eqb, leb, ltb, leb·zero}
 use borrow.Author.Tests.{eqb-true, eqb-false, leb-true, leb-false, ltb-true, ltb-false, le-leb, lt-leb, lt-ltb, le-ltb}
-use Rattle.laws.specs.Cases.{by, by-eqb, and-go, and-stop, and-no, or-yes}
-use Rattle.laws.specs.All.{all, all-all, all-same, all-three, Passed, passed-next, passed-not}
+use Rattle.laws.specs.Cases.{by, by-eqb, and-go, and-stop, and-no}
+use Rattle.laws.specs.All.{all, all-same, all-three, since, Passed, passed-next, passed-not}
 use Rattle.laws.specs.Decides.{is-eqb, is-leb, is-ltb, is-and, is-else, is-all, is-said, is-same}
 use Rattle.rigtests.specs.Tests.{at, within, smallOne, conditionsB, risesTest, lineRises, conditionTasksB, lineOne, linesB, lineZeroOne, lineZerosB}
 
@@ -16,9 +16,12 @@ use Rattle.rigtests.specs.Tests.{at, within, smallOne, conditionsB, rise
 abbrev pub underOne : List ℕ → List ℕ → ℕ → Bool
 underOne a b i = leb (at a i) (at b i)
 
--- 0 from a place on
+-- 0, and 0 from a place on
+abbrev pub zeroOne : List ℕ → ℕ → Bool
+zeroOne l i = eqb (at l i) 0
+
 abbrev pub zeroFrom : ℕ → List ℕ → ℕ → Bool
-zeroFrom from l i = ltb i from || eqb (at l i) 0
+zeroFrom from l = since from (zeroOne l)
 
 abbrev pub betweenOne : ℕ → ℕ → List ℕ → ℕ → Bool
 betweenOne low high l k = within low (at l k) high
@@ -52,18 +55,6 @@ line-zeros-each n atask apos aflag =
     all-same 1024 (lineZeroOne n atask apos aflag) (λ k. zeroFrom n atask k && (zeroFrom n apos k && zeroFrom n aflag k))
     (λ k h. or-three (ltb k n) (eqb (at atask k) 0) (eqb (at apos k) 0) (eqb (at aflag k) 0))
     ∙ all-three 1024 (zeroFrom n atask) (zeroFrom n apos) (zeroFrom n aflag)
-
--- the places before the first that must be 0
-pub zeros-start : (from : ℕ) (l : List ℕ) (n : ℕ) → n ≤ from → all n (zeroFrom from l) ≡ true
-zeros-start from l n h =
-    all-all n (zeroFrom from l) (λ k g. sym (or-yes (ltb k from) (eqb (at l k) 0) (lt-ltb k from (omega (arith, g, h)))))
-
--- where the loop ends: at `to`, or at once
-pub zeros-end : (from to i : ℕ) (l : List ℕ) → from ≤ i → i - from ≤ to - from → to ≤ i → all i (zeroFrom from l) ≡ all to (zeroFrom from l)
-zeros-end from to i l a b d =
-    by (ltb to from)
-    (λ e. zeros-start from l i (omega (arith, ltb-true to from e)) ∙ sym (zeros-start from l to (omega (arith, ltb-true to from e))))
-    (λ e. ap (λ (k : ℕ). all k (zeroFrom from l)) (omega (arith, ltb-false to from e)))
 
 -- no condition of task 0, none of a task above the last
 module _ (tasks : ℕ) (present : List ℕ) where

@@ -1,17 +1,24 @@
--- Tests with equal numbers are equal.
+-- What the code's tests come to.
 use mathlib.Core.Path.{_≡_, refl, sym}
+use mathlib.Core.Logic.{_≢_}
 use mathlib.Core.Bool.{Bool, true, false, not, cond, _&&_, _||_}
 use mathlib.Core.List.{List}
 use lib.ListN.{getD}
-use Rattle.rules.specs.Running.{best, rank, chosen}
-use Prim.Native.Nat.{ℕ, zero, suc}
+use Rattle.rules.specs.Running.{best, bestOne, rank, chosen}
+use Prim.Native.Nat.{ℕ, zero, suc, _+_}
 use native.Mathlib.Omega.{arith}
-use borrow.Author.Tests.{lt-ltb}
+use borrow.Author.Tests.{lt-ltb, eq-eqb, ne-eqb}
 use Rattle.rules.specs.State.{active}
 use lib.Dec.{eqb, ltb, leb}
 
-pub better-same : (s b : ℕ) {x y u v : ℕ} → x ≡ u → y ≡ v → (eqb s 3 && (eqb b 0 || ltb u v)) ≡ (eqb s 3 && (eqb b 0 || ltb x y))
-better-same s b e f = rw (e, f)
+-- a turn of the search for the best: a task that is dispatchable is compared by rank, another is passed over
+module _ (pv pr : ℕ → ℕ) (l : List ℕ) (i b : ℕ) where
+  pub best-compares : (x y : ℕ) (r : Bool) → getD l (i + 1) 0 ≡ 3 → x ≡ rank pv pr b → y ≡ rank pv pr (i + 1)
+      → r ≡ (eqb b 0 || ltb x y) → cond r (i + 1) b ≡ bestOne pv pr l i b
+  best-compares x y r es ex ey er = rw (er, ex, ey, eq-eqb (getD l (i + 1) 0) 3 es)
+
+  pub best-passes : getD l (i + 1) 0 ≢ 3 → b ≡ bestOne pv pr l i b
+  best-passes n = rw (ne-eqb (getD l (i + 1) 0) 3 n)
 
 -- three tests, of which one fails
 pub and-one : (a b : Bool) → a ≡ false → false ≡ (a && b)
@@ -26,7 +33,7 @@ pub and-two : (a b c : Bool) → a ≡ true → c ≡ true → b ≡ (a && (b &&
 and-two a true c e f = rw (e, f)
 and-two a false c e f = rw e
 
--- what the code's choice comes to
+-- who runs, by the best and by who ran
 pub choice : (pv pr : ℕ → ℕ) (l : List ℕ) (n b x y : ℕ) (r : Bool) → b ≡ best pv pr l 64 → x ≡ rank pv pr b → y ≡ rank pv pr n
     → r ≡ (not (eqb n 0) && (eqb (getD l n 0) 3 && leb x y)) → cond r n b ≡ chosen pv pr l n
 unfolding chosen

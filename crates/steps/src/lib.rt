@@ -47,14 +47,11 @@ pub fn rank(pv: u8, pr: u8) -> u32
     256 * (pv as u32) + (pr as u32)
 }
 
-pub fn better(s: u8, b: usize, rb: u32, rt: u32) -> bool
-    ensures { λ r. ⌜ r ≡ (eqb s 3 && (eqb b 0 || ltb rb rt)) ⌝ }
+// A task of rank rt takes the place of b, of rank rb, when it is higher; 0 is no task.
+pub fn better(b: usize, rb: u32, rt: u32) -> bool
+    ensures { λ r. ⌜ r ≡ (eqb b 0 || ltb rb rt) ⌝ }
 {
-    if s == 3 {
-        if b == 0 { true } else { rb < rt }
-    } else {
-        false
-    }
+    if b == 0 { true } else { rb < rt }
 }
 
 pub fn stays(n: usize, s: u8, rb: u32, rn: u32) -> bool
@@ -198,10 +195,12 @@ pub fn best<'a>(privileged: &'a [u8; 65], priority: &'a [u8; 65], state: &[u8; 6
     let mut i: usize = 0;
     while i < 64 {
         let t = i + 1;
-        let rb = rank(privileged[b], priority[b]);
-        let rt = rank(privileged[t], priority[t]);
-        if better(state[t], b, rb, rt) {
-            b = t;
+        if state[t] == 3 {
+            let rb = rank(privileged[b], priority[b]);
+            let rt = rank(privileged[t], priority[t]);
+            if better(b, rb, rt) {
+                b = t;
+            }
         }
         i = i + 1;
     }

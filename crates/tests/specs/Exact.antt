@@ -3,13 +3,13 @@ use mathlib.Core.Path.{_≡_, refl, sym, _∙_, ap}
 use mathlib.Core.Logic.{_≢_, _↔_}
 use mathlib.Core.Bool.{Bool, true, false, not, cond, _||_, true≢false, false≢true}
 use mathlib.Core.List.{List}
-use Prim.Native.Nat.{ℕ, _≤_, _<_}
+use Prim.Native.Nat.{ℕ, _+_, _≤_, _<_}
 use native.Mathlib.Omega.{arith}
 use lib.Dec.{eqb, leb, ltb}
 use lib.ListN.{length, getD, List·getD-eq-default}
 use borrow.Author.Tests.{leb-true, le-leb, ltb-true, ltb-false, le-ltb, eqb-true, eqb-false, eq-eqb, ne-eqb}
 use Rattle.laws.specs.Cases.{by, by-eqb}
-use Rattle.laws.specs.All.{all-at, all-all}
+use Rattle.laws.specs.All.{all, all-at, all-all, all-more}
 use Rattle.laws.specs.Tables.{has-place}
 use Rattle.rules.specs.State.{active}
 use Rattle.rules.specs.Calls.{noSuch}
@@ -18,7 +18,7 @@ use Rattle.rules.specs.Acceptance.{there-is}
 use Rattle.tests.specs.Tests.{withinOne, withinB, emptyOne, emptyB, condOne, condsB, treeOne, treeB, waitOne, waitsB, flagOne, flagsB}
 
 -- a number that is none of 1 to many
-no-such : (many n : ℕ) → noSuch many n ≡ true → (1 ≤ n) × (n ≤ many) → ⊥
+pub no-such : (many n : ℕ) → noSuch many n ≡ true → (1 ≤ n) × (n ≤ many) → ⊥
 unfolding noSuch
 no-such many n e h = true≢false (sym e ∙ rw (ne-eqb n 0 (λ q. omega (arith, h .0)), le-ltb many n (h .1)))
 
@@ -119,6 +119,12 @@ module _ (controller states : List ℕ) where
   tree-back h =
       all-all 65 (treeOne controller states) (λ t l. one-tree t (getD states t 0) (getD states (getD controller t 0) 0) (h t))
 
+  -- no task beyond the last is invoked, so those up to it are all
+  pub tree-many : (many : ℕ) → Within many states → many ≤ 64 → all (many + 1) (treeOne controller states) ≡ treeB controller states
+  tree-many many w h =
+      all-more (many + 1) 65 (treeOne controller states) (omega (arith, h))
+      (λ t a b. one-tree t (getD states t 0) (getD states (getD controller t 0) 0) (λ n m. absurd (omega (arith, a, w t m .1))))
+
 module _ (a b : ℕ) where
   wait-one : cond (eqb a 2) (not (eqb b 0)) (eqb b 0) ≡ true → (a ≡ 2) ↔ (b ≢ 0)
   wait-one =
@@ -158,3 +164,11 @@ module _ (activation states values : List ℕ) where
   flags-back h =
       all-all 65 (flagOne activation states values)
       (λ t l. one-flag (getD activation t 0) (getD values (getD activation t 0) 0) (getD states t 0) (h t))
+
+  -- no task beyond the last has an activation flag, so those up to it are all
+  pub flags-many : (many : ℕ) → Within many activation → many ≤ 64
+      → all (many + 1) (flagOne activation states values) ≡ flagsB activation states values
+  flags-many many w h =
+      all-more (many + 1) 65 (flagOne activation states values) (omega (arith, h))
+      (λ t a b.
+      one-flag (getD activation t 0) (getD values (getD activation t 0) 0) (getD states t 0) (λ n. absurd (omega (arith, a, w t n .1))))

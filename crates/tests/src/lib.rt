@@ -1,12 +1,15 @@
 // The loops of the soundness check: each over single tables, with the test that it computes as its contract.
 ghost use mathlib.Core.Path.{_≡_};
 ghost use mathlib.Core.Bool.{not, cond, _||_};
-ghost use Prim.Native.Nat.{ℕ, _<_};
-ghost use lib.Dec.{eqb, leb};
-ghost use lib.ListN.{getD};
+ghost use Prim.Native.Nat.{ℕ, _<_, _≤_};
+ghost use lib.Dec.{eqb};
+ghost use lib.ListN.{length, getD};
+ghost use Rattle.laws.specs.All.{all, since};
 ghost use Rattle.rules.specs.State.{active};
 ghost use Rattle.rules.specs.Calls.{noSuch};
+ghost use Rattle.rules.specs.Soundness.{Within};
 ghost use Rattle.tests.specs.Tests.{withinB, emptyB, condsB, treeB, waitsB, flagsB};
+ghost use Rattle.tests.specs.Passes.{cap, After};
 
 // Whether n is none of the numbers 1 to many.
 pub fn no_such(many: usize, n: usize) -> bool
@@ -18,50 +21,63 @@ pub fn no_such(many: usize, n: usize) -> bool
     many < n
 }
 
-fn within_ok(entry: u8, many: usize, top: u8, i: usize) -> bool
-    ensures { λ r. ⌜ r ≡ leb entry (cond (noSuch many i) 0 top) ⌝ }
+// The entries from one place up to another are at most top. The loop keeps the largest: so it compares many at once.
+fn at_most(table: &[u8], from: usize, to: usize, top: u8) -> bool
+    requires { ⌜ to ≤ length (now table) ⌝ }
+    ensures { λ r. ⌜ r ≡ all to (since from (cap top (now (table .entry)))) ⌝ }
 {
-    if no_such(many, i) {
-        return entry == 0;
+    let mut most: u8 = 0;
+    let mut i = from;
+    while i < to {
+        let x = table[i];
+        if most < x {
+            most = x;
+        }
+        i = i + 1;
     }
-    entry <= top
+    most <= top
+}
+
+// The place after the last of 0 to many, in a table of a size.
+fn after(many: usize, size: usize) -> usize
+    ensures { λ r. ⌜ After many size r ⌝ }
+{
+    if many < size { many + 1 } else { size }
 }
 
 // The entries of 1 to many are at most top, the others 0.
 pub fn within(table: &[u8], many: usize, top: u8) -> bool
     ensures { λ r. ⌜ r ≡ withinB (now (table .entry)) many top ⌝ }
 {
-    let mut i: usize = 0;
-    while i < table.len() {
-        if !within_ok(table[i], many, top, i) {
-            return false;
-        }
-        i = i + 1;
+    let size = table.len();
+    let first = after(0, size);
+    let end = after(many, size);
+    if !at_most(table, 0, first, 0) {
+        return false;
     }
-    true
+    if !at_most(table, first, end, top) {
+        return false;
+    }
+    at_most(table, end, size, 0)
 }
 
-fn empty_ok(entry: u32, many: usize, i: usize) -> bool
-    ensures { λ r. ⌜ r ≡ (not (noSuch many i) || eqb entry 0) ⌝ }
-{
-    if no_such(many, i) {
-        return entry == 0;
-    }
-    true
-}
-
-// The entries of other numbers than 1 to many are 0.
+// The entries of other numbers than 1 to many are 0. The loop marks what fails and goes on, as in conds.
 pub fn empty(table: &[u32; 65], many: usize) -> bool
     ensures { λ r. ⌜ r ≡ emptyB (now (table .entry)) many ⌝ }
 {
-    let mut i: usize = 0;
+    let first = after(many, 65);
+    if table[0] != 0 {
+        return false;
+    }
+    let mut bad: u32 = 0;
+    let mut i = first;
     while i < 65 {
-        if !empty_ok(table[i], many, i) {
-            return false;
+        if table[i] != 0 {
+            bad = 1;
         }
         i = i + 1;
     }
-    true
+    bad == 0
 }
 
 // The largest value of a condition.
@@ -99,13 +115,13 @@ fn tree_ok(t: usize, state: u8, above: u8) -> bool
     above != 0
 }
 
-// Each invoked task but task 1 has an invoked controller.
-pub fn tree<'a>(controller: &'a [u8; 65], states: &'a [u8; 65]) -> bool
-    requires { ⌜ ((t : ℕ) → t < 65 → getD (now controller) t 0 < 65) ⌝ }
+// Each invoked task but task 1 has an invoked controller. Beyond the last task none is invoked.
+pub fn tree<'a>(controller: &'a [u8; 65], states: &'a [u8; 65], many: usize) -> bool
+    requires { ⌜ ((t : ℕ) → t < 65 → getD (now controller) t 0 < 65) × (Within many (now states) × (many ≤ 64)) ⌝ }
     ensures { λ r. ⌜ r ≡ treeB (now (controller .entry)) (now (states .entry)) ⌝ }
 {
     let mut t: usize = 0;
-    while t < 65 {
+    while t <= many {
         let c = controller[t] as usize;
         if !tree_ok(t, states[t], states[c]) {
             return false;
@@ -150,13 +166,18 @@ fn flag_ok(activation: u8, value: u8, state: u8) -> bool
     value == active_of(state)
 }
 
-// An activation flag is on exactly when its task is active.
-pub fn flags<'a>(activation: &'a [u8; 65], states: &'a [u8; 65], values: &'a [u8; 129]) -> bool
-    requires { ⌜ ((t : ℕ) → t < 65 → getD (now activation) t 0 < 129) ⌝ }
+// An activation flag is on exactly when its task is active. Beyond the last task none has one.
+pub fn flags<'a>(
+    activation: &'a [u8; 65],
+    states: &'a [u8; 65],
+    values: &'a [u8; 129],
+    many: usize,
+) -> bool
+    requires { ⌜ ((t : ℕ) → t < 65 → getD (now activation) t 0 < 129) × (Within many (now activation) × (many ≤ 64)) ⌝ }
     ensures { λ r. ⌜ r ≡ flagsB (now (activation .entry)) (now (states .entry)) (now (values .entry)) ⌝ }
 {
     let mut t: usize = 0;
-    while t < 65 {
+    while t <= many {
         let f = activation[t] as usize;
         if !flag_ok(activation[t], values[f], states[t]) {
             return false;

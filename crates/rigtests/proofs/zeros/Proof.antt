@@ -3,10 +3,9 @@ use mathlib.Core.Logic.{⊎-elim}
 use mathlib.Core.Path.{sym, _∙_}
 use Prim.Native.Nat.{_≤_, _-_}
 use native.Mathlib.Omega.{arith}
-use borrow.Author.Tests.{eq-eqb, ne-eqb, le-ltb}
-use Rattle.laws.specs.All.{Passed, passed-next, passed-not}
-use Rattle.laws.specs.Cases.{or-skip}
-use Rattle.rigtests.specs.Passes.{zeroFrom, zeros-start, zeros-end}
+use borrow.Author.Tests.{eq-eqb, ne-eqb}
+use Rattle.laws.specs.All.{Passed, passed-next, passed-not, since-start, since-at, since-end}
+use Rattle.rigtests.specs.Passes.{zeroOne, zeroFrom}
 use Rattle.rigtests.proofs.zeros.Statement.{statement}
 use Rattle.rigtests.proofs.zeros.Tie as tie
 use Rattle.rigtests.proofs.zeros.Reads as reads
@@ -20,7 +19,7 @@ abbrev μ-loop : tie.MeasureT-loop
 
 -- src/lib.rt:161:5
 loop-holds : tie.Need-loop-holds Inv-loop μ-loop
-loop-holds c = (sym (zeros-start (c .args .from) (c .args .l .now) (c .args .from) (omega arith)), search needs)
+loop-holds c = (sym (since-start (c .args .from) _ (c .args .from) (omega arith)), search needs)
 
 -- src/lib.rt:162:12
 shared-slice-read-if1 : tie.Need-shared-slice-read-if1 Inv-loop μ-loop
@@ -38,9 +37,10 @@ loop-less c = search needs
 loop-again : tie.Need-loop-again Inv-loop μ-loop
 loop-again c =
     let d = c .before .before .before .loop .inv in
-    let k = le-ltb (c .before .before .before .loop .i) (c .before .before .before .before .args .from) (d .1 .0) in (
-      ⊎-elim (λ w. passed-not _ _ (sym (or-skip _ _ k) ∙ ne-eqb _ 0 (w .0 .taken)) (w .1))
-          (λ w. passed-next _ _ (d .0) (sym (or-skip _ _ k) ∙ eq-eqb _ 0 (w .0 .left)) (w .1))
+    let a = c .before .before .before .before .args in
+    let k = since-at (a .from) (zeroOne (a .l .now)) (c .before .before .before .loop .i) (d .1 .0) in (
+      ⊎-elim (λ w. passed-not _ _ (sym k ∙ ne-eqb _ 0 (w .0 .taken)) (w .1))
+          (λ w. passed-next _ _ (d .0) (sym k ∙ eq-eqb _ 0 (w .0 .left)) (w .1))
           (c .if1 .came),
       search needs,
     )
@@ -50,7 +50,7 @@ returns : tie.Need-returns Inv-loop μ-loop
 returns c =
     let a = c .before .before .args in
     let d = c .before .loop .inv in
-    d .0 ∙ zeros-end (a .from) (a .to) (c .before .loop .i) (a .l .now) (d .1 .0) (d .1 .1) (c .loop-test .left)
+    d .0 ∙ since-end (a .from) (a .to) (c .before .loop .i) _ (d .1 .0) (d .1 .1) (c .loop-test .left)
 
 pub zeros-spec : {M : Type 1} → statement M
 zeros-spec =

@@ -1,20 +1,13 @@
 use borrow.Author.Tests.{eq-eqb, ne-eqb}
+use Rattle.laws.specs.Cases.{or-yes, or-skip}
 use Rattle.steps.proofs.better.Statement.{statement}
 use Rattle.steps.proofs.better.Tie as tie
-use Rattle.steps.proofs.better.Reads as reads
-use Rattle.steps.proofs.better.Lts as lts
 
--- src/lib.rt:43:1
 returns : tie.Need-returns
-returns c = simp (eq-eqb _ _ (c .before .if1 .taken), eq-eqb _ _ (c .if2 .taken))
+returns c = or-yes _ _ (eq-eqb _ _ (c .if1 .taken))
 
--- src/lib.rt:43:1
 returns-2 : tie.Need-returns-2
-returns-2 c = simp (eq-eqb _ _ (c .before .if1 .taken), ne-eqb _ _ (c .if2 .left))
-
--- src/lib.rt:43:1
-returns-3 : tie.Need-returns-3
-returns-3 c = simp (ne-eqb _ _ (c .if1 .left))
+returns-2 c = or-skip _ _ (ne-eqb _ _ (c .if1 .left))
 
 pub better-spec : {M : Type 1} → statement M
-better-spec = tie.close (tie.spec returns returns-2 returns-3)
+better-spec = tie.close (tie.spec returns returns-2)

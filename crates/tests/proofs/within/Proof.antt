@@ -1,58 +1,59 @@
 use borrow.Author.Needs.{needs}
-use mathlib.Core.Path.{_≡_, sym, _∙_}
-use mathlib.Core.Bool.{true}
+use mathlib.Core.Path.{_≡_, refl, sym, _∙_}
+use mathlib.Core.Bool.{_&&_}
 use borrow.Author.Tests.{not-true, not-false}
-use Prim.Native.Nat.{_≤_, _-_}
-use native.Mathlib.Omega.{arith}
-use Rattle.laws.specs.All.{all, all-zero, all-next, all-not}
-use Rattle.tests.specs.Tests.{withinOne}
 use lib.ListN.{length}
+use Rattle.laws.specs.Cases.{and-go, and-stop}
+use Rattle.laws.specs.All.{all, since}
+use Rattle.tests.specs.Tests.{withinB}
+use Rattle.tests.specs.Passes.{cap, within-each}
 use Rattle.tests.proofs.within.Statement.{statement}
 use Rattle.tests.proofs.within.Tie as tie
 
-abbrev Inv-loop : tie.InvT-loop
-Inv-loop table many top i₀ i = (all i (withinOne table many top) ≡ true) × (i ≤ length table)
+-- the table's three parts
+each : (c : tie.After-after2) →
+    let a = c .before .before .before .args in
+    let first = c .before .after .result in
+    let end = c .after2 .result in
+    let l = a .table .now in
+    withinB l (a .many) (a .top) ≡ (all first (since 0 (cap 0 l)) && (all end (since first (cap (a .top) l)) && all (length l) (since end (cap 0 l))))
+each c =
+    let a = c .before .before .before .args in
+    within-each (a .many) (a .table .now) (a .top) _ _ (c .before .after .ensures) (c .after2 .ensures)
 
-abbrev μ-loop : tie.MeasureT-loop
-μ-loop table many top i₀ i = length table - i
+after-requires : tie.Need-after-requires
+after-requires c κs = search needs
 
-loop-holds : tie.Need-loop-holds Inv-loop μ-loop
-loop-holds c = (all-zero _, search needs)
+after-requires-2 : tie.Need-after-requires-2
+after-requires-2 c κs = search needs
 
-shared-slice-read-within-ok : tie.Need-shared-slice-read-within-ok Inv-loop μ-loop
-shared-slice-read-within-ok c = search needs
+at-most-requires : tie.Need-at-most-requires
+at-most-requires c κs = search needs
 
-within-ok-requires : tie.Need-within-ok-requires Inv-loop μ-loop
-within-ok-requires c κs = search needs
+returns : tie.Need-returns
+returns c = sym (each (c .before .before) ∙ and-stop _ (sym (c .before .at-most .ensures) ∙ not-true _ (c .if1 .taken)))
 
-returns : tie.Need-returns Inv-loop μ-loop
-returns c = sym (all-not _ _ (c .before .before .before .before .loop .i) (c .before .before .before .loop-test .taken) (sym (c .before .within-ok .ensures) ∙ not-true _ (c .if1 .taken)))
+at-most-requires-2 : tie.Need-at-most-requires-2
+at-most-requires-2 c κs = search needs
 
-add-i : tie.Need-add-i Inv-loop μ-loop
-add-i c = search needs
+returns-2 : tie.Need-returns-2
+returns-2 c = sym (each (c .before .before .before .before) ∙ and-go (sym (c .before .before .before .at-most .ensures) ∙ not-false _ (c .before .before .if1 .left)) (and-stop _ (sym (c .before .at-most2 .ensures) ∙ not-true _ (c .if2 .taken))))
 
-loop-less : tie.Need-loop-less Inv-loop μ-loop
-loop-less c = search needs
+at-most-requires-3 : tie.Need-at-most-requires-3
+at-most-requires-3 c κs = search needs
 
-loop-again : tie.Need-loop-again Inv-loop μ-loop
-loop-again c = (all-next _ _ (c .before .before .before .before .loop .inv .0) (sym (c .before .within-ok .ensures) ∙ not-false _ (c .if1 .left)), search needs)
-
-returns-2 : tie.Need-returns-2 Inv-loop μ-loop
-returns-2 c =
-    let e : c .before .loop .i ≡ length (c .before .before .before .args .table .now) = omega arith in
-    sym (rw e at (c .before .loop .inv .0))
+returns-3 : tie.Need-returns-3
+returns-3 c = c .at-most3 .ensures ∙ sym (each (c .before .before .before .before .before) ∙ and-go (sym (c .before .before .before .before .at-most .ensures) ∙ not-false _ (c .before .before .before .if1 .left)) (and-go (sym (c .before .before .at-most2 .ensures) ∙ not-false _ (c .before .if2 .left)) refl))
 
 pub within-spec : {M : Type 1} → statement M
 within-spec =
     tie.close
     (tie.spec
-    Inv-loop
-    μ-loop
-    loop-holds
-    shared-slice-read-within-ok
-    within-ok-requires
+    after-requires
+    after-requires-2
+    at-most-requires
     returns
-    add-i
-    loop-less
-    loop-again
-    returns-2)
+    at-most-requires-2
+    returns-2
+    at-most-requires-3
+    returns-3)

@@ -3,6 +3,7 @@ use mathlib.Core.Bool.{Bool}
 use mathlib.Core.List.{List}
 use borrow.Author.Tests.{not-true, not-false, lt-leb, le-leb}
 use Rattle.laws.specs.All.{allOf-not}
+use Rattle.tests.specs.Exact.{within-facts}
 use Rattle.exec.specs.Check.{tableTestsOf, last-test}
 use borrow.Author.Needs.{needs}
 use Rattle.exec.proofs.soundness.tables_ok.Statement.{statement}
@@ -26,7 +27,12 @@ unfolding tableTestsOf
 returns-2 c = sym (allOf-not (tests-at (c .before .before .before .before)) 1 (sym (c .before .within .ensures) ∙ not-true _ (c .if2 .taken)))
 
 tree-requires : tie.Need-tree-requires
-tree-requires c κs = search needs
+tree-requires c κs =
+    let d = c .before .before .before .before in
+    let a = d .args in (
+      d .pre .controller,
+      (within-facts (a .state .now) (a .tasks) 3 (sym (c .before .within .ensures) ∙ not-false _ (c .if2 .left)) .1, d .pre .few),
+    )
 
 returns-3 : tie.Need-returns-3
 unfolding tableTestsOf
