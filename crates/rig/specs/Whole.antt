@@ -15,7 +15,7 @@ use Rattle.rigtests.specs.Tables.{LinesFit, marked}
 use Rattle.rig.specs.declared.Cycle.{Cycle}
 use Rattle.rig.specs.declared.Rig.{Rig}
 use Rattle.rig.specs.Rules.{at, flagAt, Shaped, Right}
-use Rattle.rig.specs.Tests.{minorMarks, shapedTests, countTests, numberTests, taskTests, lineTests, taskGroup, lineGroup, tests, firstBroken, rightB}
+use Rattle.rig.specs.Tests.{minorMarks, cyclesRiseB, shapedTests, countTests, orderTests, numberTests, taskTests, lineTests, taskGroup, lineGroup, tests, firstBroken, rightB}
 use Rattle.rig.specs.Marks.{not-minor-law, minor-conditions-law}
 use Rattle.rig.specs.Tree.{controllers-is}
 use Rattle.rig.specs.Exact.{within-is, small-is, conditions-is, rows-is, line-order-is, cycle-order-is, condition-numbers-is, lines-is, cycle-numbers-is, serves-one-is, not-minor-is, line-has-condition-is, condition-has-line-is, minor-conditions-is, sender-differs-is, task-zeros-is, line-zeros-is, row-zeros-is}
@@ -156,6 +156,11 @@ counted tasks flags master alines rows r e z =
       lines-le = leb-true alines 1024 (k 3);
       rows-le = leb-true rows 64 (k 4);
     }
+
+pub risen : (alines : ℕ) (atask apos aflag : List ℕ) (cycles : List Cycle) (r : ℕ) → r ≡ firstFalse 10 (orderTests alines atask apos aflag cycles)
+    → r ≡ 0 → cyclesRiseB cycles ≡ true
+risen alines atask apos aflag cycles r e z =
+    allOf-at (orderTests alines atask apos aflag cycles) (first-all 10 (orderTests alines atask apos aflag cycles) (omega arith) (sym e ∙ z)) 1
 
 pub record Numbered (g : Rig) (cycles : List Cycle) : Type 0 where
   pub activation : (t : ℕ) → t < 65 → at (g .activation) t ≤ 128

@@ -181,8 +181,7 @@ fn cycles_rise(cycles: [Cycle; 64]) -> bool
     let mut c: usize = 0;
     while c < 64 {
         let cycle = cycles[c];
-        let flags = cycle.flags;
-        if !rigtests::cycle_rises(flags) {
+        if !rigtests::cycle_rises(&cycle.flags) {
             return false;
         }
         c = c + 1;
@@ -190,7 +189,9 @@ fn cycles_rise(cycles: [Cycle; 64]) -> bool
     true
 }
 
+// No flag of a cycle is above top; the cycles rise, so that each is looked at up to its last flag only.
 fn cycles_small(top: u8, cycles: [Cycle; 64]) -> bool
+    requires { ⌜ cyclesRiseB cycles ≡ true ⌝ }
     ensures { λ r. ⌜ r ≡ cyclesSmallB top cycles ⌝ }
 {
     let mut c: usize = 0;
@@ -206,7 +207,7 @@ fn cycles_small(top: u8, cycles: [Cycle; 64]) -> bool
 
 // The minor-cycle flags, marked by 1.
 fn minor_marks(cycles: [Cycle; 64]) -> [u8; 129]
-    requires { ⌜ ((c : ℕ) → c < 64 → (i : ℕ) → i < 15 → flagAt cycles c i ≤ 128) ⌝ }
+    requires { ⌜ (cyclesRiseB cycles ≡ true) × ((c : ℕ) → c < 64 → (i : ℕ) → i < 15 → flagAt cycles c i ≤ 128) ⌝ }
     ensures { λ r. ⌜ r ≡ minorMarks cycles ⌝ }
 {
     let mut table = [0u8; 129];
@@ -360,7 +361,7 @@ fn numbers<'a>(
     aflag: &'a [u8; 1024],
     cycles: [Cycle; 64],
 ) -> u8
-    requires { ⌜ alines ≤ 1024 ⌝ }
+    requires { ⌜ (alines ≤ 1024) × (cyclesRiseB cycles ≡ true) ⌝ }
     ensures { λ r.
         ⌜
         r

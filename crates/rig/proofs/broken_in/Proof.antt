@@ -1,11 +1,12 @@
 use mathlib.Core.Path.{_≡_, sym, _∙_}
+use mathlib.Core.Bool.{true}
 use native.Mathlib.Omega.{arith}
 use Rattle.laws.specs.All.{allOf}
 use Rattle.laws.specs.First.{firstFalse, first-found, first-passed, first-last}
 use Rattle.rig.specs.declared.Rig.{Rig}
 use Rattle.rig.specs.Forms.{rigOf}
-use Rattle.rig.specs.Tests.{shapedTests, countGroup, sizeGroup, orderGroup, numberGroup, taskGroup, lineGroup, restGroup, fromSizes, fromOrders, fromNumbers, fromTasks, fromLines, fromRest, tests, firstBroken}
-use Rattle.rig.specs.Whole.{Counted, counted, Numbered, numbered, task-answer, line-answer}
+use Rattle.rig.specs.Tests.{cyclesRiseB, shapedTests, countGroup, sizeGroup, orderGroup, numberGroup, taskGroup, lineGroup, restGroup, fromSizes, fromOrders, fromNumbers, fromTasks, fromLines, fromRest, tests, firstBroken}
+use Rattle.rig.specs.Whole.{Counted, counted, risen, Numbered, numbered, task-answer, line-answer}
 use borrow.Author.Needs.{needs}
 use Rattle.rig.proofs.broken_in.Statement.{statement}
 use Rattle.rig.proofs.broken_in.Tie as tie
@@ -25,11 +26,16 @@ abbrev rig-at : tie.Start → Rig
 rig-at c =
     rigOf (c .args .tasks) (c .args .flags) (c .args .master) (c .args .alines) (c .args .rows) (c .args .controller .now) (c .args .priority .now) (c .args .privileged .now) (c .args .activation .now) (c .args .present .now) (c .args .latched .now) (c .args .desired .now) (c .args .atask .now) (c .args .apos .now) (c .args .aflag .now) (c .args .row)
 
--- what the first and the fourth group leave known
+-- what the first, the third and the fourth group leave known
 counted-at : (c : tie.Else1) → Counted (c .before .before .args .tasks) (c .before .before .args .flags) (c .before .before .args .alines) (c .before .before .args .rows)
 counted-at c =
     let a = c .before .before .args in
     counted (a .tasks) (a .flags) (a .master) (a .alines) (a .rows) (c .before .counts .result) (c .before .counts .ensures) (c .if1 .left)
+
+risen-at : (c : tie.Else3) → cyclesRiseB (c .before .before .before .before .before .before .args .cycles) ≡ true
+risen-at c =
+    let a = c .before .before .before .before .before .before .args in
+    risen (a .alines) (a .atask .now) (a .apos .now) (a .aflag .now) (a .cycles) (c .before .orders .result) (c .before .orders .ensures) (c .if3 .left)
 
 numbered-at : (c : tie.Else4) → Numbered (rig-at (c .before .before .before .before .before .before .before .before)) (c .before .before .before .before .before .before .before .before .args .cycles)
 numbered-at c =
@@ -113,7 +119,7 @@ returns-3 c =
 
 -- src/lib.rt:519:9
 numbers-requires : tie.Need-numbers-requires
-numbers-requires c κs = counted-at (c .before .before .before .before) .lines-le
+numbers-requires c κs = (counted-at (c .before .before .before .before) .lines-le, risen-at c)
 
 -- src/lib.rt:531:9
 returns-4 : tie.Need-returns-4
@@ -123,7 +129,7 @@ returns-4 c =
 
 -- src/lib.rt:533:17
 minor-marks-requires : tie.Need-minor-marks-requires
-minor-marks-requires c κs = numbered-at c .minor
+minor-marks-requires c κs = (risen-at (c .before .before), numbered-at c .minor)
 
 -- src/lib.rt:534:9
 task-rules-requires : tie.Need-task-rules-requires
