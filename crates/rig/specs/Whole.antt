@@ -5,13 +5,15 @@ use mathlib.Core.Bool.{Bool, true}
 use mathlib.Core.List.{List, [], _∷_}
 use Prim.Native.Nat.{ℕ, _≤_, _<_}
 use native.Mathlib.Omega.{arith}
+use lib.Dec.{eqb}
 use lib.ListN.{length}
-use borrow.Author.Tests.{eqb-true, eq-eqb, leb-true, le-leb}
+use borrow.Author.Tests.{eqb-true, eqb-false, eq-eqb, leb-true, le-leb}
+use Rattle.laws.specs.Cases.{by}
 use Rattle.laws.specs.All.{allOf, allOf-at, allOf-cons, allOf-nil}
 use Rattle.laws.specs.First.{firstFalse, first-all, all-first}
 use Rattle.laws.specs.Decides.{is-eqb, is-said}
 use Rattle.rigtests.specs.Tests.{controllersB, servesOneB, namedB, usedB}
-use Rattle.rigtests.specs.Tables.{LinesFit, marked}
+use Rattle.rigtests.specs.Tables.{LinesFit, Ends, marked}
 use Rattle.rig.specs.declared.Cycle.{Cycle}
 use Rattle.rig.specs.declared.Rig.{Rig}
 use Rattle.rig.specs.Rules.{at, flagAt, Shaped, Right}
@@ -165,6 +167,7 @@ risen alines atask apos aflag cycles r e z =
 pub record Numbered (g : Rig) (cycles : List Cycle) : Type 0 where
   pub activation : (t : ℕ) → t < 65 → at (g .activation) t ≤ 128
   pub fit : LinesFit (g .alines) (g .atask) (g .apos) (g .aflag)
+  pub ends : Ends (g .tasks) (g .alines) (g .present) (g .atask) (g .apos)
   pub minor : (c : ℕ) → c < 64 → (i : ℕ) → i < 15 → flagAt cycles c i ≤ 128
 
 pub numbered : (g : Rig) (cycles : List Cycle) (r : ℕ) → Counted (g .tasks) (g .flags) (g .alines) (g .rows)
@@ -184,6 +187,15 @@ numbered g cycles r n e z =
                   low = λ i h. let w = lines i h in omega (arith, w .task .1, w .position, n .tasks-le);
                 };
             flags = λ i h. omega (arith, lines i h .flag .1, n .flags-le);
+          };
+      ends =
+          record {
+            few = n .tasks-le;
+            conditions =
+                λ p h b.
+                by (eqb (at (g .present) p) 0) (eqb-true (at (g .present) p) 0)
+                (λ q. absurd (omega (arith, h, condition-numbers-is g cycles .0 (k 1) p b (eqb-false (at (g .present) p) 0 q) .1)));
+            lines = λ i h. let w = lines i h in omega (arith, w .task .1, w .position);
           };
       minor = λ c h i b. omega (arith, cycle-numbers-is g cycles .0 (k 3) c h i b, n .flags-le);
     }

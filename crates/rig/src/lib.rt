@@ -5,7 +5,7 @@ ghost use mathlib.Core.Bool.{true};
 ghost use Prim.Native.Nat.{ℕ, _≤_, _<_};
 ghost use Rattle.laws.specs.All.{allOf};
 ghost use Rattle.laws.specs.First.{firstFalse};
-ghost use Rattle.rigtests.specs.Tables.{marked, LinesFit};
+ghost use Rattle.rigtests.specs.Tables.{marked, LinesFit, Ends};
 ghost use Rattle.rig.specs.Rules.{at, flagAt};
 ghost use Rattle.rig.specs.Tests.{listedB, rowTests, rowsB, cyclesRiseB, cyclesSmallB, minorMarks, differB, rowZero, rowZerosB, shapedTests, countTests, sizeTests, orderTests, numberTests, taskTests, lineTests, restTests, firstBroken, rightB};
 ghost use Rattle.rig.specs.Forms.{rigOf, cyclesOf, tableOf, noRig, noCycles};
@@ -406,8 +406,10 @@ fn task_rules<'a>(
     0
 }
 
-// Rules 19 to 21: A lines and conditions name each other, and conditions with a marked minor-cycle flag.
+// Rules 19 to 21: A lines and conditions name each other, and conditions with a marked minor-cycle flag. No place above the last
+// task's is looked at.
 fn line_rules<'a>(
+    tasks: usize,
     alines: usize,
     present: &'a [u8; 1040],
     latched: &'a [u8; 1040],
@@ -417,7 +419,7 @@ fn line_rules<'a>(
     aflag: &'a [u8; 1024],
     flags: &'a [u8; 129],
 ) -> u8
-    requires { ⌜ LinesFit alines (now atask) (now apos) (now aflag) ⌝ }
+    requires { ⌜ LinesFit alines (now atask) (now apos) (now aflag) × Ends tasks alines (now present) (now atask) (now apos) ⌝ }
     ensures { λ r.
         ⌜
         r
@@ -426,7 +428,7 @@ fn line_rules<'a>(
 {
     let table = rigtests::place_owners(alines, atask, apos);
     // one pass for both rules; where it fails, which
-    if !rigtests::matched(present, &table) {
+    if !rigtests::matched(16 * (tasks + 1), present, &table) {
         if !rigtests::names_present(present, &table) {
             return 19;
         }
@@ -536,7 +538,17 @@ pub fn broken_in<'a>(
     if e != 0 {
         return e;
     }
-    let f = line_rules(lines, present, latched, desired, atask, apos, aflag, &minor);
+    let f = line_rules(
+        count,
+        lines,
+        present,
+        latched,
+        desired,
+        atask,
+        apos,
+        aflag,
+        &minor,
+    );
     if f != 0 {
         return f;
     }

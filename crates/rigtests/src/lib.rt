@@ -10,7 +10,7 @@ ghost use Rattle.laws.specs.Owners.{owners, marks};
 ghost use Rattle.rigtests.specs.Tests.{at, place, within, smallOne, smallB, conditionsB, linesRiseB, flagTest, cycleRises, conditionTasksB, linesB, cycleSmall, climb, controllersB, notMinorB, placeOf, taskZerosB, lineZerosB};
 ghost use Rattle.rigtests.specs.Passes.{underOne, zeroFrom, betweenOne, lineKey};
 ghost use Rattle.rigtests.specs.Cycles.{zeroOne, flagsOnly};
-ghost use Rattle.rigtests.specs.Tables.{marked, servedB, namedOwnerB, matchedB, minorTest, minorOwnerB, Low, Placed, Owned};
+ghost use Rattle.rigtests.specs.Tables.{marked, servedB, namedOwnerB, matchedB, minorTest, minorOwnerB, Low, Placed, Owned, ZeroFrom};
 
 pub fn wide(x: u8) -> usize
     ensures { λ r. ⌜ r ≡ x ⌝ }
@@ -144,12 +144,12 @@ fn flag_rises(f: u8, h: u8) -> bool
 fn no_flags(flags: &[u8; 15]) -> bool
     ensures { λ r. ⌜ r ≡ all 15 (zeroOne (now (flags .entry))) ⌝ }
 {
-    let mut i: usize = 0;
-    while i < 15 {
-        if flags[i] != 0 {
+    let mut k: usize = 0;
+    while k < 15 {
+        if flags[k] != 0 {
             return false;
         }
-        i = i + 1;
+        k = k + 1;
     }
     true
 }
@@ -415,13 +415,14 @@ pub fn names_present<'a>(present: &'a [u8; 1040], table: &'a [u16; 1040]) -> boo
     bad == 0
 }
 
-// The owned places are the conditions: in one pass, that each condition has an owner too.
-pub fn matched<'a>(present: &'a [u8; 1040], table: &'a [u16; 1040]) -> bool
+// The owned places are the conditions: in one pass, that each condition has an owner too. From `end` on there is neither.
+pub fn matched<'a>(end: usize, present: &'a [u8; 1040], table: &'a [u16; 1040]) -> bool
+    requires { ⌜ (end ≤ 1040) × (ZeroFrom end (now present) × ZeroFrom end (now table)) ⌝ }
     ensures { λ r. ⌜ r ≡ matchedB (now (present .entry)) (now (table .entry)) ⌝ }
 {
     let mut bad: u8 = 0;
     let mut p: usize = 0;
-    while p < 1040 {
+    while p < end {
         let has = present[p];
         let owner = table[p];
         let mut want: u8 = 0;

@@ -12,10 +12,10 @@ use Rattle.rigtests.proofs.no_flags.Reads as reads
 use Rattle.rigtests.proofs.no_flags.Lts as lts
 
 abbrev Inv-loop : tie.InvT-loop
-Inv-loop flags i₀ i = (all i (zeroOne flags) ≡ true) × (i ≤ 15)
+Inv-loop flags k₀ k = (all k (zeroOne flags) ≡ true) × (k ≤ 15)
 
 abbrev μ-loop : tie.MeasureT-loop
-μ-loop flags i₀ i = 15 - i
+μ-loop flags k₀ k = 15 - k
 
 -- src/lib.rt:148:5
 loop-holds : tie.Need-loop-holds Inv-loop μ-loop
@@ -27,11 +27,11 @@ element-copy-out-if1 c = search needs
 
 -- src/lib.rt:150:13
 returns : tie.Need-returns Inv-loop μ-loop
-returns c = sym (all-not 15 _ (c .before .before .before .loop .i) (c .before .before .loop-test .taken) (ne-eqb _ 0 (c .if1 .taken)))
+returns c = sym (all-not 15 _ (c .before .before .before .loop .k) (omega (arith, c .before .before .loop-test .taken)) (ne-eqb _ 0 (c .if1 .taken)))
 
 -- src/lib.rt:152:13
-add-i : tie.Need-add-i Inv-loop μ-loop
-add-i c = search needs
+add-k : tie.Need-add-k Inv-loop μ-loop
+add-k c = search needs
 
 -- src/lib.rt:148:5
 loop-less : tie.Need-loop-less Inv-loop μ-loop
@@ -44,7 +44,7 @@ loop-again c = (all-next _ _ (c .before .before .before .loop .inv .0) (eq-eqb _
 -- src/lib.rt:144:1
 returns-2 : tie.Need-returns-2 Inv-loop μ-loop
 returns-2 c =
-    let e : c .before .loop .i ≡ 15 = omega arith in
+    let e : c .before .loop .k ≡ 15 = omega arith in
     sym (rw e at (c .before .loop .inv .0))
 
 pub no-flags-spec : {M : Type 1} → statement M
@@ -56,7 +56,7 @@ no-flags-spec =
     loop-holds
     element-copy-out-if1
     returns
-    add-i
+    add-k
     loop-less
     loop-again
     returns-2)
