@@ -175,6 +175,7 @@ fn rows_ok(n: usize, row: [Row; 64]) -> bool
     true
 }
 
+// The flags of each cycle rise, and nothing stands behind its last.
 fn cycles_rise(cycles: [Cycle; 64]) -> bool
     ensures { λ r. ⌜ r ≡ cyclesRiseB cycles ⌝ }
 {
@@ -406,8 +407,8 @@ fn task_rules<'a>(
     0
 }
 
-// Rules 19 to 21: A lines and conditions name each other, and conditions with a marked minor-cycle flag. No place above the last
-// task's is looked at.
+// Rules 19 to 21: A lines and conditions name each other, and conditions with a marked minor-cycle flag. The first pass ends
+// behind the last task's places.
 fn line_rules<'a>(
     tasks: usize,
     alines: usize,

@@ -1,12 +1,14 @@
 -- A cycle that rises has nothing behind its first 0: what the loops that end there may leave out.
 use mathlib.Core.Path.{_≡_, refl, sym, _∙_, ap}
+use mathlib.Core.Logic.{_≢_}
 use mathlib.Core.Bool.{Bool, true, false≢true}
-use mathlib.Core.List.{List, [], _∷_}
+use mathlib.Core.List.{List}
 use Prim.Native.Nat.{ℕ, zero, suc, _+_, _≤_, _<_}
 use native.Mathlib.Omega.{arith}
 use native.Mathlib.Numerals.{add-one}
 use lib.Dec.{eqb, ltb}
 use lib.ListN.{length, set}
+use lib.Seq.{set-set, set-comm}
 use borrow.Author.Tests.{eqb-true, eqb-false, eq-eqb, le-leb, ltb-true, ltb-false}
 use Rattle.laws.specs.Cases.{by, and-go, or-yes}
 use Rattle.laws.specs.All.{all, all-at, all-all, and-right}
@@ -22,17 +24,12 @@ zeroOne l i = eqb (at l i) 0
 abbrev pub flagsOnly : List ℕ → List ℕ
 flagsOnly l = set l 0 0
 
-set-again : (l : List ℕ) (a : ℕ) → flagsOnly (set l 0 a) ≡ flagsOnly l
-set-again [] a = refl
-set-again (x ∷ xs) a = refl
-
-set-other : (l : List ℕ) (p a : ℕ) → flagsOnly (set l (suc p) a) ≡ set (flagsOnly l) (suc p) a
-set-other [] p a = refl
-set-other (x ∷ xs) p a = refl
-
 set-flag : (l m : List ℕ) (p a : ℕ) → flagsOnly l ≡ flagsOnly m → flagsOnly (set l p a) ≡ flagsOnly (set m p a)
-set-flag l m zero a e = set-again l a ∙ e ∙ sym (set-again m a)
-set-flag l m (suc p) a e = set-other l p a ∙ ap (λ (x : List ℕ). set x (suc p) a) e ∙ sym (set-other m p a)
+set-flag l m zero a e = set-set l 0 a 0 ∙ e ∙ sym (set-set m 0 a 0)
+set-flag l m (suc p) a e = set-comm l (suc p) 0 a 0 some ∙ ap (λ (x : List ℕ). set x (suc p) a) e ∙ sym (set-comm m (suc p) 0 a 0 some)
+  where
+    some : suc p ≢ 0
+    some q = omega (arith, q)
 
 -- what is at 0 makes no difference to the marks of flags
 pub marks-flags : (n : ℕ) (key : ℕ → ℕ) (l m : List ℕ) → flagsOnly l ≡ flagsOnly m → flagsOnly (marks n key l) ≡ flagsOnly (marks n key m)
@@ -88,7 +85,7 @@ module _ (flags : List ℕ) (rises : cycleRises flags ≡ true) (i : ℕ) (z : a
       (λ e.
       let g : i ≤ n = omega (arith, h, eqb-false i (suc n) e) in
       marks-on l n g (omega (arith, b))
-      ∙ sym (rw (behind flags (rises-pairs flags rises) i z n g (omega (arith, b))) (set-again (iter n (markOne (at flags)) l) 1)))
+      ∙ sym (rw (behind flags (rises-pairs flags rises) i z n g (omega (arith, b))) (set-set (iter n (markOne (at flags)) l) 0 1 0)))
 
   pub marks-up-to : (l : List ℕ) → i < 15 → flagsOnly (iter i (markOne (at flags)) l) ≡ flagsOnly (marks 15 (at flags) l)
   unfolding marks

@@ -8,10 +8,10 @@ use Prim.Native.Nat.{ℕ, _+_, _-_, _*_, _≤_, _<_}
 use native.Mathlib.Omega.{arith}
 use native.Mathlib.Numerals.{add-one}
 use lib.Dec.{eqb, leb, ltb, leb·zero}
-use borrow.Author.Tests.{eqb-true, eqb-false, leb-true, leb-false, ltb-true, ltb-false, le-leb, lt-leb, lt-ltb, le-ltb}
+use borrow.Author.Tests.{eqb-true, eqb-false, eq-eqb, leb-true, leb-false, ltb-true, ltb-false, le-leb, lt-leb, lt-ltb, le-ltb}
 use Rattle.laws.specs.Cases.{by, by-eqb, and-go, and-stop, and-no, or-yes, or-skip}
 use Rattle.laws.specs.All.{all, all-zero, all-all, all-same, all-and, all-three, Passed, passed-next, passed-not}
-use Rattle.laws.specs.Decides.{Is, is-eqb, is-leb, is-ltb, is-and, is-else, is-all, is-said, is-same}
+use Rattle.laws.specs.Decides.{is-eqb, is-leb, is-ltb, is-and, is-else, is-all, is-said, is-same}
 use Rattle.rigtests.specs.Tests.{at, within, smallOne, conditionsB, risesTest, lineRises, conditionTasksB, lineOne, linesB, taskZeroOne, taskZerosB, lineZeroOne, lineZerosB}
 
 -- at most the other table's entry at its place
@@ -98,32 +98,44 @@ module _ (tasks : ℕ) (present : List ℕ) where
       (is-all 16 (λ i h. is-else (is-ltb i 0) (is-eqb (at present i) 0)))
       (is-all 1040 (λ i h. is-else (is-ltb i (16 * (tasks + 1))) (is-eqb (at present i) 0))))
 
--- What a loop keeps that keeps the largest entry: it is at most `top` exactly when each so far is.
-abbrev pub Topped : ℕ → ℕ → ℕ → (ℕ → Bool) → Type 0
-Topped most top i test = leb most top ≡ all i test
+both-last : (a b : Bool) → (b ≡ true → a ≡ true) → (a && b) ≡ b
+both-last true b h = refl
+both-last false true h = h refl
+both-last false false h = refl
 
-pub topped-none : (top : ℕ) (test : ℕ → Bool) → Topped 0 top 0 test
-topped-none top test = leb·zero top ∙ sym (all-zero test)
+both-first : (a b : Bool) → (a ≡ true → b ≡ true) → (a && b) ≡ a
+both-first true b h = h refl
+both-first false b h = refl
 
-module _ (most top i : ℕ) (test : ℕ → Bool) (x : ℕ) (p : Topped most top i test) (t : test i ≡ leb x top) where
-  so-far : all (i + 1) test ≡ (leb most top && leb x top)
+-- What a loop keeps that keeps the largest entry, for a test that holds of all below a number of which it holds: it holds of the
+-- largest exactly when it held of each so far.
+module _ (f : ℕ → Bool) (down : (a b : ℕ) → a ≤ b → f b ≡ true → f a ≡ true) (most i : ℕ) (test : ℕ → Bool) (x : ℕ)
+    (p : f most ≡ all i test) (t : test i ≡ f x) where
+  so-far : all (i + 1) test ≡ (f most && f x)
   unfolding all
   so-far = rw (add-one i) (rw (t, p))
 
-  -- the way the code came by: with a larger entry, which is now the largest, or with one that is not
-  pub topped-next : {new : ℕ} {A B : Type 0} → (A × (new ≡ x)) ⊎ (B × (new ≡ most)) → (A → most < x) → (B → x ≤ most) → Topped new top (i + 1) test
-  topped-next w more same =
+  -- by the way the code came: with a larger entry, which is now the largest, or with one that is not
+  largest-next : {new : ℕ} {A B : Type 0} → (A × (new ≡ x)) ⊎ (B × (new ≡ most)) → (A → most < x) → (B → x ≤ most)
+      → f new ≡ all (i + 1) test
+  largest-next w more same =
       ⊎-elim
-      (λ v.
-      let h = more (v .0) in
-      rw (v .1) (sym (so-far ∙ is-same (is-said both (λ g. g .1) (λ e. (omega (arith, h, e), e))) (is-leb x top))))
-      (λ v.
-      let h = same (v .0) in
-      rw (v .1) (sym (so-far ∙ is-same (is-said both (λ g. g .0) (λ e. (e, omega (arith, h, e)))) (is-leb most top))))
+      (λ v. let h = more (v .0) in rw (v .1) (sym (so-far ∙ both-last (f most) (f x) (down most x (omega (arith, h))))))
+      (λ v. rw (v .1) (sym (so-far ∙ both-first (f most) (f x) (down x most (same (v .0))))))
       w
-    where
-      both : Is (leb most top && leb x top) ((most ≤ top) × (x ≤ top))
-      both = is-and (is-leb most top) (is-leb x top)
+
+-- each entry so far is at most top
+module _ (l : List ℕ) (top : ℕ) where
+  abbrev pub Topped : ℕ → ℕ → Type 0
+  Topped most i = leb most top ≡ all i (smallOne l top)
+
+  pub topped-none : Topped 0 0
+  topped-none = leb·zero top ∙ sym (all-zero (smallOne l top))
+
+  pub topped-next : (most i : ℕ) → Topped most i → {new : ℕ} {A B : Type 0} → (A × (new ≡ at l i)) ⊎ (B × (new ≡ most))
+      → (A → most < at l i) → (B → at l i ≤ most) → Topped new (i + 1)
+  topped-next most i p =
+      largest-next (λ n. leb n top) (λ a b h e. le-leb a top (omega (arith, h, leb-true b top e))) most i (smallOne l top) (at l i) p refl
 
 -- a number between two others, and one that is not
 module _ (low n high : ℕ) where
@@ -138,44 +150,42 @@ module _ (low n high : ℕ) where
 
 -- at 0 and above the last task, an entry is 0
 abbrev pub beyondOne : ℕ → List ℕ → ℕ → Bool
-beyondOne tasks l t = within 1 t tasks || leb (at l t) 0
-
-eqb-leb : (n : ℕ) → eqb n 0 ≡ leb n 0
-eqb-leb n = is-same (is-said (is-eqb n 0) (λ e. omega (arith, e)) (λ h. omega (arith, h))) (is-leb n 0)
-
-or-four : (o a b c d : Bool) → (o || (a && (b && (c && d)))) ≡ ((o || a) && ((o || b) && ((o || c) && (o || d))))
-or-four true a b c d = refl
-or-four false a b c d = refl
+beyondOne tasks l t = within 1 t tasks || eqb (at l t) 0
 
 module _ (tasks : ℕ) (l : List ℕ) where
+  abbrev pub Beyond : ℕ → ℕ → Type 0
+  Beyond most i = eqb most 0 ≡ all i (beyondOne tasks l)
+
   -- up to the last task, only the entry at 0 counts
-  beyond-start : (n : ℕ) → 1 ≤ n → n ≤ tasks + 1 → Topped (at l 0) 0 n (beyondOne tasks l)
+  beyond-start : (n : ℕ) → 1 ≤ n → n ≤ tasks + 1 → Beyond (at l 0) n
   beyond-start n a b =
-      is-same (is-leb (at l 0) 0)
-      (is-said (is-all n (λ k h. is-else (is-and (is-leb 1 k) (is-leb k tasks)) (is-leb (at l k) 0)))
+      is-same (is-eqb (at l 0) 0)
+      (is-said (is-all n (λ k h. is-else (is-and (is-leb 1 k) (is-leb k tasks)) (is-eqb (at l k) 0)))
       (λ f. f 0 (omega (arith, a)) (λ w. omega (arith, w .0)))
       (λ e k h none.
       by (eqb k 0) (λ q. rw (eqb-true k 0 q) e)
       (λ q. absurd (none (omega (arith, eqb-false k 0 q), omega (arith, h, b))))))
 
-  -- and above it each, by the way the code came
-  pub beyond-next : (most i : ℕ) → Topped most 0 i (beyondOne tasks l) → tasks < i
-      → {new : ℕ} {A B : Type 0} → (A × (new ≡ at l i)) ⊎ (B × (new ≡ most)) → (A → most < at l i) → (B → at l i ≤ most)
-      → Topped new 0 (i + 1) (beyondOne tasks l)
+  -- and above it each
+  pub beyond-next : (most i : ℕ) → Beyond most i → tasks < i → {new : ℕ} {A B : Type 0} → (A × (new ≡ at l i)) ⊎ (B × (new ≡ most))
+      → (A → most < at l i) → (B → at l i ≤ most) → Beyond new (i + 1)
   beyond-next most i p h =
-      topped-next most 0 i (beyondOne tasks l) (at l i) p (sym (or-skip (within 1 i tasks) (leb (at l i) 0) (within-above 1 i tasks h)))
+      largest-next (λ n. eqb n 0) (λ a b g e. eq-eqb a 0 (omega (arith, g, eqb-true b 0 e))) most i (beyondOne tasks l) (at l i) p
+      (sym (or-skip (within 1 i tasks) (eqb (at l i) 0) (within-above 1 i tasks h)))
 
   -- where the loop ends: behind the table, or at once
-  beyond-end : (i a : ℕ) → Topped a 0 i (beyondOne tasks l) → tasks + 1 ≤ i → i - (tasks + 1) ≤ 65 - (tasks + 1) → 65 ≤ i
-      → eqb a 0 ≡ all 65 (beyondOne tasks l)
+  beyond-end : (i a : ℕ) → Beyond a i → tasks + 1 ≤ i → i - (tasks + 1) ≤ 65 - (tasks + 1) → 65 ≤ i → Beyond a 65
   beyond-end i a p b d e =
-      eqb-leb a
-      ∙ p
+      p
       ∙ by (ltb 65 (tasks + 1))
       (λ q.
       let g = ltb-true 65 (tasks + 1) q in
       sym (beyond-start i (omega (arith, e)) (omega (arith, d, g))) ∙ beyond-start 65 (omega arith) (omega (arith, g)))
       (λ q. ap (λ (k : ℕ). all k (beyondOne tasks l)) (omega (arith, b, d, e, ltb-false 65 (tasks + 1) q)))
+
+or-four : (o a b c d : Bool) → (o || (a && (b && (c && d)))) ≡ ((o || a) && ((o || b) && ((o || c) && (o || d))))
+or-four true a b c d = refl
+or-four false a b c d = refl
 
 module _ (tasks : ℕ) (controller priority privileged activation : List ℕ) where
   task-zeros-each : taskZerosB tasks controller priority privileged activation
@@ -186,18 +196,14 @@ module _ (tasks : ℕ) (controller priority privileged activation : List ℕ) wh
       all-same 65 (taskZeroOne tasks controller priority privileged activation)
       (λ t. beyondOne tasks controller t && (beyondOne tasks priority t && (beyondOne tasks privileged t && beyondOne tasks activation t)))
       (λ t h.
-      rw (eqb-leb (at controller t), eqb-leb (at priority t), eqb-leb (at privileged t), eqb-leb (at activation t))
-      (or-four (within 1 t tasks) (leb (at controller t) 0) (leb (at priority t) 0) (leb (at privileged t) 0) (leb (at activation t) 0)))
+      or-four (within 1 t tasks) (eqb (at controller t) 0) (eqb (at priority t) 0) (eqb (at privileged t) 0) (eqb (at activation t) 0))
       ∙ all-and 65 (beyondOne tasks controller) (λ t. beyondOne tasks priority t && (beyondOne tasks privileged t && beyondOne tasks activation t))
       ∙ ap (λ (x : Bool). all 65 (beyondOne tasks controller) && x)
       (all-three 65 (beyondOne tasks priority) (beyondOne tasks privileged) (beyondOne tasks activation))
 
   -- what the loop over the four tables keeps: the largest entry of each
   abbrev pub Largest : ℕ → ℕ → ℕ → ℕ → ℕ → Type 0
-  Largest a b c d i =
-      Topped a 0 i (beyondOne tasks controller)
-      × (Topped b 0 i (beyondOne tasks priority)
-      × (Topped c 0 i (beyondOne tasks privileged) × Topped d 0 i (beyondOne tasks activation)))
+  Largest a b c d i = Beyond tasks controller a i × (Beyond tasks priority b i × (Beyond tasks privileged c i × Beyond tasks activation d i))
 
   pub largest-start : (n : ℕ) → 1 ≤ n → n ≤ tasks + 1 → Largest (at controller 0) (at priority 0) (at privileged 0) (at activation 0) n
   largest-start n h g =

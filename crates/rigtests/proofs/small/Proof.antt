@@ -1,8 +1,8 @@
 use borrow.Author.Needs.{needs}
 use Prim.Native.Nat.{_≤_, _-_}
-use mathlib.Core.Path.{_≡_, refl}
+use mathlib.Core.Path.{_≡_}
 use native.Mathlib.Omega.{arith}
-use Rattle.rigtests.specs.Tests.{smallOne, smallB}
+use Rattle.rigtests.specs.Tests.{smallB}
 use Rattle.rigtests.specs.Passes.{Topped, topped-none, topped-next}
 use Rattle.rigtests.proofs.small.Statement.{statement}
 use Rattle.rigtests.proofs.small.Tie as tie
@@ -10,14 +10,14 @@ use Rattle.rigtests.proofs.small.Reads as reads
 use Rattle.rigtests.proofs.small.Lts as lts
 
 abbrev Inv-loop : tie.InvT-loop
-Inv-loop l top most₀ t₀ most t = Topped most top t (smallOne l top) × (t ≤ 65)
+Inv-loop l top most₀ t₀ most t = Topped l top most t × (t ≤ 65)
 
 abbrev μ-loop : tie.MeasureT-loop
 μ-loop l top most₀ t₀ most t = 65 - t
 
 -- src/lib.rt:45:5
 loop-holds : tie.Need-loop-holds Inv-loop μ-loop
-loop-holds c = (topped-none (c .args .top) _, search needs)
+loop-holds c = (topped-none (c .args .l .now) (c .args .top), search needs)
 
 -- src/lib.rt:46:17
 element-copy-out-x : tie.Need-element-copy-out-x Inv-loop μ-loop
@@ -33,7 +33,7 @@ loop-less c = search needs
 
 -- src/lib.rt:45:5
 loop-again : tie.Need-loop-again Inv-loop μ-loop
-loop-again c = (topped-next _ _ _ _ _ (c .before .before .before .loop .inv .0) refl (c .if1 .came) (λ w. w .taken) (λ w. w .left), search needs)
+loop-again c = (topped-next (c .before .before .before .before .args .l .now) _ _ _ (c .before .before .before .loop .inv .0) (c .if1 .came) (λ w. w .taken) (λ w. w .left), search needs)
 
 -- src/lib.rt:40:1
 returns : tie.Need-returns Inv-loop μ-loop
