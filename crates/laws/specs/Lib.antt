@@ -1,6 +1,7 @@
 pub mod Cases
 pub mod Iter
 pub mod All
+pub mod Largest
 pub mod Any
 pub mod Tables
 pub mod Put

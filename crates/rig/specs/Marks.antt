@@ -1,4 +1,4 @@
--- The table of minor-cycle flags says of each flag what `minorB` says.
+-- The cycles one by one, and the table of minor-cycle flags, which says of each flag what `minorB` says.
 use mathlib.Core.Path.{_≡_, sym, _∙_, ap}
 use mathlib.Core.Logic.{_⊎_, inl, inr, ⊎-elim, _≢_, _↔_}
 use mathlib.Core.Bool.{Bool, true, not}
@@ -11,21 +11,27 @@ use lib.Seq.{getD-set-other}
 use borrow.Author.Tests.{lt-ltb, eqb-true, eqb-false}
 use Rattle.laws.specs.Cases.{by, or-yes, below-but}
 use Rattle.laws.specs.Iter.{iter, iter-ind}
-use Rattle.laws.specs.All.{all, all-all, all-same}
+use Rattle.laws.specs.All.{all, all-at, all-all, all-same, and-right}
 use Rattle.laws.specs.Tables.{set-zero, zeros}
 use Rattle.laws.specs.Decides.{Is, is-eqb, is-and, is-not, is-any, is-said, is-same}
 use Rattle.laws.specs.Owners.{marked-by, marks-it, marks-length}
-use Rattle.rigtests.specs.Tests.{inCycle, notMinorOne, notMinorB, minorConditionOne, minorConditionTest, minorConditionsB, onlyOne, placeOf}
+use Rattle.rigtests.specs.Tests.{cycleRises, inCycle, notMinorOne, notMinorB, minorConditionOne, minorConditionTest, minorConditionsB, onlyOne, placeOf}
 use Rattle.rigtests.specs.Tables.{marked}
 use Rattle.rig.specs.declared.Row.{Row}
 use Rattle.rig.specs.declared.Cycle.{Cycle}
 use Rattle.rig.specs.Rules.{at, noRow, noCycle, flagAt, Minor}
-use Rattle.rig.specs.Tests.{rowZero, rowZeroOne, markCycle, minorMarks, minorB}
+use Rattle.rig.specs.Tests.{rowZero, rowZeroOne, cycleRisesOne, cyclesRiseB, markCycle, minorMarks, minorB}
 
 -- the rows before the first that must be 0
 pub rows-start : (n : ℕ) (row : List Row) → all n (rowZeroOne n row) ≡ true
 rows-start n row =
     all-all n (rowZeroOne n row) (λ k h. sym (or-yes (ltb k n) (rowZero (getD row k noRow)) (lt-ltb k n h)))
+
+-- where the cycles rise, each does
+pub cycles-rise-at : (cycles : List Cycle) → cyclesRiseB cycles ≡ true → (c : ℕ) → c < 64 → cycleRises (getD cycles c noCycle .flags) ≡ true
+unfolding cyclesRiseB
+cycles-rise-at cycles e c h =
+    all-at 64 (cycleRisesOne cycles) (and-right (eqb (length cycles) 64) (all 64 (cycleRisesOne cycles)) e) c h
 
 module _ (cycles : List Cycle) (f : ℕ) where
   -- f stands in one of the first k cycles

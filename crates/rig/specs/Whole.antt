@@ -5,17 +5,19 @@ use mathlib.Core.Bool.{Bool, true}
 use mathlib.Core.List.{List, [], _∷_}
 use Prim.Native.Nat.{ℕ, _≤_, _<_}
 use native.Mathlib.Omega.{arith}
+use lib.Dec.{eqb}
 use lib.ListN.{length}
-use borrow.Author.Tests.{eqb-true, eq-eqb, leb-true, le-leb}
+use borrow.Author.Tests.{eqb-true, eqb-false, eq-eqb, leb-true, le-leb}
+use Rattle.laws.specs.Cases.{by}
 use Rattle.laws.specs.All.{allOf, allOf-at, allOf-cons, allOf-nil}
 use Rattle.laws.specs.First.{firstFalse, first-all, all-first}
 use Rattle.laws.specs.Decides.{is-eqb, is-said}
 use Rattle.rigtests.specs.Tests.{controllersB, servesOneB, namedB, usedB}
-use Rattle.rigtests.specs.Tables.{LinesFit, marked}
+use Rattle.rigtests.specs.Tables.{LinesFit, Ends, marked}
 use Rattle.rig.specs.declared.Cycle.{Cycle}
 use Rattle.rig.specs.declared.Rig.{Rig}
 use Rattle.rig.specs.Rules.{at, flagAt, Shaped, Right}
-use Rattle.rig.specs.Tests.{minorMarks, shapedTests, countTests, numberTests, taskTests, lineTests, taskGroup, lineGroup, tests, firstBroken, rightB}
+use Rattle.rig.specs.Tests.{minorMarks, cyclesRiseB, shapedTests, countTests, orderTests, numberTests, taskTests, lineTests, taskGroup, lineGroup, tests, firstBroken, rightB}
 use Rattle.rig.specs.Marks.{not-minor-law, minor-conditions-law}
 use Rattle.rig.specs.Tree.{controllers-is}
 use Rattle.rig.specs.Exact.{within-is, small-is, conditions-is, rows-is, line-order-is, cycle-order-is, condition-numbers-is, lines-is, cycle-numbers-is, serves-one-is, not-minor-is, line-has-condition-is, condition-has-line-is, minor-conditions-is, sender-differs-is, task-zeros-is, line-zeros-is, row-zeros-is}
@@ -157,9 +159,15 @@ counted tasks flags master alines rows r e z =
       rows-le = leb-true rows 64 (k 4);
     }
 
+pub risen : (alines : ℕ) (atask apos aflag : List ℕ) (cycles : List Cycle) (r : ℕ) → r ≡ firstFalse 10 (orderTests alines atask apos aflag cycles)
+    → r ≡ 0 → cyclesRiseB cycles ≡ true
+risen alines atask apos aflag cycles r e z =
+    allOf-at (orderTests alines atask apos aflag cycles) (first-all 10 (orderTests alines atask apos aflag cycles) (omega arith) (sym e ∙ z)) 1
+
 pub record Numbered (g : Rig) (cycles : List Cycle) : Type 0 where
   pub activation : (t : ℕ) → t < 65 → at (g .activation) t ≤ 128
   pub fit : LinesFit (g .alines) (g .atask) (g .apos) (g .aflag)
+  pub ends : Ends (g .tasks) (g .alines) (g .present) (g .atask) (g .apos)
   pub minor : (c : ℕ) → c < 64 → (i : ℕ) → i < 15 → flagAt cycles c i ≤ 128
 
 pub numbered : (g : Rig) (cycles : List Cycle) (r : ℕ) → Counted (g .tasks) (g .flags) (g .alines) (g .rows)
@@ -179,6 +187,15 @@ numbered g cycles r n e z =
                   low = λ i h. let w = lines i h in omega (arith, w .task .1, w .position, n .tasks-le);
                 };
             flags = λ i h. omega (arith, lines i h .flag .1, n .flags-le);
+          };
+      ends =
+          record {
+            few = n .tasks-le;
+            conditions =
+                λ p h b.
+                by (eqb (at (g .present) p) 0) (eqb-true (at (g .present) p) 0)
+                (λ q. absurd (omega (arith, h, condition-numbers-is g cycles .0 (k 1) p b (eqb-false (at (g .present) p) 0 q) .1)));
+            lines = λ i h. let w = lines i h in omega (arith, w .task .1, w .position);
           };
       minor = λ c h i b. omega (arith, cycle-numbers-is g cycles .0 (k 3) c h i b, n .flags-le);
     }

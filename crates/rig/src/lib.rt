@@ -5,7 +5,7 @@ ghost use mathlib.Core.Bool.{true};
 ghost use Prim.Native.Nat.{ℕ, _≤_, _<_};
 ghost use Rattle.laws.specs.All.{allOf};
 ghost use Rattle.laws.specs.First.{firstFalse};
-ghost use Rattle.rigtests.specs.Tables.{marked, LinesFit};
+ghost use Rattle.rigtests.specs.Tables.{marked, LinesFit, Ends};
 ghost use Rattle.rig.specs.Rules.{at, flagAt};
 ghost use Rattle.rig.specs.Tests.{listedB, rowTests, rowsB, cyclesRiseB, cyclesSmallB, minorMarks, differB, rowZero, rowZerosB, shapedTests, countTests, sizeTests, orderTests, numberTests, taskTests, lineTests, restTests, firstBroken, rightB};
 ghost use Rattle.rig.specs.Forms.{rigOf, cyclesOf, tableOf, noRig, noCycles};
@@ -175,14 +175,14 @@ fn rows_ok(n: usize, row: [Row; 64]) -> bool
     true
 }
 
+// The flags of each cycle rise, and nothing stands behind its last.
 fn cycles_rise(cycles: [Cycle; 64]) -> bool
     ensures { λ r. ⌜ r ≡ cyclesRiseB cycles ⌝ }
 {
     let mut c: usize = 0;
     while c < 64 {
         let cycle = cycles[c];
-        let flags = cycle.flags;
-        if !rigtests::cycle_rises(flags) {
+        if !rigtests::cycle_rises(&cycle.flags) {
             return false;
         }
         c = c + 1;
@@ -190,7 +190,9 @@ fn cycles_rise(cycles: [Cycle; 64]) -> bool
     true
 }
 
+// No flag of a cycle is above top; the cycles rise, so that each is looked at up to its last flag only.
 fn cycles_small(top: u8, cycles: [Cycle; 64]) -> bool
+    requires { ⌜ cyclesRiseB cycles ≡ true ⌝ }
     ensures { λ r. ⌜ r ≡ cyclesSmallB top cycles ⌝ }
 {
     let mut c: usize = 0;
@@ -206,7 +208,7 @@ fn cycles_small(top: u8, cycles: [Cycle; 64]) -> bool
 
 // The minor-cycle flags, marked by 1.
 fn minor_marks(cycles: [Cycle; 64]) -> [u8; 129]
-    requires { ⌜ ((c : ℕ) → c < 64 → (i : ℕ) → i < 15 → flagAt cycles c i ≤ 128) ⌝ }
+    requires { ⌜ (cyclesRiseB cycles ≡ true) × ((c : ℕ) → c < 64 → (i : ℕ) → i < 15 → flagAt cycles c i ≤ 128) ⌝ }
     ensures { λ r. ⌜ r ≡ minorMarks cycles ⌝ }
 {
     let mut table = [0u8; 129];
@@ -360,7 +362,7 @@ fn numbers<'a>(
     aflag: &'a [u8; 1024],
     cycles: [Cycle; 64],
 ) -> u8
-    requires { ⌜ alines ≤ 1024 ⌝ }
+    requires { ⌜ (alines ≤ 1024) × (cyclesRiseB cycles ≡ true) ⌝ }
     ensures { λ r.
         ⌜
         r
@@ -405,8 +407,10 @@ fn task_rules<'a>(
     0
 }
 
-// Rules 19 to 21: A lines and conditions name each other, and conditions with a marked minor-cycle flag.
+// Rules 19 to 21: A lines and conditions name each other, and conditions with a marked minor-cycle flag. The first pass ends
+// behind the last task's places.
 fn line_rules<'a>(
+    tasks: usize,
     alines: usize,
     present: &'a [u8; 1040],
     latched: &'a [u8; 1040],
@@ -416,7 +420,7 @@ fn line_rules<'a>(
     aflag: &'a [u8; 1024],
     flags: &'a [u8; 129],
 ) -> u8
-    requires { ⌜ LinesFit alines (now atask) (now apos) (now aflag) ⌝ }
+    requires { ⌜ LinesFit alines (now atask) (now apos) (now aflag) × Ends tasks alines (now present) (now atask) (now apos) ⌝ }
     ensures { λ r.
         ⌜
         r
@@ -425,7 +429,7 @@ fn line_rules<'a>(
 {
     let table = rigtests::place_owners(alines, atask, apos);
     // one pass for both rules; where it fails, which
-    if !rigtests::matched(present, &table) {
+    if !rigtests::matched(16 * (tasks + 1), present, &table) {
         if !rigtests::names_present(present, &table) {
             return 19;
         }
@@ -535,7 +539,17 @@ pub fn broken_in<'a>(
     if e != 0 {
         return e;
     }
-    let f = line_rules(lines, present, latched, desired, atask, apos, aflag, &minor);
+    let f = line_rules(
+        count,
+        lines,
+        present,
+        latched,
+        desired,
+        atask,
+        apos,
+        aflag,
+        &minor,
+    );
     if f != 0 {
         return f;
     }

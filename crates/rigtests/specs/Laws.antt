@@ -5,14 +5,14 @@ use mathlib.Core.Bool.{Bool, true, false, not, cond, _&&_, _||_}
 use mathlib.Core.List.{List}
 use Prim.Native.Nat.{ℕ, zero, suc, _+_, _-_, _≤_, _<_}
 use native.Mathlib.Omega.{arith}
-use lib.Dec.{eqb}
-use borrow.Author.Tests.{eqb-true, eqb-false}
+use lib.Dec.{eqb, ltb}
+use borrow.Author.Tests.{eqb-true, eqb-false, ltb-true, ltb-false}
 use Rattle.laws.specs.Cases.{by}
-use Rattle.laws.specs.All.{all-same, all-and}
+use Rattle.laws.specs.All.{all, all-same, all-and}
 use Rattle.laws.specs.Decides.{Is, is-eqb, is-and, is-or, is-not, is-else, is-then, is-if, is-all, is-any, is-said, is-same}
 use Rattle.laws.specs.Owners.{owners, owner-key, owner-some}
 use Rattle.rigtests.specs.Tests.{at, placeOf, servesOne, servesOneB, namedB, usedB, minorConditionOne, minorConditionsB}
-use Rattle.rigtests.specs.Tables.{Placed, Owned, marked, servedOne, servedB, namedOwnerOne, namedOwnerB, hasOwnerOne, hasOwnerB, matchedOne, matchedB, minorTest, minorOwnerOne, minorOwnerB}
+use Rattle.rigtests.specs.Tables.{Placed, Owned, ZeroFrom, marked, servedOne, servedB, namedOwnerOne, namedOwnerB, hasOwnerOne, hasOwnerB, matchedOne, matchedB, minorTest, minorOwnerOne, minorOwnerB}
 
 -- what a number that is not 0 is one more than
 pub some-suc : (n : ℕ) → n ≢ 0 → (i : ℕ) × (n ≡ suc i)
@@ -39,6 +39,20 @@ matched-each present table =
     all-same 1040 (matchedOne present table) (λ p. namedOwnerOne present table p && hasOwnerOne present table p)
     (λ p h. matched-one (eqb (at table p) 0) (at present p))
     ∙ all-and 1040 (namedOwnerOne present table) (hasOwnerOne present table)
+
+-- what is from `end` on in neither table needs no look
+pub matched-end : (end : ℕ) (present table : List ℕ) → end ≤ 1040 → ZeroFrom end present → ZeroFrom end table
+    → all end (matchedOne present table) ≡ matchedB present table
+unfolding matchedB
+matched-end end present table few p t =
+    is-same
+    (is-said (is-all end (λ k h. is-self))
+    (λ f k h. by (ltb k end) (λ e. f k (ltb-true k end e)) (λ e. let g = ltb-false k end e in rw (p k g h, t k g h)))
+    (λ f k h. f k (omega (arith, h, few))))
+    (is-all 1040 (λ k h. is-self))
+  where
+    is-self : {b : Bool} → Is b (b ≡ true)
+    is-self = ((λ e. e), (λ e. e))
 
 -- an activation flag serves one task
 abbrev pub Serves : List ℕ → ℕ → Type 0
@@ -88,6 +102,15 @@ module _ (n : ℕ) (atask apos : List ℕ) (placed : Placed n atask apos) where
 
   pub lasts-owned : (aflag : List ℕ) → ((k : ℕ) → k < n → at aflag k ≤ 128) → Owned n atask apos aflag (owners n (placeOf atask apos) 1040)
   lasts-owned aflag flags = record { fit = record { placed = placed; flags = flags }; some = last-some; few = last-few }
+
+  -- what lies behind the places of all A lines has no owner
+  pub lasts-end : (end : ℕ) → ((k : ℕ) → k < n → placeOf atask apos k < end) → ZeroFrom end (owners n (placeOf atask apos) 1040)
+  lasts-end end f p h b =
+      by (eqb (at lasts p) 0) (eqb-true (at lasts p) 0)
+      (λ e.
+      let s = some-suc (at lasts p) (eqb-false (at lasts p) 0 e) in
+      let k = owner-key (placeOf atask apos) 1040 n p (s .0) (s .1) in
+      absurd (omega (arith, f (s .0) (k .0), k .1, h)))
 
   -- what is owned is a condition exactly where each A line names one
   pub named-law : (present : List ℕ) → namedOwnerB present (owners n (placeOf atask apos) 1040) ≡ namedB n present atask apos

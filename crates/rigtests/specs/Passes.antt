@@ -1,16 +1,18 @@
 -- The tests of a table's entries as the loops that do not leave early compute them, and that together they say what the tests
 -- of Tests.antt say.
-use mathlib.Core.Path.{_≡_, refl, _∙_, subst}
+use mathlib.Core.Path.{_≡_, refl, sym, _∙_, ap, subst}
+use mathlib.Core.Logic.{_⊎_}
 use mathlib.Core.Bool.{Bool, true, false, cond, _&&_, _||_}
 use mathlib.Core.List.{List}
 use Prim.Native.Nat.{ℕ, _+_, _-_, _*_, _≤_, _<_}
 use native.Mathlib.Omega.{arith}
 use lib.Dec.{eqb, leb, ltb, leb·zero}
 use borrow.Author.Tests.{eqb-true, eqb-false, leb-true, leb-false, ltb-true, ltb-false, le-leb, lt-leb, lt-ltb, le-ltb}
-use Rattle.laws.specs.Cases.{by, by-eqb, and-go, and-stop, and-no}
-use Rattle.laws.specs.All.{all, all-same, all-three, since, Passed, passed-next, passed-not}
+use Rattle.laws.specs.Cases.{by, by-eqb, and-go, and-stop, and-no, or-skip}
+use Rattle.laws.specs.All.{all, all-zero, all-same, all-and, all-three, since, Passed, passed-next, passed-not}
+use Rattle.laws.specs.Largest.{top-next, zero-next}
 use Rattle.laws.specs.Decides.{is-eqb, is-leb, is-ltb, is-and, is-else, is-all, is-said, is-same}
-use Rattle.rigtests.specs.Tests.{at, within, smallOne, conditionsB, risesTest, lineRises, conditionTasksB, lineOne, linesB, lineZeroOne, lineZerosB}
+use Rattle.rigtests.specs.Tests.{at, within, smallOne, conditionsB, risesTest, lineRises, conditionTasksB, lineOne, linesB, taskZeroOne, taskZerosB, lineZeroOne, lineZerosB}
 
 -- at most the other table's entry at its place
 abbrev pub underOne : List ℕ → List ℕ → ℕ → Bool
@@ -87,6 +89,18 @@ module _ (tasks : ℕ) (present : List ℕ) where
       (is-all 16 (λ i h. is-else (is-ltb i 0) (is-eqb (at present i) 0)))
       (is-all 1040 (λ i h. is-else (is-ltb i (16 * (tasks + 1))) (is-eqb (at present i) 0))))
 
+-- each entry so far is at most top
+module _ (l : List ℕ) (top : ℕ) where
+  abbrev pub Topped : ℕ → ℕ → Type 0
+  Topped most i = leb most top ≡ all i (smallOne l top)
+
+  pub topped-none : Topped 0 0
+  topped-none = leb·zero top ∙ sym (all-zero (smallOne l top))
+
+  pub topped-next : (most i : ℕ) → Topped most i → {new : ℕ} {A B : Type 0} → (A × (new ≡ at l i)) ⊎ (B × (new ≡ most))
+      → (A → most < at l i) → (B → at l i ≤ most) → Topped new (i + 1)
+  topped-next most i p = top-next most i (smallOne l top) (at l i) top p refl
+
 -- a number between two others, and one that is not
 module _ (low n high : ℕ) where
   pub within-yes : low ≤ n → n ≤ high → within low n high ≡ true
@@ -97,6 +111,77 @@ module _ (low n high : ℕ) where
 
   pub within-above : high < n → within low n high ≡ false
   within-above a = rw (lt-leb n high a) (and-no (leb low n))
+
+-- at 0 and above the last task, an entry is 0
+abbrev pub beyondOne : ℕ → List ℕ → ℕ → Bool
+beyondOne tasks l t = within 1 t tasks || eqb (at l t) 0
+
+module _ (tasks : ℕ) (l : List ℕ) where
+  abbrev pub Beyond : ℕ → ℕ → Type 0
+  Beyond most i = eqb most 0 ≡ all i (beyondOne tasks l)
+
+  -- up to the last task, only the entry at 0 counts
+  beyond-start : (n : ℕ) → 1 ≤ n → n ≤ tasks + 1 → Beyond (at l 0) n
+  beyond-start n a b =
+      is-same (is-eqb (at l 0) 0)
+      (is-said (is-all n (λ k h. is-else (is-and (is-leb 1 k) (is-leb k tasks)) (is-eqb (at l k) 0)))
+      (λ f. f 0 (omega (arith, a)) (λ w. omega (arith, w .0)))
+      (λ e k h none.
+      by (eqb k 0) (λ q. rw (eqb-true k 0 q) e)
+      (λ q. absurd (none (omega (arith, eqb-false k 0 q), omega (arith, h, b))))))
+
+  -- and above it each
+  pub beyond-next : (most i : ℕ) → Beyond most i → tasks < i → {new : ℕ} {A B : Type 0} → (A × (new ≡ at l i)) ⊎ (B × (new ≡ most))
+      → (A → most < at l i) → (B → at l i ≤ most) → Beyond new (i + 1)
+  beyond-next most i p h =
+      zero-next most i (beyondOne tasks l) (at l i) p (sym (or-skip (within 1 i tasks) (eqb (at l i) 0) (within-above 1 i tasks h)))
+
+  -- where the loop ends: behind the table, or at once
+  beyond-end : (i a : ℕ) → Beyond a i → tasks + 1 ≤ i → i - (tasks + 1) ≤ 65 - (tasks + 1) → 65 ≤ i → Beyond a 65
+  beyond-end i a p b d e =
+      p
+      ∙ by (ltb 65 (tasks + 1))
+      (λ q.
+      let g = ltb-true 65 (tasks + 1) q in
+      sym (beyond-start i (omega (arith, e)) (omega (arith, d, g))) ∙ beyond-start 65 (omega arith) (omega (arith, g)))
+      (λ q. ap (λ (k : ℕ). all k (beyondOne tasks l)) (omega (arith, b, d, e, ltb-false 65 (tasks + 1) q)))
+
+or-four : (o a b c d : Bool) → (o || (a && (b && (c && d)))) ≡ ((o || a) && ((o || b) && ((o || c) && (o || d))))
+or-four true a b c d = refl
+or-four false a b c d = refl
+
+module _ (tasks : ℕ) (controller priority privileged activation : List ℕ) where
+  task-zeros-each : taskZerosB tasks controller priority privileged activation
+      ≡ (all 65 (beyondOne tasks controller)
+      && (all 65 (beyondOne tasks priority) && (all 65 (beyondOne tasks privileged) && all 65 (beyondOne tasks activation))))
+  unfolding taskZerosB
+  task-zeros-each =
+      all-same 65 (taskZeroOne tasks controller priority privileged activation)
+      (λ t. beyondOne tasks controller t && (beyondOne tasks priority t && (beyondOne tasks privileged t && beyondOne tasks activation t)))
+      (λ t h.
+      or-four (within 1 t tasks) (eqb (at controller t) 0) (eqb (at priority t) 0) (eqb (at privileged t) 0) (eqb (at activation t) 0))
+      ∙ all-and 65 (beyondOne tasks controller) (λ t. beyondOne tasks priority t && (beyondOne tasks privileged t && beyondOne tasks activation t))
+      ∙ ap (λ (x : Bool). all 65 (beyondOne tasks controller) && x)
+      (all-three 65 (beyondOne tasks priority) (beyondOne tasks privileged) (beyondOne tasks activation))
+
+  -- what the loop over the four tables keeps: the largest entry of each
+  abbrev pub Largest : ℕ → ℕ → ℕ → ℕ → ℕ → Type 0
+  Largest a b c d i = Beyond tasks controller a i × (Beyond tasks priority b i × (Beyond tasks privileged c i × Beyond tasks activation d i))
+
+  pub largest-start : (n : ℕ) → 1 ≤ n → n ≤ tasks + 1 → Largest (at controller 0) (at priority 0) (at privileged 0) (at activation 0) n
+  largest-start n h g =
+      (beyond-start tasks controller n h g, (beyond-start tasks priority n h g, (beyond-start tasks privileged n h g, beyond-start tasks activation n h g)))
+
+  pub largest-end : (a b c d i : ℕ) → Largest a b c d i → tasks + 1 ≤ i → i - (tasks + 1) ≤ 65 - (tasks + 1) → 65 ≤ i
+      → (eqb a 0 && (eqb b 0 && (eqb c 0 && eqb d 0))) ≡ taskZerosB tasks controller priority privileged activation
+  largest-end a b c d i p f g h =
+      rw (
+        beyond-end tasks controller i a (p .0) f g h,
+        beyond-end tasks priority i b (p .1 .0) f g h,
+        beyond-end tasks privileged i c (p .1 .1 .0) f g h,
+        beyond-end tasks activation i d (p .1 .1 .1) f g h,
+      )
+      (sym task-zeros-each)
 
 -- of two lines whose positions and flags are bytes, the later has the larger key
 module _ (t p f u q h : ℕ) (np : p < 256) (nf : f < 256) (nq : q < 256) (nh : h < 256) where

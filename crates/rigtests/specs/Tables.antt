@@ -1,9 +1,10 @@
 -- The tests that go by a table of owners or of marks, as the code computes them, and what the tables must be for its indexes.
 -- Laws.antt proves them equal to the tests of Tests.antt.
+use mathlib.Core.Path.{_≡_}
 use mathlib.Core.Logic.{_≢_}
 use mathlib.Core.Bool.{Bool, not, cond, _&&_, _||_}
 use mathlib.Core.List.{List}
-use Prim.Native.Nat.{ℕ, _+_, _-_, _≤_, _<_}
+use Prim.Native.Nat.{ℕ, _+_, _-_, _*_, _≤_, _<_}
 use lib.Dec.{eqb}
 use Rattle.laws.specs.All.{all}
 use Rattle.rigtests.specs.Tests.{at, placeOf}
@@ -27,6 +28,16 @@ pub record Owned (n : ℕ) (atask apos aflag table : List ℕ) : Type 0 where
   pub fit : LinesFit n atask apos aflag
   pub some : (k : ℕ) → k < n → at table (placeOf atask apos k) ≢ 0
   pub few : (k : ℕ) → k < n → at table (placeOf atask apos k) ≤ n
+
+-- a table by place of condition has nothing from `end` on
+abbrev pub ZeroFrom : ℕ → List ℕ → Type 0
+ZeroFrom end l = (p : ℕ) → end ≤ p → p < 1040 → at l p ≡ 0
+
+-- no condition and no A line is of a task above the last
+pub record Ends (tasks n : ℕ) (present atask apos : List ℕ) : Type 0 where
+  pub few : tasks ≤ 64
+  pub conditions : ZeroFrom (16 * (tasks + 1)) present
+  pub lines : (k : ℕ) → k < n → placeOf atask apos k < 16 * (tasks + 1)
 
 -- a flag that is marked
 abbrev pub marked : List ℕ → ℕ → Bool

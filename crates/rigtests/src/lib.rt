@@ -1,15 +1,16 @@
 // The tests of a rig's tables of numbers, each a loop over lent arrays whose contract is the test that it computes. Each takes
 // time linear in its tables: what would compare every entry with every other goes by a table of owners or of marks.
 ghost use mathlib.Core.Path.{_≡_};
-ghost use mathlib.Core.Bool.{not, cond, _&&_, _||_};
+ghost use mathlib.Core.Bool.{true, not, _&&_, _||_};
 ghost use Prim.Native.Nat.{ℕ, _+_, _-_, _*_, _<_, _≤_};
 ghost use lib.Dec.{eqb};
 ghost use lib.ListN.{length};
 ghost use Rattle.laws.specs.All.{all};
 ghost use Rattle.laws.specs.Owners.{owners, marks};
-ghost use Rattle.rigtests.specs.Tests.{at, place, within, smallOne, smallB, conditionsB, linesRiseB, flagTest, cycleRises, conditionTasksB, linesB, cycleSmall, climb, controllersB, notMinorB, placeOf, taskZeroTest, taskZerosB, lineZerosB};
-ghost use Rattle.rigtests.specs.Passes.{underOne, zeroFrom, betweenOne, lineKey};
-ghost use Rattle.rigtests.specs.Tables.{marked, servedB, namedOwnerB, matchedB, minorTest, minorOwnerB, Low, Placed, Owned};
+ghost use Rattle.rigtests.specs.Tests.{at, place, within, smallOne, smallB, conditionsB, linesRiseB, flagTest, cycleRises, conditionTasksB, linesB, cycleSmall, climb, controllersB, notMinorB, placeOf, taskZerosB, lineZerosB};
+ghost use Rattle.rigtests.specs.Passes.{underOne, zeroOne, zeroFrom, betweenOne, lineKey};
+ghost use Rattle.rigtests.specs.Cycles.{flagsOnly};
+ghost use Rattle.rigtests.specs.Tables.{marked, servedB, namedOwnerB, matchedB, minorTest, minorOwnerB, Low, Placed, Owned, ZeroFrom};
 
 pub fn wide(x: u8) -> usize
     ensures { λ r. ⌜ r ≡ x ⌝ }
@@ -35,18 +36,20 @@ pub fn in_range(low: u8, n: u8, high: u8) -> bool
     if low <= n { n <= high } else { false }
 }
 
-// Each entry is at most top.
+// Each entry is at most top: the largest is. A loop that keeps the largest goes over many entries at once.
 pub fn small(l: &[u8; 65], top: u8) -> bool
     ensures { λ r. ⌜ r ≡ smallB (now (l .entry)) top ⌝ }
 {
+    let mut most: u8 = 0;
     let mut t: usize = 0;
     while t < 65 {
-        if top < l[t] {
-            return false;
+        let x = l[t];
+        if most < x {
+            most = x;
         }
         t = t + 1;
     }
-    true
+    most <= top
 }
 
 // Here and below a loop over a long table marks what fails and goes on: one that does not leave early tests many entries at
@@ -137,10 +140,29 @@ fn flag_rises(f: u8, h: u8) -> bool
     }
 }
 
-// The flags of one cycle rise, and nothing stands behind the last.
-pub fn cycle_rises(flags: [u8; 15]) -> bool
-    ensures { λ r. ⌜ r ≡ cycleRises flags ⌝ }
+// All fifteen places are 0.
+fn no_flags(flags: &[u8; 15]) -> bool
+    ensures { λ r. ⌜ r ≡ all 15 (zeroOne (now (flags .entry))) ⌝ }
 {
+    let mut k: usize = 0;
+    while k < 15 {
+        if flags[k] != 0 {
+            return false;
+        }
+        k = k + 1;
+    }
+    true
+}
+
+// The flags of one cycle rise, and nothing stands behind the last. A cycle that begins with 0 must have no flag at all, which
+// is seen without comparing neighbours.
+pub fn cycle_rises(flags: &[u8; 15]) -> bool
+    requires { ⌜ length (now flags) ≡ 15 ⌝ }
+    ensures { λ r. ⌜ r ≡ cycleRises (now (flags .entry)) ⌝ }
+{
+    if flags[0] == 0 {
+        return no_flags(flags);
+    }
     let mut i: usize = 0;
     while i < 14 {
         if !flag_rises(flags[i], flags[i + 1]) {
@@ -219,11 +241,16 @@ pub fn lines<'a>(
     between(aflag, n, 1, flags)
 }
 
+// No flag of a cycle is above top. Behind the first 0 of a cycle that rises there is no flag.
 pub fn cycle_small(top: u8, flags: &[u8; 15]) -> bool
+    requires { ⌜ cycleRises (now flags) ≡ true ⌝ }
     ensures { λ r. ⌜ r ≡ cycleSmall top (now (flags .entry)) ⌝ }
 {
     let mut i: usize = 0;
     while i < 15 {
+        if flags[i] == 0 {
+            return true;
+        }
         if top < flags[i] {
             return false;
         }
@@ -321,14 +348,18 @@ pub fn served<'a>(activation: &'a [u8; 65], table: &'a [u8; 129]) -> bool
     true
 }
 
-// Marks each flag of one cycle, and 0 for the places behind its last.
+// Marks each flag of one cycle that rises, up to its first 0. No flag has the number 0, so what is said of the table leaves
+// place 0 out.
 pub fn mark_cycle(flags: &[u8; 15], table: &mut [u8; 129])
-    requires { ⌜ ((i : ℕ) → i < 15 → at (now flags) i ≤ 128) ⌝ }
-    ensures { λ r. ⌜ now (table .exit) ≡ marks 15 (at (now (flags .entry))) (now (table .entry)) ⌝ }
+    requires { ⌜ (cycleRises (now flags) ≡ true) × ((i : ℕ) → i < 15 → at (now flags) i ≤ 128) ⌝ }
+    ensures { λ r. ⌜ flagsOnly (now (table .exit)) ≡ flagsOnly (marks 15 (at (now (flags .entry))) (now (table .entry))) ⌝ }
 {
     let mut i: usize = 0;
     while i < 15 {
         let f = wide(flags[i]);
+        if f == 0 {
+            break;
+        }
         table[f] = 1;
         i = i + 1;
     }
@@ -384,13 +415,14 @@ pub fn names_present<'a>(present: &'a [u8; 1040], table: &'a [u16; 1040]) -> boo
     bad == 0
 }
 
-// The owned places are the conditions: in one pass, that each condition has an owner too.
-pub fn matched<'a>(present: &'a [u8; 1040], table: &'a [u16; 1040]) -> bool
+// The owned places are the conditions: in one pass, that each condition has an owner too. From `end` on there is neither.
+pub fn matched<'a>(end: usize, present: &'a [u8; 1040], table: &'a [u16; 1040]) -> bool
+    requires { ⌜ (end ≤ 1040) × (ZeroFrom end (now present) × ZeroFrom end (now table)) ⌝ }
     ensures { λ r. ⌜ r ≡ matchedB (now (present .entry)) (now (table .entry)) ⌝ }
 {
     let mut bad: u8 = 0;
     let mut p: usize = 0;
-    while p < 1040 {
+    while p < end {
         let has = present[p];
         let owner = table[p];
         let mut want: u8 = 0;
@@ -459,12 +491,6 @@ pub fn minor_conditions<'a>(
     true
 }
 
-fn is_task(tasks: u8, t: usize) -> bool
-    ensures { λ r. ⌜ r ≡ within 1 t tasks ⌝ }
-{
-    if 1 <= t { t <= wide(tasks) } else { false }
-}
-
 fn four_zeros(a: u8, b: u8, c: u8, d: u8) -> bool
     ensures { λ r. ⌜ r ≡ (eqb a 0 && (eqb b 0 && (eqb c 0 && eqb d 0))) ⌝ }
 {
@@ -479,16 +505,8 @@ fn four_zeros(a: u8, b: u8, c: u8, d: u8) -> bool
     }
 }
 
-fn task_zero(tasks: u8, t: usize, a: u8, b: u8, c: u8, d: u8) -> bool
-    ensures { λ r. ⌜ r ≡ taskZeroTest tasks t a b c d ⌝ }
-{
-    if is_task(tasks, t) {
-        true
-    } else {
-        four_zeros(a, b, c, d)
-    }
-}
-
+// Entries at 0 and above the last task are 0: the largest of each table is. A loop that keeps the largest goes over many
+// entries at once.
 pub fn task_zeros<'a>(
     tasks: u8,
     controller: &'a [u8; 65],
@@ -499,21 +517,31 @@ pub fn task_zeros<'a>(
     ensures { λ r.
         ⌜ r ≡ taskZerosB tasks (now (controller .entry)) (now (priority .entry)) (now (privileged .entry)) (now (activation .entry)) ⌝ }
 {
-    let mut t: usize = 0;
+    let mut a = controller[0];
+    let mut b = priority[0];
+    let mut c = privileged[0];
+    let mut d = activation[0];
+    let mut t = wide(tasks) + 1;
     while t < 65 {
-        if !task_zero(
-            tasks,
-            t,
-            controller[t],
-            priority[t],
-            privileged[t],
-            activation[t],
-        ) {
-            return false;
+        let x = controller[t];
+        if a < x {
+            a = x;
+        }
+        let y = priority[t];
+        if b < y {
+            b = y;
+        }
+        let z = privileged[t];
+        if c < z {
+            c = z;
+        }
+        let w = activation[t];
+        if d < w {
+            d = w;
         }
         t = t + 1;
     }
-    true
+    four_zeros(a, b, c, d)
 }
 
 pub fn line_zeros<'a>(

@@ -1,17 +1,17 @@
 -- The tests of a table's entries part by part, as the loops compute them, and that together they say what the tests of
 -- Tests.antt say.
 use mathlib.Core.Path.{_≡_, refl, sym, _∙_, ap}
-use mathlib.Core.Logic.{_≢_}
+use mathlib.Core.Logic.{_≢_, _⊎_}
 use mathlib.Core.Bool.{Bool, true, false, cond, _&&_}
 use mathlib.Core.List.{List}
 use Prim.Native.Nat.{ℕ, _+_, _≤_, _<_}
-use native.Mathlib.Numerals.{add-one}
 use native.Mathlib.Omega.{arith}
 use lib.Dec.{eqb, leb}
 use lib.ListN.{length, getD}
 use borrow.Author.Tests.{eqb-true, eqb-false}
 use Rattle.laws.specs.Cases.{by}
 use Rattle.laws.specs.All.{all, since, since-at}
+use Rattle.laws.specs.Largest.{top-next}
 use Rattle.laws.specs.Decides.{Is, is-eqb, is-leb, is-ltb, is-and, is-else, is-then, is-all, is-said, is-same}
 use Rattle.rules.specs.Calls.{noSuch}
 use Rattle.rules.specs.Acceptance.{there-is}
@@ -34,23 +34,14 @@ pub record After (many size r : ℕ) : Type 0 where
 
 -- ---- the largest entry
 
--- the larger of two is at most top when both are
-larger : (top most x new : ℕ) → most ≤ new → x ≤ new → (most ≤ top → x ≤ top → new ≤ top) → leb new top ≡ (leb most top && leb x top)
-larger top most x new a b f =
-    is-same (is-leb new top)
-    (is-said (is-and (is-leb most top) (is-leb x top)) (λ w. f (w .0) (w .1)) (λ h. (omega (arith, a, h), omega (arith, b, h))))
-
 -- What the loop keeps: the largest entry so far is at most top exactly when each is. A turn of it.
 abbrev pub Most : ℕ → List ℕ → ℕ → ℕ → ℕ → Type 0
 Most top l from most i = leb most top ≡ all i (since from (cap top l))
 
-pub most-next : (top : ℕ) (l : List ℕ) (from most new i : ℕ) → from ≤ i → Most top l from most i → most ≤ new → getD l i 0 ≤ new
-    → (most ≤ top → getD l i 0 ≤ top → new ≤ top) → Most top l from new (i + 1)
-unfolding all
-most-next top l from most new i h p a b f =
-    larger top most (getD l i 0) new a b f
-    ∙ ap (λ (x : Bool). x && cap top l i) p
-    ∙ sym (rw (add-one, sym (since-at from (cap top l) i h)))
+pub most-next : (top : ℕ) (l : List ℕ) (from most i : ℕ) → from ≤ i → Most top l from most i
+    → {new : ℕ} {A B : Type 0} → (A × (new ≡ getD l i 0)) ⊎ (B × (new ≡ most)) → (A → most < getD l i 0) → (B → getD l i 0 ≤ most)
+    → Most top l from new (i + 1)
+most-next top l from most i h p = top-next most i (since from (cap top l)) (getD l i 0) top p (sym (since-at from (cap top l) i h))
 
 -- ---- what the parts say together
 

@@ -15,11 +15,11 @@ shape-at : (c : tie.Start) → allOf (shapedTests (c .args .t1)) ≡ true
 shape-at c =
     lengths-hold (c .args .t1) (search needs) (search needs) (search needs) (search needs) (search needs) (search needs) (search needs) (search needs) (search needs) (search needs)
 
--- src/lib.rt:562:5
+-- src/lib.rt:576:5
 broken-in-requires : tie.Need-broken-in-requires
 broken-in-requires c κs = shape-at (c .before .before .before .before .before .before .before .before .before .before .before .before)
 
--- src/lib.rt:558:1
+-- src/lib.rt:572:1
 returns : tie.Need-returns
 returns c = search needs
 

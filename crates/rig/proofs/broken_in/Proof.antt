@@ -1,11 +1,12 @@
 use mathlib.Core.Path.{_≡_, sym, _∙_}
+use mathlib.Core.Bool.{true}
 use native.Mathlib.Omega.{arith}
 use Rattle.laws.specs.All.{allOf}
 use Rattle.laws.specs.First.{firstFalse, first-found, first-passed, first-last}
 use Rattle.rig.specs.declared.Rig.{Rig}
 use Rattle.rig.specs.Forms.{rigOf}
-use Rattle.rig.specs.Tests.{shapedTests, countGroup, sizeGroup, orderGroup, numberGroup, taskGroup, lineGroup, restGroup, fromSizes, fromOrders, fromNumbers, fromTasks, fromLines, fromRest, tests, firstBroken}
-use Rattle.rig.specs.Whole.{Counted, counted, Numbered, numbered, task-answer, line-answer}
+use Rattle.rig.specs.Tests.{cyclesRiseB, shapedTests, countGroup, sizeGroup, orderGroup, numberGroup, taskGroup, lineGroup, restGroup, fromSizes, fromOrders, fromNumbers, fromTasks, fromLines, fromRest, tests, firstBroken}
+use Rattle.rig.specs.Whole.{Counted, counted, risen, Numbered, numbered, task-answer, line-answer}
 use borrow.Author.Needs.{needs}
 use Rattle.rig.proofs.broken_in.Statement.{statement}
 use Rattle.rig.proofs.broken_in.Tie as tie
@@ -25,11 +26,16 @@ abbrev rig-at : tie.Start → Rig
 rig-at c =
     rigOf (c .args .tasks) (c .args .flags) (c .args .master) (c .args .alines) (c .args .rows) (c .args .controller .now) (c .args .priority .now) (c .args .privileged .now) (c .args .activation .now) (c .args .present .now) (c .args .latched .now) (c .args .desired .now) (c .args .atask .now) (c .args .apos .now) (c .args .aflag .now) (c .args .row)
 
--- what the first and the fourth group leave known
+-- what the first, the third and the fourth group leave known
 counted-at : (c : tie.Else1) → Counted (c .before .before .args .tasks) (c .before .before .args .flags) (c .before .before .args .alines) (c .before .before .args .rows)
 counted-at c =
     let a = c .before .before .args in
     counted (a .tasks) (a .flags) (a .master) (a .alines) (a .rows) (c .before .counts .result) (c .before .counts .ensures) (c .if1 .left)
+
+risen-at : (c : tie.Else3) → cyclesRiseB (c .before .before .before .before .before .before .args .cycles) ≡ true
+risen-at c =
+    let a = c .before .before .before .before .before .before .args in
+    risen (a .alines) (a .atask .now) (a .apos .now) (a .aflag .now) (a .cycles) (c .before .orders .result) (c .before .orders .ensures) (c .if3 .left)
 
 numbered-at : (c : tie.Else4) → Numbered (rig-at (c .before .before .before .before .before .before .before .before)) (c .before .before .before .before .before .before .before .before .args .cycles)
 numbered-at c =
@@ -80,76 +86,78 @@ past6 c =
     let s = c .before .before .before .before .before .before .before .before .before .before .before .before .before .before .before in
     past5 (c .before .before .before) ∙ first-passed 19 (lineGroup (rig-at s) (s .args .cycles)) (fromRest (rig-at s)) (c .before .line-rules .result) (line-at (c .before)) (c .if6 .left) (omega arith)
 
--- src/lib.rt:504:9
+-- src/lib.rt:508:9
 counts-requires : tie.Need-counts-requires
 counts-requires c κs = search needs
 
--- src/lib.rt:506:9
+-- src/lib.rt:510:9
 returns : tie.Need-returns
 unfolding firstBroken tests
 returns c =
     let s = c .before .before in
     first-found 1 (countGroup (rig-at s)) (fromSizes (rig-at s) (s .args .cycles)) (c .before .counts .result) (c .before .counts .ensures) (c .if1 .taken)
 
--- src/lib.rt:511:9
+-- src/lib.rt:515:9
 sizes-requires : tie.Need-sizes-requires
 sizes-requires c κs = counted-at c .rows-le
 
--- src/lib.rt:513:9
+-- src/lib.rt:517:9
 returns-2 : tie.Need-returns-2
 returns-2 c =
     let s = c .before .before .before .before in
     first-found 6 (sizeGroup (rig-at s)) (fromOrders (rig-at s) (s .args .cycles)) (c .before .sizes .result) (c .before .sizes .ensures) (c .if2 .taken) ∙ sym (past1 (c .before .before))
 
--- src/lib.rt:515:9
+-- src/lib.rt:519:9
 orders-requires : tie.Need-orders-requires
 orders-requires c κs = counted-at (c .before .before) .lines-le
 
--- src/lib.rt:517:9
+-- src/lib.rt:521:9
 returns-3 : tie.Need-returns-3
 returns-3 c =
     let s = c .before .before .before .before .before .before in
     first-found 10 (orderGroup (rig-at s) (s .args .cycles)) (fromNumbers (rig-at s) (s .args .cycles)) (c .before .orders .result) (c .before .orders .ensures) (c .if3 .taken) ∙ sym (past2 (c .before .before))
 
--- src/lib.rt:519:9
+-- src/lib.rt:523:9
 numbers-requires : tie.Need-numbers-requires
-numbers-requires c κs = counted-at (c .before .before .before .before) .lines-le
+numbers-requires c κs = (counted-at (c .before .before .before .before) .lines-le, risen-at c)
 
--- src/lib.rt:531:9
+-- src/lib.rt:535:9
 returns-4 : tie.Need-returns-4
 returns-4 c =
     let s = c .before .before .before .before .before .before .before .before in
     first-found 12 (numberGroup (rig-at s) (s .args .cycles)) (fromTasks (rig-at s) (s .args .cycles)) (c .before .numbers .result) (c .before .numbers .ensures) (c .if4 .taken) ∙ sym (past3 (c .before .before))
 
--- src/lib.rt:533:17
+-- src/lib.rt:537:17
 minor-marks-requires : tie.Need-minor-marks-requires
-minor-marks-requires c κs = numbered-at c .minor
+minor-marks-requires c κs = (risen-at (c .before .before), numbered-at c .minor)
 
--- src/lib.rt:534:9
+-- src/lib.rt:538:9
 task-rules-requires : tie.Need-task-rules-requires
 task-rules-requires c κs = (counted-at (c .before .before .before .before .before .before .before .before) .some, (counted-at (c .before .before .before .before .before .before .before .before) .tasks-le, numbered-at (c .before .before) .activation))
 
--- src/lib.rt:536:9
+-- src/lib.rt:540:9
 returns-5 : tie.Need-returns-5
 returns-5 c =
     let s = c .before .before .before .before .before .before .before .before .before .before .before .before in
     first-found 16 (taskGroup (rig-at s) (s .args .cycles)) (fromLines (rig-at s) (s .args .cycles)) (c .before .task-rules .result) (task-at (c .before)) (c .if5 .taken) ∙ sym (past4 (c .before .before .before .before))
 
--- src/lib.rt:538:9
+-- src/lib.rt:542:9
 line-rules-requires : tie.Need-line-rules-requires
-line-rules-requires c κs = numbered-at (c .before .before .before .before .before) .fit
+line-rules-requires c κs =
+    let n = numbered-at (c .before .before .before .before .before) in
+    (n .fit, n .ends)
 
--- src/lib.rt:540:9
+-- src/lib.rt:554:9
 returns-6 : tie.Need-returns-6
 returns-6 c =
     let s = c .before .before .before .before .before .before .before .before .before .before .before .before .before .before .before in
     first-found 19 (lineGroup (rig-at s) (s .args .cycles)) (fromRest (rig-at s)) (c .before .line-rules .result) (line-at (c .before)) (c .if6 .taken) ∙ sym (past5 (c .before .before .before))
 
--- src/lib.rt:542:5
+-- src/lib.rt:556:5
 rest-rules-requires : tie.Need-rest-rules-requires
 rest-rules-requires c κs = (counted-at (c .before .before .before .before .before .before .before .before .before .before .before .before .before) .lines-le, counted-at (c .before .before .before .before .before .before .before .before .before .before .before .before .before) .rows-le)
 
--- src/lib.rt:478:1
+-- src/lib.rt:482:1
 returns-7 : tie.Need-returns-7
 returns-7 c =
     let s = c .before .before .before .before .before .before .before .before .before .before .before .before .before .before .before .before in

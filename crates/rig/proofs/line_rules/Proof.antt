@@ -1,13 +1,14 @@
 use mathlib.Core.Path.{_≡_, sym, _∙_, ap, subst}
 use mathlib.Core.Bool.{Bool, true, false, _&&_, false≢true}
 use mathlib.Core.List.{List}
-use Prim.Native.Nat.{ℕ}
+use Prim.Native.Nat.{ℕ, _+_, _*_}
+use native.Mathlib.Omega.{arith}
 use borrow.Author.Tests.{not-true, not-false}
 use Rattle.laws.specs.Cases.{and-true}
 use Rattle.laws.specs.First.{first-none, first-skip, first-here}
 use Rattle.rigtests.specs.Tests.{namedB, usedB, minorConditionsB}
-use Rattle.rigtests.specs.Tables.{marked, namedOwnerB, matchedB, minorOwnerB, Owned}
-use Rattle.rigtests.specs.Laws.{named-law, matched-law, minor-law, lasts-owned}
+use Rattle.rigtests.specs.Tables.{marked, namedOwnerB, matchedB, minorOwnerB, Owned, ZeroFrom}
+use Rattle.rigtests.specs.Laws.{named-law, matched-law, minor-law, lasts-owned, lasts-end}
 use borrow.Author.Needs.{needs}
 use Rattle.rig.proofs.line_rules.Statement.{statement}
 use Rattle.rig.proofs.line_rules.Tie as tie
@@ -22,13 +23,13 @@ use Rattle.rigtests.proofs.place_owners.Reads as place-owners-reads
 named-at : (c : tie.After-names-present) → namedB (c .before .before .before .before .before .before .args .alines) (c .before .before .before .before .before .before .args .present .now) (c .before .before .before .before .before .before .args .atask .now) (c .before .before .before .before .before .before .args .apos .now) ≡ c .names-present .result
 named-at c =
     let s = c .before .before .before .before .before .before in
-    sym (named-law (s .args .alines) (s .args .atask .now) (s .args .apos .now) (s .pre .placed) (s .args .present .now))
+    sym (named-law (s .args .alines) (s .args .atask .now) (s .args .apos .now) (s .pre .0 .placed) (s .args .present .now))
     ∙ ap (namedOwnerB (s .args .present .now)) (sym (c .before .before .before .before .before .place-owners .ensures)) ∙ sym (c .names-present .ensures)
 
 both-at : (c : tie.After-matched) → (namedB (c .before .before .before .args .alines) (c .before .before .before .args .present .now) (c .before .before .before .args .atask .now) (c .before .before .before .args .apos .now) && usedB (c .before .before .before .args .alines) (c .before .before .before .args .present .now) (c .before .before .before .args .atask .now) (c .before .before .before .args .apos .now)) ≡ c .matched .result
 both-at c =
     let s = c .before .before .before in
-    sym (matched-law (s .args .alines) (s .args .atask .now) (s .args .apos .now) (s .pre .placed) (s .args .present .now))
+    sym (matched-law (s .args .alines) (s .args .atask .now) (s .args .apos .now) (s .pre .0 .placed) (s .args .present .now))
     ∙ ap (matchedB (s .args .present .now)) (sym (c .before .before .place-owners .ensures)) ∙ sym (c .matched .ensures)
 
 -- where the first of two tests holds but not both, the second fails
@@ -44,27 +45,43 @@ both-hold c =
 minor-at : (c : tie.After-minor-conditions) → minorConditionsB (c .before .before .before .before .before .before .args .alines) (c .before .before .before .before .before .before .args .latched .now) (c .before .before .before .before .before .before .args .desired .now) (c .before .before .before .before .before .before .args .atask .now) (c .before .before .before .before .before .before .args .apos .now) (c .before .before .before .before .before .before .args .aflag .now) (marked (c .before .before .before .before .before .before .args .flags .now)) ≡ c .minor-conditions .result
 minor-at c =
     let s = c .before .before .before .before .before .before in
-    sym (minor-law (s .args .alines) (s .args .atask .now) (s .args .apos .now) (s .pre .placed) (s .args .latched .now) (s .args .desired .now) (s .args .aflag .now) (s .args .flags .now))
+    sym (minor-law (s .args .alines) (s .args .atask .now) (s .args .apos .now) (s .pre .0 .placed) (s .args .latched .now) (s .args .desired .now) (s .args .aflag .now) (s .args .flags .now))
     ∙ ap (minorOwnerB (s .args .alines) (s .args .latched .now) (s .args .desired .now) (s .args .atask .now) (s .args .apos .now) (s .args .aflag .now) (s .args .flags .now)) (sym (c .before .before .before .before .before .place-owners .ensures))
     ∙ sym (c .minor-conditions .ensures)
 
--- src/lib.rt:426:17
+-- src/lib.rt:430:17
 place-owners-requires : tie.Need-place-owners-requires
-place-owners-requires c κs = c .pre .placed
+place-owners-requires c κs = c .pre .0 .placed
 
--- src/lib.rt:428:9
+-- src/lib.rt:432:33
+add-matched : tie.Need-add-matched
+add-matched c = search needs
+
+-- src/lib.rt:432:27
+mul-matched : tie.Need-mul-matched
+mul-matched c = search needs
+
+-- src/lib.rt:432:9
 matched-requires : tie.Need-matched-requires
-matched-requires c κs = search needs
+matched-requires c κs =
+    let s = c .before .before in (
+      omega (arith, s .pre .1 .few),
+      (
+        s .pre .1 .conditions,
+        subst (λ (l : List ℕ). ZeroFrom (16 * (s .args .tasks + 1)) l) (sym (c .before .place-owners .ensures))
+            (lasts-end (s .args .alines) (s .args .atask .now) (s .args .apos .now) (s .pre .0 .placed) (16 * (s .args .tasks + 1)) (s .pre .1 .lines)),
+      ),
+    )
 
--- src/lib.rt:429:13
+-- src/lib.rt:433:13
 names-present-requires : tie.Need-names-present-requires
 names-present-requires c κs = search needs
 
--- src/lib.rt:430:13
+-- src/lib.rt:434:13
 returns : tie.Need-returns
 returns c = sym (first-here 19 _ _ (named-at (c .before) ∙ not-true _ (c .if2 .taken)))
 
--- src/lib.rt:432:9
+-- src/lib.rt:436:9
 returns-2 : tie.Need-returns-2
 returns-2 c =
     let s = c .before .before .before .before .before .before .before in
@@ -73,20 +90,20 @@ returns-2 c =
     (first-skip 19 _ _ a
     ∙ first-here 20 _ _ (second (namedB (s .args .alines) (s .args .present .now) (s .args .atask .now) (s .args .apos .now)) (usedB (s .args .alines) (s .args .present .now) (s .args .atask .now) (s .args .apos .now)) a (both-at (c .before .before .before .before) ∙ not-true _ (c .before .before .before .if1 .taken))))
 
--- src/lib.rt:434:9
+-- src/lib.rt:438:9
 minor-conditions-requires : tie.Need-minor-conditions-requires
 minor-conditions-requires c κs =
     let s = c .before .before .before .before .before in
     subst (λ (l : List ℕ). Owned (s .args .alines) (s .args .atask .now) (s .args .apos .now) (s .args .aflag .now) l) (sym (c .before .before .before .before .place-owners .ensures))
-    (lasts-owned (s .args .alines) (s .args .atask .now) (s .args .apos .now) (s .pre .placed) (s .args .aflag .now) (s .pre .flags))
+    (lasts-owned (s .args .alines) (s .args .atask .now) (s .args .apos .now) (s .pre .0 .placed) (s .args .aflag .now) (s .pre .0 .flags))
 
--- src/lib.rt:435:9
+-- src/lib.rt:439:9
 returns-3 : tie.Need-returns-3
 returns-3 c =
     let b = both-hold (c .before .before .before) in
     sym (first-skip 19 _ _ (b .0) ∙ first-skip 20 _ _ (b .1) ∙ first-here 21 _ _ (minor-at (c .before) ∙ not-true _ (c .if3 .taken)))
 
--- src/lib.rt:409:1
+-- src/lib.rt:412:1
 returns-4 : tie.Need-returns-4
 returns-4 c =
     let b = both-hold (c .before .before .before) in
@@ -97,6 +114,8 @@ line-rules-spec =
     tie.close
     (tie.spec
     place-owners-requires
+    add-matched
+    mul-matched
     matched-requires
     names-present-requires
     returns

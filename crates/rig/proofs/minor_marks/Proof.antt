@@ -1,11 +1,13 @@
 use borrow.Author.Needs.{needs}
 use mathlib.Core.Path.{_≡_, sym, _∙_, ap}
-use Prim.Native.Nat.{ℕ, _≤_, _-_}
+use Prim.Native.Nat.{_≤_, _-_}
 use native.Mathlib.Omega.{arith}
-use lib.ListN.{set, replicate}
-use Rattle.laws.specs.Iter.{iter, iter-zero, iter-step}
-use mathlib.Core.List.{List}
+use lib.ListN.{getD, replicate}
+use Rattle.laws.specs.Iter.{iter, iter-zero, iter-next}
+use Rattle.rigtests.specs.Cycles.{flagsOnly, marks-flags}
+use Rattle.rig.specs.Rules.{at, noCycle}
 use Rattle.rig.specs.Tests.{markCycle, minorMarks}
+use Rattle.rig.specs.Marks.{cycles-rise-at}
 use Rattle.rig.proofs.minor_marks.Statement.{statement}
 use Rattle.rig.proofs.minor_marks.Tie as tie
 use Rattle.rig.proofs.minor_marks.Reads as reads
@@ -13,51 +15,56 @@ use Rattle.rig.proofs.minor_marks.Lts as lts
 use Rattle.rigtests.proofs.mark_cycle.Reads as mark-cycle-reads
 
 abbrev Inv-loop : tie.InvT-loop
-Inv-loop cycles table₀ c₀ table c = (table ≡ iter c (markCycle cycles) (replicate 129 0)) × (c ≤ 64)
+Inv-loop cycles table₀ c₀ table c = (flagsOnly table ≡ flagsOnly (iter c (markCycle cycles) (replicate 129 0))) × (c ≤ 64)
 
 abbrev μ-loop : tie.MeasureT-loop
 μ-loop cycles table₀ c₀ table c = 64 - c
 
--- src/lib.rt:214:5
+-- src/lib.rt:216:5
 loop-holds : tie.Need-loop-holds Inv-loop μ-loop
-loop-holds c = (sym (iter-zero _ _), search needs)
+loop-holds c = (ap flagsOnly (sym (iter-zero _ _)), search needs)
 
--- src/lib.rt:215:21
+-- src/lib.rt:217:21
 mul-cycle : tie.Need-mul-cycle Inv-loop μ-loop
 mul-cycle c = search needs
 
--- src/lib.rt:215:21
+-- src/lib.rt:217:21
 array-copy-out-cycle : tie.Need-array-copy-out-cycle Inv-loop μ-loop
 array-copy-out-cycle c = search needs
 
--- src/lib.rt:216:9
+-- src/lib.rt:218:9
 mark-cycle-requires : tie.Need-mark-cycle-requires Inv-loop μ-loop
-mark-cycle-requires c κs = λ i h. c .before .before .before .before .before .before .pre (c .before .before .before .before .before .loop .c) (c .before .before .before .before .loop-test .taken) i h
+mark-cycle-requires c κs =
+    let s = c .before .before .before .before .before .before in
+    let k = c .before .before .before .before .before .loop .c in
+    let h = c .before .before .before .before .loop-test .taken in
+    (cycles-rise-at (s .args .t1) (s .pre .0) k h, s .pre .1 k h)
 
--- src/lib.rt:217:13
+-- src/lib.rt:219:13
 add-c : tie.Need-add-c Inv-loop μ-loop
 add-c c = search needs
 
--- src/lib.rt:214:5
+-- src/lib.rt:216:5
 loop-less : tie.Need-loop-less Inv-loop μ-loop
 loop-less c = search needs
 
--- src/lib.rt:214:5
+-- src/lib.rt:216:5
 loop-again : tie.Need-loop-again Inv-loop μ-loop
 loop-again c =
-    let d = c .before .before .before .before .before .before in
-    (c .mark-cycle .ensures ∙ iter-step (d .loop .c) (markCycle (d .before .args .t1)) (replicate 129 0) (d .loop .table) (d .loop .inv .0), search needs)
+    let k = c .before .before .before .before .before .before .loop in
+    let l = c .before .before .before .before .before .before .before .args .t1 in
+    (c .mark-cycle .ensures ∙ marks-flags 15 (at (getD l (k .c) noCycle .flags)) (k .table) (iter (k .c) (markCycle l) (replicate 129 0)) (k .inv .0) ∙ ap flagsOnly (sym (iter-next (k .c) (markCycle l) (replicate 129 0))), search needs)
 
--- src/lib.rt:219:5
+-- src/lib.rt:221:5
 array-write-table : tie.Need-array-write-table Inv-loop μ-loop
 array-write-table c = search needs
 
--- src/lib.rt:208:1
+-- src/lib.rt:210:1
 returns : tie.Need-returns Inv-loop μ-loop
 unfolding minorMarks
 returns c =
     let e : c .before .loop .c ≡ 64 = omega arith in
-    ap (λ (l : List ℕ). set l 0 0) (rw e at (c .before .loop .inv .0))
+    rw e at (c .before .loop .inv .0)
 
 pub minor-marks-spec : {M : Type 1} → statement M
 minor-marks-spec =

@@ -17,23 +17,23 @@ Inv-loop l top bad₀ i₀ bad i = Passed bad i (smallOne l top) × (i ≤ 1040)
 abbrev μ-loop : tie.MeasureT-loop
 μ-loop l top bad₀ i₀ bad i = 1040 - i
 
--- src/lib.rt:59:5
+-- src/lib.rt:62:5
 loop-holds : tie.Need-loop-holds Inv-loop μ-loop
 loop-holds c = (passed-none _, search needs)
 
--- src/lib.rt:60:18
+-- src/lib.rt:63:18
 element-copy-out-if1 : tie.Need-element-copy-out-if1 Inv-loop μ-loop
 element-copy-out-if1 c = search needs
 
--- src/lib.rt:63:13
+-- src/lib.rt:66:13
 add-i : tie.Need-add-i Inv-loop μ-loop
 add-i c = search needs
 
--- src/lib.rt:59:5
+-- src/lib.rt:62:5
 loop-less : tie.Need-loop-less Inv-loop μ-loop
 loop-less c = search needs
 
--- src/lib.rt:59:5
+-- src/lib.rt:62:5
 loop-again : tie.Need-loop-again Inv-loop μ-loop
 loop-again c = (
   ⊎-elim (λ w. passed-not _ _ (lt-leb _ _ (w .0 .taken)) (w .1))
@@ -42,7 +42,7 @@ loop-again c = (
   search needs,
 )
 
--- src/lib.rt:54:1
+-- src/lib.rt:57:1
 returns : tie.Need-returns Inv-loop μ-loop
 returns c =
     let e : c .before .loop .i ≡ 1040 = omega arith in

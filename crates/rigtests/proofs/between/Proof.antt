@@ -16,23 +16,23 @@ Inv-loop l n low high bad₀ k₀ bad k = Passed bad k (betweenOne low high l) �
 abbrev μ-loop : tie.MeasureT-loop
 μ-loop l n low high bad₀ k₀ bad k = n - k
 
--- src/lib.rt:188:5
+-- src/lib.rt:210:5
 loop-holds : tie.Need-loop-holds Inv-loop μ-loop
 loop-holds c = (passed-none _, search needs)
 
--- src/lib.rt:189:17
+-- src/lib.rt:211:17
 element-copy-out-x : tie.Need-element-copy-out-x Inv-loop μ-loop
 element-copy-out-x c = search needs
 
--- src/lib.rt:196:13
+-- src/lib.rt:218:13
 add-k : tie.Need-add-k Inv-loop μ-loop
 add-k c = search needs
 
--- src/lib.rt:188:5
+-- src/lib.rt:210:5
 loop-less : tie.Need-loop-less Inv-loop μ-loop
 loop-less c = search needs
 
--- src/lib.rt:188:5
+-- src/lib.rt:210:5
 loop-again : tie.Need-loop-again Inv-loop μ-loop
 loop-again c = (
   ⊎-elim (λ w. passed-not _ _ (within-above _ _ _ (w .0 .taken)) (w .1))
@@ -44,7 +44,7 @@ loop-again c = (
   search needs,
 )
 
--- src/lib.rt:182:1
+-- src/lib.rt:204:1
 returns : tie.Need-returns Inv-loop μ-loop
 returns c =
     let e : c .before .loop .k ≡ c .before .before .args .n = omega arith in

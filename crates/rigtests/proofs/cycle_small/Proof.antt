@@ -6,6 +6,7 @@ use Prim.Native.Nat.{_≤_, _-_}
 use native.Mathlib.Omega.{arith}
 use Rattle.laws.specs.All.{all, all-zero, all-next, all-not}
 use Rattle.rigtests.specs.Tests.{smallOne, cycleSmall}
+use Rattle.rigtests.specs.Cycles.{small-up-to}
 use Rattle.rigtests.proofs.cycle_small.Statement.{statement}
 use Rattle.rigtests.proofs.cycle_small.Tie as tie
 use Rattle.rigtests.proofs.cycle_small.Reads as reads
@@ -17,35 +18,43 @@ Inv-loop top flags i₀ i = (all i (smallOne flags top) ≡ true) × (i ≤ 15)
 abbrev μ-loop : tie.MeasureT-loop
 μ-loop top flags i₀ i = 15 - i
 
--- src/lib.rt:226:5
+-- src/lib.rt:250:5
 loop-holds : tie.Need-loop-holds Inv-loop μ-loop
 loop-holds c = (all-zero _, search needs)
 
--- src/lib.rt:227:18
+-- src/lib.rt:251:12
 element-copy-out-if1 : tie.Need-element-copy-out-if1 Inv-loop μ-loop
 element-copy-out-if1 c = search needs
 
--- src/lib.rt:228:13
+-- src/lib.rt:252:13
 returns : tie.Need-returns Inv-loop μ-loop
-unfolding cycleSmall
-returns c = sym (all-not _ _ (c .before .before .before .loop .i) (c .before .before .loop-test .taken) (lt-leb _ _ (c .if1 .taken)))
+returns c = sym (small-up-to (c .before .before .before .before .args .flags .now) (c .before .before .before .before .pre) (c .before .before .before .loop .i) (c .if1 .taken) (c .before .before .before .before .args .top) (c .before .before .before .loop .inv .0))
 
--- src/lib.rt:230:13
+-- src/lib.rt:254:18
+element-copy-out-if2 : tie.Need-element-copy-out-if2 Inv-loop μ-loop
+element-copy-out-if2 c = search needs
+
+-- src/lib.rt:255:13
+returns-2 : tie.Need-returns-2 Inv-loop μ-loop
+unfolding cycleSmall
+returns-2 c = sym (all-not 15 _ (c .before .before .before .before .before .loop .i) (c .before .before .before .before .loop-test .taken) (lt-leb _ _ (c .if2 .taken)))
+
+-- src/lib.rt:257:13
 add-i : tie.Need-add-i Inv-loop μ-loop
 add-i c = search needs
 
--- src/lib.rt:226:5
+-- src/lib.rt:250:5
 loop-less : tie.Need-loop-less Inv-loop μ-loop
 loop-less c = search needs
 
--- src/lib.rt:226:5
+-- src/lib.rt:250:5
 loop-again : tie.Need-loop-again Inv-loop μ-loop
-loop-again c = (all-next _ _ (c .before .before .before .loop .inv .0) (le-leb _ _ (c .if1 .left)), search needs)
+loop-again c = (all-next _ _ (c .before .before .before .before .before .loop .inv .0) (le-leb _ _ (c .if2 .left)), search needs)
 
--- src/lib.rt:222:1
-returns-2 : tie.Need-returns-2 Inv-loop μ-loop
+-- src/lib.rt:245:1
+returns-3 : tie.Need-returns-3 Inv-loop μ-loop
 unfolding cycleSmall
-returns-2 c =
+returns-3 c =
     let e : c .before .loop .i ≡ 15 = omega arith in
     sym (rw e at (c .before .loop .inv .0))
 
@@ -58,7 +67,9 @@ cycle-small-spec =
     loop-holds
     element-copy-out-if1
     returns
+    element-copy-out-if2
+    returns-2
     add-i
     loop-less
     loop-again
-    returns-2)
+    returns-3)

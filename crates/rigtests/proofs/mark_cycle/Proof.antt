@@ -6,6 +6,7 @@ use lib.ListN.{set}
 use Rattle.laws.specs.Iter.{iter, iter-zero, iter-step}
 use Rattle.laws.specs.Owners.{markOne, marks}
 use Rattle.rigtests.specs.Tests.{at}
+use Rattle.rigtests.specs.Cycles.{flagsOnly, marks-up-to}
 use Rattle.rigtests.proofs.mark_cycle.Statement.{statement}
 use Rattle.rigtests.proofs.mark_cycle.Tie as tie
 use Rattle.rigtests.proofs.mark_cycle.Reads as reads
@@ -18,43 +19,50 @@ Inv-loop flags table₀ i₀ table i = (table ≡ iter i (markOne (at flags)) ta
 abbrev μ-loop : tie.MeasureT-loop
 μ-loop flags table₀ i₀ table i = 15 - i
 
--- src/lib.rt:330:5
+-- src/lib.rt:358:5
 loop-holds : tie.Need-loop-holds Inv-loop μ-loop
 loop-holds c = (sym (iter-zero _ _), search needs)
 
--- src/lib.rt:331:22
+-- src/lib.rt:359:22
 element-copy-out-wide : tie.Need-element-copy-out-wide Inv-loop μ-loop
 element-copy-out-wide c = search needs
 
--- src/lib.rt:331:13
+-- src/lib.rt:359:13
 wide-requires : tie.Need-wide-requires Inv-loop μ-loop
 wide-requires c κs = search needs
 
--- src/lib.rt:332:9
+-- src/lib.rt:363:9
 element-write-table : tie.Need-element-write-table Inv-loop μ-loop
-element-write-table c = omega (arith, c .wide .ensures, c .before .before .before .before .pre (c .before .before .before .loop .i) (c .before .before .loop-test .taken))
+element-write-table c = omega (arith, c .before .wide .ensures, c .before .before .before .before .before .pre .1 (c .before .before .before .before .loop .i) (c .before .before .before .loop-test .taken))
 
--- src/lib.rt:333:13
+-- src/lib.rt:364:13
 add-i : tie.Need-add-i Inv-loop μ-loop
 add-i c = search needs
 
--- src/lib.rt:330:5
+-- src/lib.rt:358:5
 loop-less : tie.Need-loop-less Inv-loop μ-loop
 loop-less c = search needs
 
--- src/lib.rt:330:5
+-- src/lib.rt:358:5
 loop-again : tie.Need-loop-again Inv-loop μ-loop
 loop-again c =
-    let d = c .before .before .before in
+    let d = c .before .before .before .before in
     let a = d .before .args in
-    (ap (λ (p : ℕ). set (d .loop .table) p 1) (c .wide .ensures) ∙ iter-step (d .loop .i) (markOne (at (a .flags .now))) (a .table .now) (d .loop .table) (d .loop .inv .0), search needs)
+    (ap (λ (p : ℕ). set (d .loop .table) p 1) (c .before .wide .ensures) ∙ iter-step (d .loop .i) (markOne (at (a .flags .now))) (a .table .now) (d .loop .table) (d .loop .inv .0), search needs)
 
--- src/lib.rt:325:1
+-- src/lib.rt:353:1
 returns : tie.Need-returns Inv-loop μ-loop
 unfolding marks
 returns c =
     let e : c .before .loop .i ≡ 15 = omega arith in
-    rw e at (c .before .loop .inv .0)
+    ap flagsOnly (rw e at (c .before .loop .inv .0))
+
+-- src/lib.rt:353:1
+returns-2 : tie.Need-returns-2 Inv-loop μ-loop
+returns-2 c =
+    let d = c .before .before .before .before in
+    let a = d .before .args in
+    ap flagsOnly (d .loop .inv .0) ∙ marks-up-to (a .flags .now) (d .before .pre .0) (d .loop .i) (sym (c .before .wide .ensures) ∙ c .if1 .taken) (a .table .now) (c .before .before .before .loop-test .taken)
 
 pub mark-cycle-spec : {M : Type 1} → statement M
 mark-cycle-spec =
@@ -69,4 +77,5 @@ mark-cycle-spec =
     add-i
     loop-less
     loop-again
-    returns)
+    returns
+    returns-2)

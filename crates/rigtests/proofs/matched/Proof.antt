@@ -8,43 +8,44 @@ use native.Mathlib.Omega.{arith}
 use lib.Dec.{eqb}
 use Rattle.laws.specs.All.{Passed, passed-none, passed-next, passed-not}
 use Rattle.rigtests.specs.Tests.{at}
-use Rattle.rigtests.specs.Tables.{matchedOne, matchedB}
+use Rattle.rigtests.specs.Tables.{matchedOne}
+use Rattle.rigtests.specs.Laws.{matched-end}
 use Rattle.rigtests.proofs.matched.Statement.{statement}
 use Rattle.rigtests.proofs.matched.Tie as tie
 use Rattle.rigtests.proofs.matched.Reads as reads
 use Rattle.rigtests.proofs.matched.Lts as lts
 
 abbrev Inv-loop : tie.InvT-loop
-Inv-loop present table bad₀ p₀ bad p = Passed bad p (matchedOne present table) × (p ≤ 1040)
+Inv-loop end present table bad₀ p₀ bad p = Passed bad p (matchedOne present table) × (p ≤ end)
 
 abbrev μ-loop : tie.MeasureT-loop
-μ-loop present table bad₀ p₀ bad p = 1040 - p
+μ-loop end present table bad₀ p₀ bad p = end - p
 
--- src/lib.rt:393:5
+-- src/lib.rt:425:5
 loop-holds : tie.Need-loop-holds Inv-loop μ-loop
 loop-holds c = (passed-none _, search needs)
 
--- src/lib.rt:394:19
+-- src/lib.rt:426:19
 element-copy-out-has : tie.Need-element-copy-out-has Inv-loop μ-loop
 element-copy-out-has c = search needs
 
--- src/lib.rt:395:21
+-- src/lib.rt:427:21
 mul-owner : tie.Need-mul-owner Inv-loop μ-loop
 mul-owner c = search needs
 
--- src/lib.rt:395:21
+-- src/lib.rt:427:21
 element-copy-out-owner : tie.Need-element-copy-out-owner Inv-loop μ-loop
 element-copy-out-owner c = search needs
 
--- src/lib.rt:403:13
+-- src/lib.rt:435:13
 add-p : tie.Need-add-p Inv-loop μ-loop
 add-p c = search needs
 
--- src/lib.rt:393:5
+-- src/lib.rt:425:5
 loop-less : tie.Need-loop-less Inv-loop μ-loop
 loop-less c = search needs
 
--- src/lib.rt:393:5
+-- src/lib.rt:425:5
 loop-again : tie.Need-loop-again Inv-loop μ-loop
 loop-again c =
     let s = c .before .before .before .before .before .before .args in
@@ -57,12 +58,12 @@ loop-again c =
       search needs,
     )
 
--- src/lib.rt:388:1
+-- src/lib.rt:419:1
 returns : tie.Need-returns Inv-loop μ-loop
-unfolding matchedB
 returns c =
-    let e : c .before .loop .p ≡ 1040 = omega arith in
-    rw e at (c .before .loop .inv .0)
+    let s = c .before .before in
+    let e : c .before .loop .p ≡ s .args .end = omega arith in
+    (rw e at (c .before .loop .inv .0)) ∙ matched-end (s .args .end) (s .args .present .now) (s .args .table .now) (s .pre .0) (s .pre .1 .0) (s .pre .1 .1)
 
 pub matched-spec : {M : Type 1} → statement M
 matched-spec =

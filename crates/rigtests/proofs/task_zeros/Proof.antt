@@ -1,70 +1,106 @@
 use borrow.Author.Needs.{needs}
-use mathlib.Core.Path.{_≡_, sym, _∙_}
-use mathlib.Core.Bool.{true}
-use borrow.Author.Tests.{not-true, not-false}
-use Prim.Native.Nat.{_≤_, _-_}
+use mathlib.Core.Path.{_≡_, _∙_}
+use Prim.Native.Nat.{_+_, _≤_, _<_, _-_}
 use native.Mathlib.Omega.{arith}
-use Rattle.laws.specs.All.{all, all-zero, all-next, all-not}
-use Rattle.rigtests.specs.Tests.{taskZeroOne, taskZerosB}
+use Rattle.rigtests.specs.Passes.{beyond-next, Largest, largest-start, largest-end}
 use Rattle.rigtests.proofs.task_zeros.Statement.{statement}
 use Rattle.rigtests.proofs.task_zeros.Tie as tie
 use Rattle.rigtests.proofs.task_zeros.Reads as reads
 use Rattle.rigtests.proofs.task_zeros.Lts as lts
-use Rattle.rigtests.proofs.task_zero.Reads as task-zero-reads
+use Rattle.rigtests.proofs.four_zeros.Reads as four-zeros-reads
+use Rattle.rigtests.proofs.wide.Reads as wide-reads
 
 abbrev Inv-loop : tie.InvT-loop
-Inv-loop tasks controller priority privileged activation t₀ t = (all t (taskZeroOne tasks controller priority privileged activation) ≡ true) × (t ≤ 65)
+Inv-loop tasks controller priority privileged activation a₀ b₀ c₀ d₀ t₀ a b c d t = Largest tasks controller priority privileged activation a b c d t × ((tasks + 1 ≤ t) × (t - (tasks + 1) ≤ 65 - (tasks + 1)))
 
 abbrev μ-loop : tie.MeasureT-loop
-μ-loop tasks controller priority privileged activation t₀ t = 65 - t
+μ-loop tasks controller priority privileged activation a₀ b₀ c₀ d₀ t₀ a b c d t = 65 - t
 
--- src/lib.rt:503:5
-loop-holds : tie.Need-loop-holds Inv-loop μ-loop
-loop-holds c = (all-zero _, search needs)
+-- src/lib.rt:520:17
+element-copy-out-a : tie.Need-element-copy-out-a Inv-loop μ-loop
+element-copy-out-a c = search needs
 
--- src/lib.rt:507:13
-element-copy-out-task-zero : tie.Need-element-copy-out-task-zero Inv-loop μ-loop
-element-copy-out-task-zero c = search needs
+-- src/lib.rt:521:17
+element-copy-out-b : tie.Need-element-copy-out-b Inv-loop μ-loop
+element-copy-out-b c = search needs
 
--- src/lib.rt:508:13
-element-copy-out-task-zero-2 : tie.Need-element-copy-out-task-zero-2 Inv-loop μ-loop
-element-copy-out-task-zero-2 c = search needs
+-- src/lib.rt:522:17
+element-copy-out-c : tie.Need-element-copy-out-c Inv-loop μ-loop
+element-copy-out-c c = search needs
 
--- src/lib.rt:509:13
-element-copy-out-task-zero-3 : tie.Need-element-copy-out-task-zero-3 Inv-loop μ-loop
-element-copy-out-task-zero-3 c = search needs
+-- src/lib.rt:523:17
+element-copy-out-d : tie.Need-element-copy-out-d Inv-loop μ-loop
+element-copy-out-d c = search needs
 
--- src/lib.rt:510:13
-element-copy-out-task-zero-4 : tie.Need-element-copy-out-task-zero-4 Inv-loop μ-loop
-element-copy-out-task-zero-4 c = search needs
+-- src/lib.rt:524:17
+wide-requires : tie.Need-wide-requires Inv-loop μ-loop
+wide-requires c κs = search needs
 
--- src/lib.rt:504:13
-task-zero-requires : tie.Need-task-zero-requires Inv-loop μ-loop
-task-zero-requires c κs = search needs
-
--- src/lib.rt:512:13
-returns : tie.Need-returns Inv-loop μ-loop
-unfolding taskZerosB
-returns c = sym (all-not _ _ (c .before .before .before .before .before .before .before .loop .t) (c .before .before .before .before .before .before .loop-test .taken) (sym (c .before .task-zero .ensures) ∙ not-true _ (c .if1 .taken)))
-
--- src/lib.rt:514:13
+-- src/lib.rt:524:17
 add-t : tie.Need-add-t Inv-loop μ-loop
 add-t c = search needs
 
--- src/lib.rt:503:5
+-- src/lib.rt:525:5
+loop-holds : tie.Need-loop-holds Inv-loop μ-loop
+loop-holds c =
+    let s = c .before .before .before .before .before .args in
+    let e : c .wide .result ≡ s .tasks = c .wide .ensures in
+    (largest-start (s .tasks) (s .controller .now) (s .priority .now) (s .privileged .now) (s .activation .now) (c .wide .result + 1) (omega arith) (omega (arith, e)), (omega (arith, e), omega (arith, e)))
+
+-- src/lib.rt:526:17
+element-copy-out-x : tie.Need-element-copy-out-x Inv-loop μ-loop
+element-copy-out-x c = search needs
+
+-- src/lib.rt:530:17
+element-copy-out-y : tie.Need-element-copy-out-y Inv-loop μ-loop
+element-copy-out-y c = search needs
+
+-- src/lib.rt:534:17
+element-copy-out-z : tie.Need-element-copy-out-z Inv-loop μ-loop
+element-copy-out-z c = search needs
+
+-- src/lib.rt:538:17
+element-copy-out-w : tie.Need-element-copy-out-w Inv-loop μ-loop
+element-copy-out-w c = search needs
+
+-- src/lib.rt:542:13
+add-t-2 : tie.Need-add-t-2 Inv-loop μ-loop
+add-t-2 c = search needs
+
+-- src/lib.rt:525:5
 loop-less : tie.Need-loop-less Inv-loop μ-loop
 loop-less c = search needs
 
--- src/lib.rt:503:5
+-- src/lib.rt:525:5
 loop-again : tie.Need-loop-again Inv-loop μ-loop
-loop-again c = (all-next _ _ (c .before .before .before .before .before .before .before .loop .inv .0) (sym (c .before .task-zero .ensures) ∙ not-false _ (c .if1 .left)), search needs)
+loop-again c =
+    let k = c .before .before .before .before .before .before .before .before .before .loop in
+    let s = c .before .before .before .before .before .before .before .before .before .before .before .before .before .before .before .args in
+    let p = k .inv .0 in
+    let h : s .tasks < k .t = omega (arith, k .inv .1 .0) in (
+      (
+        beyond-next (s .tasks) (s .controller .now) (k .a) (k .t) (p .0) h (c .before .before .before .before .before .before .if1 .came) (λ w. w .taken) (λ w. w .left),
+        (
+          beyond-next (s .tasks) (s .priority .now) (k .b) (k .t) (p .1 .0) h (c .before .before .before .before .if2 .came) (λ w. w .taken) (λ w. w .left),
+          (
+            beyond-next (s .tasks) (s .privileged .now) (k .c) (k .t) (p .1 .1 .0) h (c .before .before .if3 .came) (λ w. w .taken) (λ w. w .left),
+            beyond-next (s .tasks) (s .activation .now) (k .d) (k .t) (p .1 .1 .1) h (c .if4 .came) (λ w. w .taken) (λ w. w .left),
+          ),
+        ),
+      ),
+      search needs,
+    )
 
--- src/lib.rt:492:1
-returns-2 : tie.Need-returns-2 Inv-loop μ-loop
-unfolding taskZerosB
-returns-2 c =
-    let e : c .before .loop .t ≡ 65 = omega arith in
-    sym (rw e at (c .before .loop .inv .0))
+-- src/lib.rt:544:5
+four-zeros-requires : tie.Need-four-zeros-requires Inv-loop μ-loop
+four-zeros-requires c κs = search needs
+
+-- src/lib.rt:510:1
+returns : tie.Need-returns Inv-loop μ-loop
+returns c =
+    let k = c .before .before .loop in
+    let s = c .before .before .before .before .before .before .before .before .args in
+    c .four-zeros .ensures ∙ largest-end (s .tasks) (s .controller .now) (s .priority .now) (s .privileged .now) (s .activation .now) (k .a) (k .b) (k .c) (k .d) (k .t) (k .inv .0) (k .inv .1 .0) (k .inv .1 .1) (c .before .loop-test .left)
 
 pub task-zeros-spec : {M : Type 1} → statement M
 task-zeros-spec =
@@ -72,14 +108,19 @@ task-zeros-spec =
     (tie.spec
     Inv-loop
     μ-loop
-    loop-holds
-    element-copy-out-task-zero
-    element-copy-out-task-zero-2
-    element-copy-out-task-zero-3
-    element-copy-out-task-zero-4
-    task-zero-requires
-    returns
+    element-copy-out-a
+    element-copy-out-b
+    element-copy-out-c
+    element-copy-out-d
+    wide-requires
     add-t
+    loop-holds
+    element-copy-out-x
+    element-copy-out-y
+    element-copy-out-z
+    element-copy-out-w
+    add-t-2
     loop-less
     loop-again
-    returns-2)
+    four-zeros-requires
+    returns)

@@ -17,23 +17,23 @@ Inv-loop l from to bad₀ i₀ bad i = Passed bad i (zeroFrom from l) × ((from 
 abbrev μ-loop : tie.MeasureT-loop
 μ-loop l from to bad₀ i₀ bad i = to - i
 
--- src/lib.rt:161:5
+-- src/lib.rt:183:5
 loop-holds : tie.Need-loop-holds Inv-loop μ-loop
 loop-holds c = (sym (since-start (c .args .from) _ (c .args .from) (omega arith)), search needs)
 
--- src/lib.rt:162:12
+-- src/lib.rt:184:12
 shared-slice-read-if1 : tie.Need-shared-slice-read-if1 Inv-loop μ-loop
 shared-slice-read-if1 c = search needs
 
--- src/lib.rt:165:13
+-- src/lib.rt:187:13
 add-i : tie.Need-add-i Inv-loop μ-loop
 add-i c = search needs
 
--- src/lib.rt:161:5
+-- src/lib.rt:183:5
 loop-less : tie.Need-loop-less Inv-loop μ-loop
 loop-less c = search needs
 
--- src/lib.rt:161:5
+-- src/lib.rt:183:5
 loop-again : tie.Need-loop-again Inv-loop μ-loop
 loop-again c =
     let d = c .before .before .before .loop .inv in
@@ -45,7 +45,7 @@ loop-again c =
       search needs,
     )
 
--- src/lib.rt:155:1
+-- src/lib.rt:177:1
 returns : tie.Need-returns Inv-loop μ-loop
 returns c =
     let a = c .before .before .args in

@@ -1,5 +1,4 @@
 use borrow.Author.Needs.{needs}
-use mathlib.Core.Logic.{⊎-elim}
 use mathlib.Core.Path.{sym, _∙_}
 use Prim.Native.Nat.{_≤_, _-_}
 use native.Mathlib.Omega.{arith}
@@ -30,11 +29,8 @@ loop-less c = search needs
 loop-again : tie.Need-loop-again Inv-loop μ-loop
 loop-again c =
     let a = c .before .before .before .before .args in
-    let d = c .before .before .before .loop in
-    let next = most-next (a .top) (a .table .now) (a .from) (d .most) (c .if1 .most) (d .i) (d .inv .1 .0) (d .inv .0) in (
-      ⊎-elim (λ w. next (omega (arith, w .0 .taken, w .1)) (omega (arith, w .1)) (λ e f. omega (arith, w .1, f)))
-          (λ w. next (omega (arith, w .1)) (omega (arith, w .0 .left, w .1)) (λ e f. omega (arith, w .1, e)))
-          (c .if1 .came),
+    let d = c .before .before .before .loop in (
+      most-next (a .top) (a .table .now) (a .from) (d .most) (d .i) (d .inv .1 .0) (d .inv .0) (c .if1 .came) (λ w. w .taken) (λ w. w .left),
       search needs,
     )
 
