@@ -1,9 +1,10 @@
--- THE STATEMENT OF A TURN FIXES ITS RESULT: record, place and every byte of the output.
+-- THE STATEMENT OF A TURN FIXES ITS RESULT: state, place and every byte of the output.
 use mathlib.Core.Path.{_≡_, sym, ap, _∙_, subst}
 use mathlib.Core.Logic.{⊎-elim}
 use mathlib.Core.List.{List, [], _∷_}
 use Prim.Native.Nat.{ℕ}
 use native.Mathlib.Omega.{arith}
+use Rattle.exec.specs.Meeting.{withState}
 use Rattle.exec.specs.Unique.{meets-same}
 use Rattle.exec.specs.declared.Exec.{Exec}
 use Rattle.exec.specs.declared.Step.{Step}
@@ -20,12 +21,12 @@ takes-same e verb (call k) out at r s m n a b =
     let u =
     wrote-same out at (answerText verb (b .step) (b .words)) m n (r .at) (s .at)
     (subst (λ (x : List ℕ). Wrote out at x m (r .at)) t (a .wrote)) (b .wrote) in
-    let x : r .exec ≡ s .exec = a .exec ∙ ap (λ (y : Step). y .exec) (w .0) ∙ sym (b .exec) in
-    ((λ i. record { exec = x i; at = u .1 i }), u .0)
+    let x : withState e (r .st) ≡ withState e (s .st) = sym (a .exec) ∙ ap (λ (y : Step). y .exec) (w .0) ∙ b .exec in
+    ((λ i. record { st = x i .st; at = u .1 i }), u .0)
 takes-same e verb none out at r s m n a b =
     let u = wrote-same out at (63 ∷ 10 ∷ []) m n (r .at) (s .at) (a .wrote) (b .wrote) in
-    let x : r .exec ≡ s .exec = a .exec ∙ sym (b .exec) in
-    ((λ i. record { exec = x i; at = u .1 i }), u .0)
+    let x : r .st ≡ s .st = a .state ∙ sym (b .state) in
+    ((λ i. record { st = x i; at = u .1 i }), u .0)
 
 pub turns-same : (e : Exec) (line out : List ℕ) (at : ℕ) (r s : Turn) (m n : List ℕ)
     → Turns e line out at r m → Turns e line out at s n → (r ≡ s) × (m ≡ n)

@@ -10,6 +10,7 @@ use lib.Dec.{eqb}
 use lib.ListN.{length, take, replicate}
 use Rattle.rules.specs.Calls as R
 use Rattle.exec.specs.Call.{bit, Meets}
+use Rattle.exec.specs.Meeting.{withState}
 use Rattle.exec.specs.declared.Exec.{Exec}
 use Rattle.exec.specs.declared.Report.{Report}
 use Rattle.exec.specs.declared.Step.{Step}
@@ -71,17 +72,17 @@ textOf verb a count running words = lineText (verb ∷ []) (numbersOf verb a cou
 abbrev pub answerText : ℕ → Step → List ℕ → List ℕ
 answerText verb s words = textOf verb (s .answer) (s .exec .st .count) (s .exec .st .running) words
 
--- the turn made a call: the record is the one that the call handed back, and its line was written at `at`
+-- the turn made a call: the record that the call handed back is the old one with the turn's state, and its line was written at `at`
 pub record Answered (e : Exec) (verb : ℕ) (k : R.Call) (out : List ℕ) (at : ℕ) (r : Turn) (after : List ℕ) : Type 0 where
   pub step : Step
   pub words : List ℕ
   pub meets : Meets e k step words
-  pub exec : r .exec ≡ step .exec
+  pub exec : step .exec ≡ withState e (r .st)
   pub wrote : Wrote out at (answerText verb step words) after (r .at)
 
 -- "any other script line is refused by 1 and prints ? alone"
 pub record Unasked (e : Exec) (out : List ℕ) (at : ℕ) (r : Turn) (after : List ℕ) : Type 0 where
-  pub exec : r .exec ≡ e
+  pub state : r .st ≡ e .st
   pub wrote : Wrote out at (63 ∷ 10 ∷ []) after (r .at)
 
 abbrev pub Takes : Exec → ℕ → Asked → List ℕ → ℕ → Turn → List ℕ → Type 0
@@ -95,4 +96,4 @@ room = 2048
 pub record Turns (e : Exec) (line out : List ℕ) (at : ℕ) (r : Turn) (after : List ℕ) : Type 0 where
   pub is :
       ((at + room ≤ length out) × Takes e (letterOf (saidOf line)) (askedBy (saidOf line)) out at r after)
-      ⊎ ((length out < at + room) × (r ≡ record { exec = e; at = at }) × (after ≡ out))
+      ⊎ ((length out < at + room) × (r ≡ record { st = e .st; at = at }) × (after ≡ out))

@@ -1,6 +1,6 @@
 -- Laws of a turn: how an answer's line is put together.
 use mathlib.Core.Path.{_≡_, refl, sym, ap, _∙_, subst}
-use mathlib.Core.Logic.{_⊎_, inl, inr, _≢_}
+use mathlib.Core.Logic.{_≢_, ⊎-elim}
 use mathlib.Core.Bool.{Bool, true, false, cond}
 use mathlib.Core.List.{List, [], _∷_, _++_, append-assoc}
 use Prim.Native.Nat.{ℕ, _+_, _*_, _≤_, _<_, min}
@@ -11,6 +11,7 @@ use lib.Seq.{take-all}
 use borrow.Author.Tests.{eq-eqb, ne-eqb, leb-true, leb-false}
 use Rattle.laws.specs.Cases.{by, if-yes, if-no}
 use Rattle.exec.specs.Call.{bit, Meets}
+use Rattle.exec.specs.Meeting.{withState}
 use Rattle.exec.specs.declared.Exec.{Exec}
 use Rattle.exec.specs.declared.Report.{Report}
 use Rattle.exec.specs.declared.Step.{Step}
@@ -59,29 +60,37 @@ text-other : (verb : ℕ) (a : Answer) (count running : ℕ) (ws vs : List ℕ) 
 unfolding textOf
 text-other verb a count running ws vs n = ap (lineText (verb ∷ [])) (numbers-other verb a count running ws vs n)
 
+-- no call changes the rig or its cycles
+kept : (e : Exec) (k : R.Call) (s : Step) (ws : List ℕ) → Meets e k s ws → s .exec ≡ withState e (s .exec .st)
+kept e k s ws m =
+    ⊎-elim
+    (λ w. λ i. record { rig = w .1 .rig i; cycles = w .1 .cycles i; st = s .exec .st })
+    (λ w. let q : s .exec ≡ e = ap (λ (x : Step). x .exec) (w .1) in q ∙ ap (λ (x : Exec). withState e (x .st)) (sym q))
+    (m .is)
+
 -- the line of a call
 module _ (e : Exec) (s : Step) (ws out : List ℕ) (at p : ℕ) (after : List ℕ) where
   lending-none : (verb : ℕ) (k : R.Call) → verb ≢ 75 → Meets e k s [] → Wrote out at (answerText verb s ws) after p
-      → Answered e verb k out at (record { exec = s .exec; at = p }) after
+      → Answered e verb k out at (record { st = s .exec .st; at = p }) after
   lending-none verb k n m w =
       record {
         step = s;
         words = [];
         meets = m;
-        exec = refl;
+        exec = kept e k s [] m;
         wrote =
             wrote-as out after (answerText verb s ws) (answerText verb s []) at p
             (text-other verb (s .answer) (s .exec .st .count) (s .exec .st .running) ws [] n) w;
       }
 
   pub answered : (said : Said) → letterOf said ≢ 63 → Made e said (replicate 128 0) s ws → Wrote out at (answerText (letterOf said) s ws) after p
-      → Takes e (letterOf said) (askedBy said) out at (record { exec = s .exec; at = p }) after
+      → Takes e (letterOf said) (askedBy said) out at (record { st = s .exec .st; at = p }) after
   unfolding askedBy
   answered (Schedule t) n m w = lending-none 83 (R.schedule t) (λ q. omega arith) m w
   answered (Cancel t) n m w = lending-none 88 (R.cancel t) (λ q. omega arith) m w
   answered (Terminate t) n m w = lending-none 90 (R.terminate t) (λ q. omega arith) m w
   answered Finish n m w = lending-none 70 R.finish (λ q. omega arith) m w
-  answered Tick n m w = record { step = s; words = ws; meets = m; exec = refl; wrote = w }
+  answered Tick n m w = record { step = s; words = ws; meets = m; exec = kept e (R.tick (replicate 128 0)) s ws m; wrote = w }
   answered (Until t) n m w = lending-none 85 (R.waitUntil t) (λ q. omega arith) m w
   answered (Cycles k) n m w = lending-none 82 (R.waitFor k) (λ q. omega arith) m w
   answered (Latched f v) n m w = lending-none 76 (R.latched f (bit v)) (λ q. omega arith) m w
@@ -92,7 +101,7 @@ module _ (e : Exec) (s : Step) (ws out : List ℕ) (at p : ℕ) (after : List �
 
 -- the line that is none
 pub unasked : (e : Exec) (said : Said) (out : List ℕ) (at p : ℕ) (after : List ℕ) → letterOf said ≡ 63 → Wrote out at (63 ∷ 10 ∷ []) after p
-    → Takes e (letterOf said) (askedBy said) out at (record { exec = e; at = p }) after
+    → Takes e (letterOf said) (askedBy said) out at (record { st = e .st; at = p }) after
 unfolding askedBy
 unasked e (Schedule t) out at p after q w = absurd (omega (arith, q))
 unasked e (Cancel t) out at p after q w = absurd (omega (arith, q))
@@ -105,7 +114,7 @@ unasked e (Latched f v) out at p after q w = absurd (omega (arith, q))
 unasked e (Unlatched f v) out at p after q w = absurd (omega (arith, q))
 unasked e (Signal f v) out at p after q w = absurd (omega (arith, q))
 unasked e (Ask f) out at p after q w = absurd (omega (arith, q))
-unasked e Wrong out at p after q w = record { exec = refl; wrote = w }
+unasked e Wrong out at p after q w = record { state = refl; wrote = w }
 
 -- what is printed of words: never more than there are
 pub least-take : (n k : ℕ) (ws : List ℕ) → k ≡ min n (length ws) → take k ws ≡ take n ws

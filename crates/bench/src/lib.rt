@@ -4,6 +4,7 @@ use exec::Exec;
 use exec::Report;
 use exec::Step;
 use script::Said;
+use state::State;
 ghost use mathlib.Core.Path.{_≡_};
 ghost use mathlib.Core.List.{List, [], _∷_};
 ghost use Prim.Native.Nat.{ℕ, _+_, _≤_, _<_, min};
@@ -13,9 +14,10 @@ ghost use Rattle.script.specs.Output.{fieldsText};
 ghost use Rattle.bench.specs.Turn.{letterOf, extra, textOf, room, Turns};
 ghost use Rattle.bench.specs.TurnLaws.{numberOf, Made};
 
-// The record after a turn, and the place after what the turn wrote.
+// The state after a turn, and the place after what the turn wrote. Rig and cycles stay as they are: the caller has them, and
+// handed back they would be copied for each line.
 pub struct Turn {
-    pub exec: Exec,
+    pub st: State,
     pub at: usize,
 }
 
@@ -135,30 +137,32 @@ pub fn take_line(e: Exec, line: &[u8], out: &mut [u8], at: usize) -> Turn
     ensures { λ r. ⌜ Turns e (now (line .entry)) (now (out .entry)) at r (now (out .exit)) ⌝ }
 {
     let n = out.len();
+    let st = e.st;
     if n < 2048 {
-        return Turn { exec: e, at };
+        return Turn { st, at };
     }
     if n - 2048 < at {
-        return Turn { exec: e, at };
+        return Turn { st, at };
     }
     let said = script::read_line(line);
     let verb = letter(said);
     if verb == 63 {
         let p = wrong(out, at);
-        return Turn { exec: e, at: p };
+        return Turn { st, at: p };
     }
     let mut words = [0u16; 128];
     let s = ask(e, said, &mut words);
     let answer = s.answer;
     let exec = s.exec;
+    let next = exec.st;
     let p = show(
         verb,
         answer,
-        exec.st.count,
-        exec.st.running as u32,
+        next.count,
+        next.running as u32,
         &words,
         out,
         at,
     );
-    Turn { exec, at: p }
+    Turn { st: next, at: p }
 }

@@ -63,7 +63,8 @@ fn take_lines(d: Desk, input: &[u8], out: &mut [u8], start: usize, to: usize) ->
         at = roomy(&*out, at);
         let a = line_start(long, from, end);
         let t = bench::take_line(exec, &input[a..end], &mut *out, at);
-        exec = t.exec;
+        let st = t.st;
+        exec.st = st;
         at = t.at;
         long = false;
         from = end + 1;

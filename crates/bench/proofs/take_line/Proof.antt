@@ -45,13 +45,13 @@ same-length c = search needs
 -- src/lib.rt:140:9
 returns-3 : tie.Need-returns-3
 returns-3 c =
-    let s = c .before .before .before .before .before .before .before .before .before .before .before .args in
+    let s = c .before .before .before .before .before .before .before .before .before .before .before .before .args in
     let w = c .before .before .wrong in
     let said = c .before .before .before .before .before .before .read-line in
     record {
       is = inl (
         omega (arith, c .before .before .before .before .before .before .before .before .if1 .left, c .before .before .before .before .before .before .before .if2 .left),
-        subst (λ (x : Said). Takes (s .e) (letterOf x) (askedBy x) (s .out .now) (s .at) (record { exec = s .e; at = w .result }) (w .last .0)) (said .ensures)
+        subst (λ (x : Said). Takes (s .e) (letterOf x) (askedBy x) (s .out .now) (s .at) (record { st = s .e .st; at = w .result }) (w .last .0)) (said .ensures)
             (unasked (s .e) (said .result) (s .out .now) (s .at) (w .result) (w .last .0) (sym (c .before .before .before .before .before .letter .ensures) ∙ c .before .before .before .before .if3 .taken) (w .ensures)),
       );
     }
@@ -83,17 +83,17 @@ same-length-2 c = search needs
 -- src/lib.rt:126:1
 returns-4 : tie.Need-returns-4
 returns-4 c =
-    let s = c .before .before .before .before .before .before .before .before .before .before .before .before .before .before .before .before .before .args in
-    let k = c .before .before .before .before .before .before .before .before .ask in
+    let s = c .before .before .before .before .before .before .before .before .before .before .before .before .before .before .before .before .before .before .before .args in
+    let k = c .before .before .before .before .before .before .before .before .before .ask in
     let w = c .before .before .show in
-    let said = c .before .before .before .before .before .before .before .before .before .before .before .before .read-line in
-    let v = c .before .before .before .before .before .before .before .before .before .before .before .letter .ensures in
+    let said = c .before .before .before .before .before .before .before .before .before .before .before .before .before .read-line in
+    let v = c .before .before .before .before .before .before .before .before .before .before .before .before .letter .ensures in
     let wrote = subst (λ (n : ℕ). Wrote (s .out .now) (s .at) (answerText n (k .result) (k .last .1 .1 .0)) (w .last .1 .1 .1 .1 .1 .0) (w .result)) v (w .ensures) in
     record {
       is = inl (
-        omega (arith, c .before .before .before .before .before .before .before .before .before .before .before .before .before .before .if1 .left, c .before .before .before .before .before .before .before .before .before .before .before .before .before .if2 .left),
-        subst (λ (x : Said). Takes (s .e) (letterOf x) (askedBy x) (s .out .now) (s .at) (record { exec = k .result .exec; at = w .result }) (w .last .1 .1 .1 .1 .1 .0)) (said .ensures)
-            (answered (s .e) (k .result) (k .last .1 .1 .0) (s .out .now) (s .at) (w .result) (w .last .1 .1 .1 .1 .1 .0) (said .result) (λ q. c .before .before .before .before .before .before .before .before .before .before .if3 .left (v ∙ q)) (k .ensures) wrote),
+        omega (arith, c .before .before .before .before .before .before .before .before .before .before .before .before .before .before .before .if1 .left, c .before .before .before .before .before .before .before .before .before .before .before .before .before .before .if2 .left),
+        subst (λ (x : Said). Takes (s .e) (letterOf x) (askedBy x) (s .out .now) (s .at) (record { st = k .result .exec .st; at = w .result }) (w .last .1 .1 .1 .1 .1 .0)) (said .ensures)
+            (answered (s .e) (k .result) (k .last .1 .1 .0) (s .out .now) (s .at) (w .result) (w .last .1 .1 .1 .1 .1 .0) (said .result) (λ q. c .before .before .before .before .before .before .before .before .before .before .before .if3 .left (v ∙ q)) (k .ensures) wrote),
       );
     }
 
