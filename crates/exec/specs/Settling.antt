@@ -40,7 +40,7 @@ use Rattle.exec.specs.declared.Step.{Step}
 
 -- what is asked
 pub record Settles (g : Rig) (w : Work) : Type 0 where
-  pub begins : Begins g (w .st) (w .queue)
+  pub begins : Begins (g .alines) (g .atask) (g .apos) (g .activation) (w .st) (w .queue)
   pub low : w .st .running ≤ 64
 
 -- what is given, with whatever cycles stand beside the rig
@@ -73,7 +73,7 @@ settled-is g w d e s f =
 
 -- ---- what is asked holds of every accepted call
 
-pub fits : (g : Rig) (cycles : List Cycle) → Right g cycles → Fits g
+pub fits : (g : Rig) (cycles : List Cycle) → Right g cycles → Fits (g .alines) (g .atask) (g .apos) (g .activation)
 fits g cycles h =
     record {
       lines =
@@ -82,7 +82,7 @@ fits g cycles h =
             task = λ k b. omega (arith, h .lines k b .task .1, h .task-count .1);
             pos = λ k b. h .lines k b .position;
           };
-      activation = λ t. omega (arith, rig-ok g cycles h .activation-le t, h .flag-count .1);
+      flags = λ t. omega (arith, rig-ok g cycles h .activation-le t, h .flag-count .1);
     }
 
 pub servable : (r : G.Rig) → r .flags ≤ 128 → (q : List S.Entry) → Fine r q → Servable q
@@ -128,12 +128,9 @@ module _ (x : Exec) (h : Sound x) (k : R.Call) (p : P.Proper k) (e : 0 ≡ R.ref
       record {
         begins =
             record {
-              whole =
-                  record {
-                    fits = fits (x .rig) (x .cycles) (h .rig);
-                    room = subst (λ (y : S.Work). load y ≤ 79) (sym q) (effect-load (rigIn x) (view x) (h .state .tasks .sized) k);
-                    sound = l;
-                  };
+              fits = fits (x .rig) (x .cycles) (h .rig);
+              room = subst (λ (y : S.Work). load y ≤ 79) (sym q) (effect-load (rigIn x) (view x) (h .state .tasks .sized) k);
+              sound = l;
               entries =
                   subst (λ (y : S.Work). Servable (y .queue)) (sym q)
                   (servable (rigIn x) (h .rig .flag-count .1) (R.effect (rigIn x) (view x) k .queue)

@@ -75,9 +75,20 @@ pub(crate) fn settled(w: Work, rig: Rig) -> Done
 {
     let st = w.st;
     let queue = w.queue;
-    let d = state::serve(st, queue, rig);
+    let d = state::serve(
+        st,
+        queue,
+        rig.alines as usize,
+        &rig.present,
+        &rig.latched,
+        &rig.desired,
+        &rig.atask,
+        &rig.apos,
+        &rig.aflag,
+        &rig.activation,
+    );
     let served = d.served;
-    let st = d.st.dispatched(rig);
+    let st = d.st.dispatched(&rig.privileged, &rig.priority);
     Done { st, served }
 }
 

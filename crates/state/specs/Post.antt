@@ -28,10 +28,10 @@ use Rattle.state.specs.declared.Done.{Done}
 
 -- ---- what is asked
 
--- the rig's numbers are within its tables
-pub record Fits (g : Rig) : Type 0 where
-  pub lines : Lines (g .alines) (g .atask) (g .apos)
-  pub activation : (t : ℕ) → at (g .activation) t ≤ 128
+-- the numbers in the first n A lines, and of the activation flags, are within the tables
+pub record Fits (n : ℕ) (atask apos activation : List ℕ) : Type 0 where
+  pub lines : Lines n atask apos
+  pub flags : (t : ℕ) → at activation t ≤ 128
 
 abbrev pub CancelOk : Rig → Type 0
 CancelOk g = Controllers (g .controller)
@@ -50,13 +50,10 @@ abbrev pub Servable : List Entry → Type 0
 Servable [] = Unit {0}
 Servable (e ∷ q) = FlagOk (e .flag) (e .value) × Servable q
 
-pub record Whole (g : Rig) (s : State) (q : Queue) : Type 0 where
-  pub fits : Fits g
+pub record Begins (n : ℕ) (atask apos activation : List ℕ) (s : State) (q : Queue) : Type 0 where
+  pub fits : Fits n atask apos activation
   pub room : load (workOf s q) ≤ 79
   pub sound : Sound (s .links)
-
-pub record Begins (g : Rig) (s : State) (q : Queue) : Type 0 where
-  pub whole : Whole g s q
   pub entries : Servable (entriesOf q)
 
 -- there is a running task, and it is in no chain

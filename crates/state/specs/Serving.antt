@@ -23,7 +23,7 @@ use Rattle.steps.specs.Queued.{entries-length, entries-pop}
 use Rattle.steps.specs.declared.Queue.{Queue}
 use Rattle.state.specs.View.{rigOf, viewOf, workOf}
 use Rattle.state.specs.Set.{putValue, putCond}
-use Rattle.state.specs.Post.{Fits, FlagOk, Servable, Whole, Woken, Offered, Served, Emptied}
+use Rattle.state.specs.Post.{FlagOk, Servable, Woken, Offered, Served, Emptied}
 use Rattle.state.specs.declared.State.{State}
 use Rattle.state.specs.declared.Work.{Work}
 use Rattle.state.specs.declared.Done.{Done}
@@ -149,10 +149,10 @@ module _ (g : Rig) (s₀ : State) (q₀ : Queue) where
       rest-load : suc (load (workOf s popped)) ≡ load (workOf s q)
       rest-load = omega (arith, ap length split)
 
-      pub rest-whole : Fits g → Whole g s popped
-      rest-whole a = record { fits = a; room = omega (arith, h .room, rest-load); sound = h .sound }
+      pub rest-room : load (workOf s popped) ≤ 79
+      rest-room = omega (arith, h .room, rest-load)
 
-      module _ (a : Fits g) (r : Work) (m : Served s popped g f v r) where
+      module _ (a : (t : ℕ) → at (g .activation) t ≤ 128) (r : Work) (m : Served s popped g f v r) where
         load-is : load (workOf (r .st) (r .queue)) ≤ load (workOf s popped)
         load-is = omega (arith, ap load (m .is []), serveFlag-load (rigOf g []) (record { flag = f; value = v }) (viewOf s) (entriesOf popped))
 
@@ -173,7 +173,7 @@ module _ (g : Rig) (s₀ : State) (q₀ : Queue) where
               room = omega (arith, load-is, rest-load, h .room);
               entries =
                   subst (λ (w : S.Work). Servable (w .queue)) (sym (m .is []))
-                  (servable-serveFlag (rigOf g []) (a .activation) (record { flag = f; value = v }) (viewOf s) (entriesOf popped)
+                  (servable-serveFlag (rigOf g []) a (record { flag = f; value = v }) (viewOf s) (entriesOf popped)
                   (subst (λ (l : List Entry). Servable l) split (h .entries) .1));
             }
           where

@@ -1,4 +1,4 @@
--- A state with one field changed, and a rig with the tables that offering looks at.
+-- A state with one field changed, and a rig with the tables that the code looks at.
 use mathlib.Core.List.{List}
 use Prim.Native.Nat.{ℕ}
 use Rattle.chains.specs.declared.Links.{Links}
@@ -26,6 +26,7 @@ putLinks s v = record { count = s .count; value = s .value; cond = s .cond; stat
 abbrev pub putRunning : State → ℕ → State
 putRunning s v = record { count = s .count; value = s .value; cond = s .cond; state = s .state; wake = s .wake; links = s .links; running = v }
 
+-- what offering looks at
 abbrev pub withTables : List ℕ → List ℕ → List ℕ → List ℕ → List ℕ → List ℕ → ℕ → Rig → Rig
 withTables present latched desired atask aflag activation n g =
     record {
@@ -44,5 +45,49 @@ withTables present latched desired atask aflag activation n g =
       atask = atask;
       apos = g .apos;
       aflag = aflag;
+      row = g .row;
+    }
+
+-- what serving looks at besides: the positions of the A lines
+abbrev pub withPlaces : List ℕ → Rig → Rig
+withPlaces apos g =
+    record {
+      tasks = g .tasks;
+      flags = g .flags;
+      master = g .master;
+      alines = g .alines;
+      rows = g .rows;
+      controller = g .controller;
+      priority = g .priority;
+      privileged = g .privileged;
+      activation = g .activation;
+      present = g .present;
+      latched = g .latched;
+      desired = g .desired;
+      atask = g .atask;
+      apos = apos;
+      aflag = g .aflag;
+      row = g .row;
+    }
+
+-- what the dispatch looks at
+abbrev pub withRanks : List ℕ → List ℕ → Rig → Rig
+withRanks privileged priority g =
+    record {
+      tasks = g .tasks;
+      flags = g .flags;
+      master = g .master;
+      alines = g .alines;
+      rows = g .rows;
+      controller = g .controller;
+      priority = priority;
+      privileged = privileged;
+      activation = g .activation;
+      present = g .present;
+      latched = g .latched;
+      desired = g .desired;
+      atask = g .atask;
+      apos = g .apos;
+      aflag = g .aflag;
       row = g .row;
     }

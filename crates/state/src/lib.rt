@@ -6,7 +6,7 @@ use steps::Queue;
 ghost use Prim.Native.Nat.{_+_, _<_, _≤_};
 ghost use Rattle.chains.specs.Held.{Sound};
 ghost use Rattle.state.specs.Post.{FlagOk, Begins, MayWait, Timed, TickOk, CancelOk, Awoken, WokenDue, WaitsOn, WaitsUntil, Dispatched, Offering, Emptied, Finished, Terminated, Cancelled, Scheduled, Ticked, Blank, Room};
-ghost use Rattle.state.specs.Set.{withTables};
+ghost use Rattle.state.specs.Set.{withTables, withPlaces, withRanks};
 
 // Tables by number, place 0 unused; a condition at 16 * task + position.
 #[repr(C)]
@@ -100,12 +100,12 @@ impl State {
     }
 
     // Who runs.
-    pub fn dispatched(mut self, rig: Rig) -> State
+    pub fn dispatched<'a>(mut self, privileged: &'a [u8; 65], priority: &'a [u8; 65]) -> State
         requires { ⌜ self .running ≤ 64 ⌝ }
-        ensures { λ r. ⌜ Dispatched self rig r ⌝ }
+        ensures { λ r. ⌜ ((g : Rig) → Dispatched self (withRanks (now (privileged .entry)) (now (priority .entry)) g) r) ⌝ }
     {
         let n = self.running as usize;
-        let c = steps::chosen(&rig.privileged, &rig.priority, &self.state, n);
+        let c = steps::chosen(privileged, priority, &self.state, n);
         self.running = c as u8;
         self
     }
@@ -241,34 +241,44 @@ pub fn wake(links: Links, state: &mut [u8; 65], s: usize) -> Links
 
 // The last queued is taken off and served, until the queue is empty. States and links are locals: two fields of one
 // struct cannot be lent at once, and a call by value would copy the state for each flag. The links are copied only where
-// somebody waits.
-pub fn serve(mut st: State, queue: Queue, rig: Rig) -> Done
-    requires { ⌜ Begins rig st queue ⌝ }
-    ensures { λ r. ⌜ Emptied rig st queue r ⌝ }
+// somebody waits. The rig's tables are lent: the rig by value would be copied twice.
+pub fn serve<'a>(
+    mut st: State,
+    queue: Queue,
+    n: usize,
+    present: &'a [u8; 1040],
+    latched: &'a [u8; 1040],
+    desired: &'a [u8; 1040],
+    atask: &'a [u8; 1024],
+    apos: &'a [u8; 1024],
+    aflag: &'a [u8; 1024],
+    activation: &'a [u8; 65],
+) -> Done
+    requires { ⌜ Begins n (now atask) (now apos) (now activation) st queue ⌝ }
+    ensures { λ r. ⌜ ((g : Rig) → Emptied (withTables (now (present .entry)) (now (latched .entry)) (now (desired .entry)) (now (atask .entry)) (now (aflag .entry)) (now (activation .entry)) n (withPlaces (now (apos .entry)) g)) st queue r) ⌝ }
 {
     let mut state = st.state;
     let mut links = st.links;
     let mut q = queue;
     let mut k: u32 = 0;
-    let n = rig.alines as usize;
     while q.n != 0 {
         let j = q.n - 1;
         let f = q.flag[j];
         let v = q.value[j];
         q.n = j;
         st.value[f as usize] = v;
-        steps::drive(&rig.atask, &rig.apos, &rig.aflag, n, f, v, &mut st.cond);
+        steps::drive(atask, apos, aflag, n, f, v, &mut st.cond);
         let c = 64 + 2 * (f as usize) + (v as usize);
         if links.next[c] as usize != c {
             links = wake(links, &mut state, c);
         }
         q = offers(
-            &rig.present,
-            &rig.latched,
-            &rig.desired,
-            &rig.atask,
-            &rig.aflag,
-            &rig.activation,
+            present,
+            latched,
+            desired,
+            atask,
+            aflag,
+            activation,
             n,
             f,
             &mut st.cond,

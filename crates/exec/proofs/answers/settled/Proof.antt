@@ -3,18 +3,23 @@ use borrow.Author.Needs.{needs}
 use Rattle.exec.proofs.answers.settled.Statement.{statement}
 use Rattle.exec.proofs.answers.settled.Tie as tie
 
+cast-serve : tie.Need-cast-serve
+cast-serve c = search needs
+
 serve-requires : tie.Need-serve-requires
 serve-requires c κs = search needs
 
 dispatched-requires : tie.Need-dispatched-requires
 dispatched-requires c κs =
-    let a = c .before .before .before .args in
-    settled-low (a .rig) (a .w) (c .before .before .before .pre) (c .serve .result) (c .serve .ensures)
+    let b = c .before .before .before .before .before .before .before .before .before .before .before .before .before .before in
+    let d = c .before .before .before in
+    settled-low (b .args .t2) (b .args .w) (b .pre) (d .serve .result) (d .serve .ensures (b .args .t2))
 
 returns : tie.Need-returns
 returns c =
-    let a = c .before .before .before .before .args in
-    settled-is (a .rig) (a .w) (c .before .serve .result) (c .before .serve .ensures) (c .dispatched .result) (c .dispatched .ensures)
+    let a = c .before .before .before .before .before .before .before .before .before .before .before .before .before .before .before .args in
+    let d = c .before .before .before .before in
+    settled-is (a .t2) (a .w) (d .serve .result) (d .serve .ensures (a .t2)) (c .dispatched .result) (c .dispatched .ensures (a .t2))
 
 pub settled-spec : {M : Type 1} → statement M
-settled-spec = tie.close (tie.spec serve-requires dispatched-requires returns)
+settled-spec = tie.close (tie.spec cast-serve serve-requires dispatched-requires returns)

@@ -6,11 +6,11 @@ use Rattle.state.proofs.State.blank.Reads as reads
 use Rattle.state.proofs.State.blank.Lts as lts
 use Rattle.chains.proofs.fresh.Reads as fresh-reads
 
--- src/lib.rt:39:13
+-- src/lib.rt:40:13
 fresh-requires : tie.Need-fresh-requires
 fresh-requires c κs = search needs
 
--- src/lib.rt:36:5
+-- src/lib.rt:37:5
 returns : tie.Need-returns
 returns c = blank-is _ (c .fresh .ensures)
 

@@ -9,23 +9,23 @@ use Rattle.steps.proofs.desert.Reads as desert-reads
 use Rattle.steps.proofs.family.Reads as family-reads
 use Rattle.steps.proofs.uninvoke.Reads as uninvoke-reads
 
--- src/lib.rt:163:21
+-- src/lib.rt:147:21
 family-requires : tie.Need-family-requires
 family-requires c κs = search needs
 
--- src/lib.rt:164:13
+-- src/lib.rt:148:13
 of-offs-requires : tie.Need-of-offs-requires
 of-offs-requires c κs = search needs
 
--- src/lib.rt:165:9
+-- src/lib.rt:149:9
 uninvoke-requires : tie.Need-uninvoke-requires
 uninvoke-requires c κs = search needs
 
--- src/lib.rt:166:13
+-- src/lib.rt:150:13
 desert-requires : tie.Need-desert-requires
 desert-requires c κs = search needs
 
--- src/lib.rt:158:5
+-- src/lib.rt:142:5
 returns : tie.Need-returns
 returns c =
     let a = c .before .before .before .before .before .before .before .before .before .before .before .before .before .before .args in
