@@ -1,12 +1,11 @@
 -- Laws of a turn: how an answer's line is put together.
-use mathlib.Core.Path.{_≡_, refl, sym, ap, _∙_, subst}
+use mathlib.Core.Path.{_≡_, refl, sym, ap, _∙_}
 use mathlib.Core.Logic.{_≢_, ⊎-elim}
-use mathlib.Core.Bool.{Bool, true, false, cond}
 use mathlib.Core.List.{List, [], _∷_, _++_, append-assoc}
-use Prim.Native.Nat.{ℕ, _+_, _*_, _≤_, _<_, min}
+use Prim.Native.Nat.{ℕ, _+_, _≤_, _<_, min}
 use native.Mathlib.Omega.{arith}
 use lib.Dec.{eqb, leb}
-use lib.ListN.{length, take, replicate, length-append, length-take, length-set, set}
+use lib.ListN.{length, take, replicate, length-take, length-set, set}
 use lib.Seq.{take-all}
 use borrow.Author.Tests.{eq-eqb, ne-eqb, leb-true, leb-false}
 use Rattle.laws.specs.Cases.{by, if-yes, if-no}
@@ -21,8 +20,7 @@ use Rattle.script.specs.Output.{fieldsText, lineText}
 use Rattle.script.specs.Written.{Wrote, wrote-then, wrote-as, wrote-none, byte-wrote, fields-none, fields-append, fields-length}
 use Rattle.script.specs.declared.Said.{Said}
 use Rattle.script.specs.declared.Said.the-variants.{Schedule, Cancel, Terminate, Finish, Tick, Until, Cycles, Latched, Unlatched, Signal, Ask, Wrong}
-use Rattle.bench.specs.Turn.{letterOf, askedBy, extra, numbersOf, textOf, answerText, Answered, Unasked, Takes}
-use Rattle.bench.specs.declared.Turn.{Turn}
+use Rattle.bench.specs.Turn.{letterOf, askedBy, extra, numbersOf, textOf, answerText, Answered, Takes}
 use Rattle.rules.specs.Calls as R
 
 abbrev pub numberOf : Answer → ℕ

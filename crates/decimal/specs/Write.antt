@@ -1,13 +1,10 @@
 -- How the writer of a number goes, digit after digit.
 -- Assumes nothing.
-use Prim.Native.Nat.{ℕ, zero, suc, _+_, _/_, _%_, _≤_, _<_}
-use mathlib.Core.Path.{_≡_, refl, sym, ap, _∙_}
-use mathlib.Core.List.{List, [], _∷_, _++_, append-assoc}
+use Prim.Native.Nat.{ℕ, _+_, _/_, _%_, _≤_, _<_}
+use mathlib.Core.Path.{_≡_, sym, ap, _∙_}
+use mathlib.Core.List.{List, [], _∷_}
 use native.Mathlib.Omega.{arith}
-use native.Mathlib.Numerals.{add-one}
-use native.Mathlib.Nat.{add-assoc}
-use lib.ListN.{length, take, drop, set, length-append, length-take, length-drop}
-use lib.Seq.{set-split, take-at, drop-append-add, drop-drop, length-take-le}
+use lib.ListN.{length, set, length-append}
 use Rattle.laws.specs.Put.{put, put-one, put-put, length-put}
 use Rattle.decimal.specs.Decimal.{dec, cap}
 use Rattle.decimal.specs.Laws.{dec-small, dec-tens}

@@ -1,7 +1,6 @@
 // Decimal numbers without spare zeros: a field is read, a number is written.
 ghost use mathlib.Core.Path.{_≡_};
-ghost use mathlib.Core.List.{List, _++_};
-ghost use Prim.Native.Nat.{ℕ, _+_, _≤_, _<_};
+ghost use Prim.Native.Nat.{_+_, _≤_, _<_};
 ghost use lib.ListN.{length};
 ghost use Rattle.decimal.specs.Decimal.{cap, step, number, dec};
 ghost use Rattle.laws.specs.Put.{put};

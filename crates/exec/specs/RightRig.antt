@@ -9,11 +9,10 @@ use lib.ListN.{length, List·getD-eq-default}
 use borrow.Author.Tests.{leb-true, leb-false, ltb-true, ltb-false}
 use Rattle.laws.specs.Cases.{by}
 use Rattle.laws.specs.Tables.{has-place}
-use Rattle.rig.specs.Rules.{at, flagAt, Right, Ancestor, nearest, further}
+use Rattle.rig.specs.Rules.{at, Right, Ancestor, nearest, further}
 use Rattle.rig.specs.declared.Cycle.{Cycle}
 use Rattle.rig.specs.declared.Rig.{Rig}
 use Rattle.rules.specs.RigOk.{RigOk}
-use Rattle.steps.specs.View.{minorOf}
 use Rattle.state.specs.View.{rigOf}
 
 -- a bound on the entries that are there bounds them all

@@ -1,20 +1,18 @@
 -- Steps through the definition of the answer, as the code meets them.
 -- Assumes nothing.
 use Prim.Native.Nat.{ℕ, zero, suc, _+_, _≤_, _<_}
-use mathlib.Core.Path.{_≡_, refl, sym, ap, _∙_, fun-ext}
+use mathlib.Core.Path.{_≡_, refl, ap, fun-ext}
 use mathlib.Core.Logic.{_≢_}
-use mathlib.Core.Bool.{Bool, true, false, cond}
-use mathlib.Core.List.{List, [], _∷_}
+use mathlib.Core.Bool.{true, false}
+use mathlib.Core.List.{List}
 use native.Mathlib.Omega.{arith}
-use lib.Dec.{eqb, ltb}
 use lib.ListN.{length, getD}
 use borrow.Author.Tests.{ne-eqb, eq-eqb, lt-ltb, le-ltb}
 use Rattle.laws.specs.All.{all}
 use Rattle.laws.specs.First.{firstFalse}
 use Rattle.rig.specs.Forms.{cyclesOf}
 use Rattle.rig.specs.Tests.{firstBroken}
-use Rattle.rigrows.specs.File.{Fault, fault, faultOf, linesOf}
-use Rattle.rigbuild.specs.declared.Answer.{Answer}
+use Rattle.rigrows.specs.File.{fault, faultOf, linesOf}
 use Rattle.rigbuild.specs.declared.Marks.{Marks}
 use Rattle.rigbuild.specs.Built.{Built, numbers, store}
 use Rattle.rigbuild.specs.MarkTests.{markedOne, markTests}

@@ -1,14 +1,13 @@
 -- What the reader's small functions cite.
 -- Assumes nothing.
 use Prim.Native.Nat.{ℕ, zero, suc, _+_, _≤_, _<_}
-use mathlib.Core.Path.{_≡_, refl, sym, ap, _∙_}
-use mathlib.Core.Bool.{Bool, true, false, cond}
+use mathlib.Core.Path.{_≡_, refl, sym, _∙_}
+use mathlib.Core.Bool.{false}
 use mathlib.Core.List.{List, [], _∷_}
 use native.Mathlib.Omega.{arith}
-use lib.Dec.{eqb}
 use lib.ListN.{length, getD}
-use borrow.Author.Tests.{ne-eqb, eq-eqb}
-use Rattle.laws.specs.All.{all, all-not, all-zero, all-next}
+use borrow.Author.Tests.{ne-eqb}
+use Rattle.laws.specs.All.{all, all-not}
 use Rattle.rigbuild.specs.MarkTests.{markedOne}
 
 -- nine numbers, one by one

@@ -1,31 +1,31 @@
 -- What was marked while the lines were read says what the rules over the lines say.
 -- Assumes nothing.
-use Prim.Native.Nat.{ℕ, zero, suc, _+_, _*_, _≤_, _<_}
-use mathlib.Core.Path.{_≡_, refl, sym, ap, ap₂, _∙_}
-use mathlib.Core.Bool.{Bool, true, false, cond, _&&_, _||_}
+use Prim.Native.Nat.{ℕ, suc, _+_, _*_, _≤_, _<_}
+use mathlib.Core.Path.{_≡_, refl, sym, ap, _∙_}
+use mathlib.Core.Bool.{Bool, true, false, _&&_, _||_}
 use mathlib.Core.List.{List, [], _∷_}
 use native.Mathlib.Omega.{arith}
 use native.Mathlib.Numerals.{add-one}
 use native.Mathlib.Nat.{zero-add}
 use lib.Dec.{eqb, leb, ltb}
-use lib.ListN.{length, getD, set, replicate, length-set, length-replicate}
-use borrow.Author.Tests.{eqb-true, eqb-false, eq-eqb, ne-eqb, le-leb, lt-leb, leb-true, ltb-true, ltb-false, lt-ltb, le-ltb}
+use lib.ListN.{length, getD, set, length-set, length-replicate}
+use borrow.Author.Tests.{eqb-true, eqb-false, eq-eqb, ne-eqb, le-leb, lt-leb, ltb-true, ltb-false}
 use lib.Seq.{getD-set-same, getD-set-other}
 use Rattle.laws.specs.Cases.{by}
-use Rattle.laws.specs.All.{all, all-all, all-not, all-same, and-left, and-right}
+use Rattle.laws.specs.All.{all, all-all, all-not, all-same}
 use Rattle.laws.specs.Tables.{getD-set, zeros-at}
 use Rattle.laws.specs.First.{firstFalse}
 use Rattle.rig.specs.Forms.{noRig}
 use Rattle.rigrows.specs.Kinds.{countOf, counts, keysOf, keys, highOf, highs, sorts, sortOf, under, keyed, rank, follows}
 use Rattle.rigrows.specs.KindLaws.{within-is}
 use Rattle.rigrows.specs.Line.{Line, placed, ordered, judge}
-use Rattle.rigrows.specs.Judged.{Sound, judged-sound, shaped-known, shaped-count, sized-fits, fits-at}
+use Rattle.rigrows.specs.Judged.{judged-sound, shaped-known, shaped-count, sized-fits, fits-at}
 use Rattle.rigrows.specs.Text.{Faultless}
 use Rattle.rigrows.specs.File.{Fault, fault, faultOf, linesOf}
 use Rattle.rigrows.specs.RoundTrip.{written, some-line}
 use Rattle.rigbuild.specs.declared.Marks.{Marks}
 use Rattle.rigbuild.specs.Built.{Built, built, numbers, zeros, noMarks, noTable, nothing, underOne, aboveAfter, withAbove, withCounts, byKind, store, build}
-use Rattle.rigbuild.specs.Cases.{Cases, by-cases}
+use Rattle.rigbuild.specs.Cases.{by-cases}
 use Rattle.rigbuild.specs.MarkTests.{markedOne, markTests}
 use Rattle.rigbuild.specs.Read.{tasksOf, flagsOf, lineUnder, linesUnder, noneAbove, howMany, hasTask, hasTaskOne, flagsIn, fewFlagsOne, lineTests, judged, wholeFile, byLines}
 use Rattle.rigbuild.specs.Laws.{by-whole}

@@ -12,7 +12,7 @@ use Rattle.rig.specs.Forms.{noRig, noCycles, cyclesOf}
 use Rattle.rig.specs.Tests.{firstBroken}
 use Rattle.rigrows.specs.Kinds.{countOf}
 use Rattle.rigrows.specs.Line.{Line}
-use Rattle.rigrows.specs.File.{Fault, faultOf, linesOf}
+use Rattle.rigrows.specs.File.{faultOf, linesOf}
 use Rattle.rigbuild.specs.declared.Answer.{Answer}
 use Rattle.rigbuild.specs.Built.{Built, nothing, numbers, underOne, build}
 

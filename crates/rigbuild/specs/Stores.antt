@@ -1,18 +1,15 @@
 -- What one line more does, kind by kind, as the code stores it. `w` is the line's numbers as bytes.
 -- Assumes nothing.
-use Prim.Native.Nat.{ℕ, zero, suc, _+_, _*_, _≤_, _<_}
-use mathlib.Core.Path.{_≡_, refl, sym, ap, _∙_}
-use mathlib.Core.Bool.{Bool, true, false, cond}
-use mathlib.Core.List.{List, [], _∷_}
-use native.Mathlib.Omega.{arith}
-use lib.Dec.{eqb, ltb}
-use lib.ListN.{getD, set}
+use Prim.Native.Nat.{ℕ, _+_, _*_, _≤_, _<_}
+use mathlib.Core.Path.{_≡_, _∙_}
+use mathlib.Core.List.{List}
+use lib.ListN.{getD}
 use borrow.Author.Tests.{ne-eqb, eq-eqb, lt-ltb, le-ltb}
 use Rattle.rig.specs.declared.Row.{Row}
 use Rattle.rig.specs.declared.Rig.{Rig}
 use Rattle.rigrows.specs.Kinds.{countOf}
 use Rattle.rigbuild.specs.declared.Marks.{Marks}
-use Rattle.rigbuild.specs.Built.{Built, built, numbers, aboveAfter, withAbove, withCounts, withTask, withCondition, withLine, rowOf, withRow, hasLine, manyLines, manyRows, manyFlags, oneFlag, putFlag, byKind, store}
+use Rattle.rigbuild.specs.Built.{built, numbers, aboveAfter, withAbove, withCounts, withTask, withCondition, withLine, rowOf, withRow, hasLine, manyLines, manyRows, manyFlags, oneFlag, putFlag, byKind, store}
 
 -- the mark of numbers above the RIG line's, and the line's own part
 module _ (g : Rig) (t : List (List ℕ)) (k : Marks) (c n : ℕ) (v w : List ℕ) (a : ℕ) (same : w ≡ v) (count : n ≡ countOf c) (mark : a ≡ aboveAfter (k .above) c n (numbers w) (g .tasks) (g .flags)) where

@@ -1,6 +1,5 @@
 // What the lines of a rig file build, and what is answered for the whole of them.
 ghost use mathlib.Core.Path.{_≡_};
-ghost use mathlib.Core.Bool.{Bool};
 ghost use Prim.Native.Nat.{ℕ, _+_, _*_, _≤_, _<_};
 ghost use lib.ListN.{getD};
 ghost use Rattle.laws.specs.All.{all};

@@ -1,28 +1,27 @@
 -- The invariants of the three loops of `read_lines`, as records over plain variables, and what each turn and each way out does to them.
 -- No need of `read_lines` is proved by more than a citation of these laws.
 -- Assumes nothing.
-use Prim.Native.Nat.{ℕ, zero, suc, _+_, _-_, _*_, _^_, _≤_, _<_}
+use Prim.Native.Nat.{ℕ, suc, _+_, _-_, _*_, _^_, _≤_, _<_}
 use mathlib.Core.Path.{_≡_, refl, sym, ap, _∙_}
 use mathlib.Core.Bool.{Bool, true, false, cond, _&&_}
 use mathlib.Core.List.{List, [], _∷_, map}
 use native.Mathlib.Omega.{arith}
 use native.Mathlib.Nat.{le-antisymm}
 use lib.Dec.{eqb, ltb}
-use lib.ListN.{length, getD, set, drop, length-set, length-map}
+use lib.ListN.{length, getD, set, drop, length-set}
 use lib.Seq.{getD-set-same, getD-set-other}
-use borrow.Author.Tests.{eqb-true, eqb-false, eq-eqb, ne-eqb}
+use borrow.Author.Tests.{eqb-true, eqb-false, ne-eqb}
 use mir.Val.{Fits}
 use mir.Syntax.{w8, w16, w64}
 use Rattle.laws.specs.Cases.{by}
-use Rattle.laws.specs.All.{and-left}
 use Rattle.laws.specs.Put.{put}
 use Rattle.decimal.specs.Decimal.{cap, number}
 use Rattle.text.specs.Split.{split, part, rest}
 use Rattle.text.specs.Parts.{Found, rest-none, part-all}
-use Rattle.rigrows.specs.Kinds.{countOf, highOf, highs, within, timed, kindOf, rank, follows}
+use Rattle.rigrows.specs.Kinds.{countOf, highOf, within, timed, kindOf, rank, follows}
 use Rattle.rigrows.specs.KindLaws.{within-is}
-use Rattle.rigrows.specs.Line.{Line, decimals, shaped, fits, sized, placed, ordered, judge}
-use Rattle.rigrows.specs.File.{Fault, fault, firstFault, faultOf, linesIn, linesOf}
+use Rattle.rigrows.specs.Line.{decimals, shaped, fits, sized, placed, ordered, judge}
+use Rattle.rigrows.specs.File.{fault, firstFault, faultOf, linesIn, linesOf}
 use Rattle.rigrows.specs.Judged.{judged-one, judged-two, judged-three, sound-judged, shaped-if, sized-if, fits-small, fits-at}
 use Rattle.rigrows.specs.Turns.{said, fault-line, lines-line, lines-end, end-clean, end-empty, end-open, rest-turn, decimals-turn, decimals-bad, put-turn, put-none, put-at, fits-turn, fits-bad, fits-end, timed-same, rank-same}
 use Rattle.rigbuild.specs.Built.{Built, nothing, numbers, zeros, store, build}

@@ -1,16 +1,14 @@
 -- What the judgement of a line says: 'exactly when', for shape (1), sizes (2) and order (3).
 -- Assumes nothing.
 use Prim.Native.Nat.{ℕ, zero, suc, _+_, _≤_, _<_}
-use mathlib.Core.Path.{_≡_, refl, sym, ap, _∙_}
-use mathlib.Core.Bool.{Bool, true, false, cond, _&&_, true≢false, false≢true}
+use mathlib.Core.Path.{_≡_, refl}
+use mathlib.Core.Bool.{Bool, true, false, cond, _&&_}
 use mathlib.Core.List.{List, [], _∷_}
 use native.Mathlib.Omega.{arith}
-use lib.Dec.{leb, ltb, eqb}
-use lib.ListN.{length, getD, drop}
-use borrow.Author.Tests.{ltb-true, leb-true, eqb-true, lt-ltb, le-leb, eq-eqb}
-use Rattle.laws.specs.Cases.{by}
+use lib.Dec.{ltb, eqb}
+use lib.ListN.{length, getD}
+use borrow.Author.Tests.{ltb-true, eqb-true, lt-ltb, eq-eqb}
 use Rattle.laws.specs.All.{and-left, and-right}
-use Rattle.decimal.specs.Decimal.{cap}
 use Rattle.rigrows.specs.Kinds.{countOf, within, timed}
 use Rattle.rigrows.specs.KindLaws.{within-small}
 use Rattle.rigrows.specs.Line.{Line, decimals, shaped, fits, sized, ordered, judge}

@@ -1,16 +1,16 @@
 -- The definitions of `Kinds` as the code meets them: one law for each way through a function, and the bounds that the tables give.
 -- Assumes nothing.
 use Prim.Native.Nat.{ℕ, zero, suc, _+_, _-_, _*_, _≤_, _<_}
-use mathlib.Core.Path.{_≡_, refl, sym, ap, _∙_}
+use mathlib.Core.Path.{_≡_, refl}
 use mathlib.Core.Bool.{Bool, true, false, cond, _&&_}
 use mathlib.Core.List.{List, [], _∷_}
 use native.Mathlib.Omega.{arith}
-use lib.Dec.{leb, ltb, eqb}
+use lib.Dec.{leb, eqb}
 use lib.ListN.{length, getD}
-use borrow.Author.Tests.{ltb-true, ltb-false, leb-true, leb-false, eqb-true, eqb-false, lt-ltb, le-ltb, le-leb, lt-leb, eq-eqb, ne-eqb}
+use borrow.Author.Tests.{leb-true, le-leb, lt-leb}
 use Rattle.laws.specs.Cases.{by}
 use Rattle.laws.specs.All.{and-left, and-right}
-use Rattle.rigrows.specs.Kinds.{counts, keys, lows, highs, countOf, keysOf, lowOf, highOf, within, letterOf, kindOf, keyed, rank, follows}
+use Rattle.rigrows.specs.Kinds.{counts, lows, highs, countOf, lowOf, highOf, within, letterOf, kindOf}
 
 pub within-low : (k f n : ℕ) → n < lowOf k f → false ≡ within k f n
 unfolding within

@@ -4,7 +4,7 @@
 -- Kinds: 0 none, 1 RIG, 2 T, 3 C, 4 A, 5 M, 6 B. What an edition of the file fixes is in these tables alone: a kind's row of a table
 -- starts at 9 times the kind, since the widest line of any edition has nine numbers.
 use Prim.Native.Nat.{ℕ, _+_, _*_}
-use mathlib.Core.Bool.{Bool, true, false, cond, _&&_}
+use mathlib.Core.Bool.{Bool, true, cond, _&&_}
 use mathlib.Core.List.{List, [], _∷_}
 use lib.Dec.{leb, ltb, eqb}
 use lib.ListN.{getD}

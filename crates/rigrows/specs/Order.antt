@@ -15,7 +15,7 @@ use mathlib.Core.List.{List, [], _∷_}
 use native.Mathlib.Omega.{arith}
 use lib.Dec.{leb, ltb, eqb}
 use lib.ListN.{length, getD, take, length-take}
-use borrow.Author.Tests.{ltb-true, ltb-false, leb-true, eqb-true, eqb-false, lt-ltb, le-ltb, le-leb, eq-eqb, ne-eqb}
+use borrow.Author.Tests.{ltb-true, ltb-false, eqb-true, eqb-false, lt-ltb, le-ltb, le-leb, eq-eqb, ne-eqb}
 use Rattle.laws.specs.Cases.{by}
 use Rattle.rigrows.specs.Kinds.{keys, keysOf, countOf, keyed, rank, follows}
 use Rattle.rigrows.specs.KindLaws.{entries, entries-le}

@@ -4,25 +4,25 @@
 --     faultless-exact    a file has no faulty line ↔ it is the text of lines of shape and sizes, in order
 --     last-byte          .. and then its last byte is LF
 -- Assumes nothing.
-use Prim.Native.Nat.{ℕ, zero, suc, _+_, _-_, _*_, _/_, _%_, _≤_, _<_}
+use Prim.Native.Nat.{ℕ, zero, suc, _+_, _-_, _/_, _%_, _<_}
 use mathlib.Core.Path.{_≡_, refl, sym, ap, ap₂, _∙_, subst}
 use mathlib.Core.Logic.{_↔_}
-use mathlib.Core.Bool.{Bool, true, false, cond, _&&_}
+use mathlib.Core.Bool.{true, _&&_}
 use mathlib.Core.List.{List, [], _∷_, _++_, map, append-nil}
 use native.Mathlib.Omega.{arith}
-use lib.Dec.{leb, ltb, eqb}
-use lib.ListN.{length, getD, length-map}
-use borrow.Author.Tests.{ltb-true, leb-true, eqb-true, eqb-false, lt-ltb, le-leb, eq-eqb, ne-eqb}
+use lib.Dec.{ltb, eqb}
+use lib.ListN.{length}
+use borrow.Author.Tests.{eqb-true, eqb-false, lt-ltb}
 use Rattle.laws.specs.Cases.{by}
 use Rattle.laws.specs.All.{and-left, and-right}
-use Rattle.decimal.specs.Decimal.{cap, number, dec, decBy}
+use Rattle.decimal.specs.Decimal.{number, dec, decBy}
 use Rattle.decimal.specs.Laws.{number-dec, dec-number}
 use Rattle.text.specs.Split.{split, join, led}
 use Rattle.text.specs.SplitLaws.{Free, Frees, split-cons, join-split, split-piece, split-join}
-use Rattle.rigrows.specs.Kinds.{countOf, within, nameOf, letterOf, kindOf}
+use Rattle.rigrows.specs.Kinds.{within, nameOf, letterOf, kindOf}
 use Rattle.rigrows.specs.KindLaws.{kind-small, within-small}
-use Rattle.rigrows.specs.Line.{Line, first, others, lineOf, decimals, fits, placed, judge}
-use Rattle.rigrows.specs.Judged.{Sound, judged-sound, shaped-known, shaped-count, sized-fits}
+use Rattle.rigrows.specs.Line.{Line, first, others, lineOf, fits, placed, judge}
+use Rattle.rigrows.specs.Judged.{judged-sound, shaped-known, sized-fits}
 use Rattle.rigrows.specs.Order.{EachPassed, InOrder, file-order, order-file}
 use Rattle.rigrows.specs.File.{Fault, fault, firstFault, faultOf, linesIn, linesOf}
 use Rattle.rigrows.specs.Turns.{fault-next, lines-next}

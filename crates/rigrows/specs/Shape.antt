@@ -3,10 +3,10 @@
 --     decimals-exact    every field was a decimal ↔ each is one by its text
 --     shaped-exact      the judging of shape ↔ the shape of the text
 -- Assumes nothing.
-use Prim.Native.Nat.{ℕ, _≤_, _<_}
+use Prim.Native.Nat.{ℕ, _<_}
 use mathlib.Core.Path.{_≡_, refl, sym, _∙_}
 use mathlib.Core.Logic.{_↔_}
-use mathlib.Core.Bool.{true, _&&_}
+use mathlib.Core.Bool.{true}
 use mathlib.Core.List.{List, [], _∷_, map}
 use lib.Dec.{leb}
 use lib.ListN.{length, length-map}
@@ -16,7 +16,7 @@ use Rattle.decimal.specs.Decimal.{cap, number}
 use Rattle.decimal.specs.Plain.{Decimal, number-exact}
 use Rattle.text.specs.Split.{split}
 use Rattle.rigrows.specs.Kinds.{countOf, kindOf}
-use Rattle.rigrows.specs.Line.{Line, lineOf, first, others, decimals, shaped}
+use Rattle.rigrows.specs.Line.{lineOf, first, others, decimals, shaped}
 use Rattle.rigrows.specs.Judged.{shaped-known, shaped-count, shaped-decimals, shaped-if}
 
 -- "numbers are decimal without spare zeros"

@@ -1,22 +1,22 @@
 -- What a turn of a loop over lines, fields or sizes does to what is left to be read.
 -- Assumes nothing.
 use Prim.Native.Nat.{ℕ, zero, suc, _+_, _-_, _≤_, _<_}
-use mathlib.Core.Path.{_≡_, refl, sym, ap, _∙_}
+use mathlib.Core.Path.{_≡_, refl, ap, _∙_}
 use mathlib.Core.Bool.{Bool, true, false, cond, _&&_}
 use mathlib.Core.List.{List, [], _∷_, _++_, map, append-assoc}
 use native.Mathlib.Omega.{arith}
 use native.Mathlib.Numerals.{add-one}
 use native.Mathlib.Nat.{add-zero}
-use lib.Dec.{leb, ltb, eqb}
-use lib.ListN.{length, getD, take, drop, set, take-append-drop, drop-of-length-le}
+use lib.Dec.{ltb, eqb}
+use lib.ListN.{length, getD, drop, set, take-append-drop, drop-of-length-le}
 use lib.Seq.{take-suc-set, drop-set-lt, drop-cons}
-use borrow.Author.Tests.{lt-ltb, le-ltb, le-leb, lt-leb, eq-eqb, ne-eqb}
+use borrow.Author.Tests.{lt-ltb, le-ltb, le-leb, lt-leb, ne-eqb}
 use Rattle.laws.specs.Put.{put}
 use Rattle.decimal.specs.Decimal.{cap, number}
 use Rattle.text.specs.Split.{split, part, rest}
 use Rattle.text.specs.SplitLaws.{split-cons}
 use Rattle.text.specs.Parts.{Found, piece, rest-next, rest-none, part-none, length-part}
-use Rattle.rigrows.specs.Kinds.{kindOf, within, timed, rank, keyed, keysOf}
+use Rattle.rigrows.specs.Kinds.{kindOf, within, timed, rank, keyed}
 use Rattle.rigrows.specs.Line.{Line, lineOf, first, others, decimals, fits, placed, judge}
 use Rattle.rigrows.specs.File.{Fault, fault, firstFault, linesIn}
 

@@ -1,7 +1,7 @@
 // The kinds of a rig file's lines as constant tables, and the judging of a line's parts by them: one judge for all kinds.
 ghost use mathlib.Core.Path.{_≡_};
 ghost use Prim.Native.Nat.{ℕ, _+_, _≤_, _<_};
-ghost use lib.ListN.{length, getD};
+ghost use lib.ListN.{getD};
 ghost use Rattle.decimal.specs.Decimal.{cap};
 ghost use Rattle.rigrows.specs.Kinds.{kindOf, countOf, within, timed, listed, keyed, rank, follows, letterOf, under};
 

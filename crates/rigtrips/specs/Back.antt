@@ -1,28 +1,22 @@
 -- The lines of what lines build are those lines: on numbers alone.
 -- Assumes nothing.
-use Prim.Native.Nat.{ℕ, zero, suc, _+_, _*_, _/_, _%_, _≤_, _<_}
-use mathlib.Core.Path.{_≡_, refl, sym, ap, ap₂, _∙_}
+use Prim.Native.Nat.{ℕ, _+_, _*_, _/_, _%_, _≤_, _<_}
+use mathlib.Core.Path.{_≡_, sym, ap, _∙_}
 use mathlib.Core.Logic.{_≢_}
-use mathlib.Core.Bool.{Bool, true, false, cond, not, _&&_, true≢false, false≢true}
+use mathlib.Core.Bool.{Bool, true}
 use mathlib.Core.List.{List, [], _∷_, _++_, append-assoc, append-nil}
 use native.Mathlib.Omega.{arith}
-use lib.Dec.{eqb, leb, ltb}
-use lib.ListN.{length, getD, set, length-set}
-use lib.Seq.{getD-set-same, getD-set-other}
-use borrow.Author.Tests.{eqb-true, eqb-false, eq-eqb, ne-eqb, lt-ltb, le-ltb, ltb-true, ltb-false}
+use lib.Dec.{eqb}
+use lib.ListN.{length, getD}
+use borrow.Author.Tests.{eqb-false, le-ltb}
 use Rattle.laws.specs.Cases.{by}
-use Rattle.rig.specs.declared.Row.{Row}
 use Rattle.rig.specs.declared.Rig.{Rig}
-use Rattle.rig.specs.Rules.{noRow}
-use Rattle.rigrows.specs.Kinds.{counts, countOf, keys, keysOf, lows, lowOf, highs, highOf, keyed, rank, follows}
-use Rattle.rigrows.specs.KindLaws.{within-is}
-use Rattle.rigrows.specs.Line.{Line, placed, ordered, judge}
-use Rattle.rigrows.specs.Judged.{Sound, judged-sound, shaped-known, shaped-count, sized-fits, fits-at}
+use Rattle.rigrows.specs.Line.{Line}
 use Rattle.rigbuild.specs.declared.Marks.{Marks}
-use Rattle.rigbuild.specs.Built.{Built, built, numbers, withCounts, withTask, withCondition, withLine, rowOf, withRow, hasLine, manyLines, manyRows, manyFlags, oneFlag, putFlag}
+use Rattle.rigbuild.specs.Built.{Built}
 use Rattle.rigwrite.specs.Kept.{kept}
-use Rattle.rigwrite.specs.File.{line, rigLine, taskLine, isCondition, conditionLine, isLine, flagLine, flagAt, isFlag, cycleLine, isRow, rowLine, busNumbers}
-use Rattle.rigtrips.specs.Kept.{kept-same, kept-none, kept-more}
+use Rattle.rigwrite.specs.File.{rigLine, taskLine, isCondition, conditionLine, isLine, flagLine, flagAt, isFlag, cycleLine, isRow, rowLine}
+use Rattle.rigtrips.specs.Kept.{kept-none}
 
 -- a task that has a T line so far
 abbrev pub hasT : Marks → ℕ → Bool

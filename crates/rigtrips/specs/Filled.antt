@@ -3,30 +3,27 @@
 use Prim.Native.Nat.{ℕ, zero, suc, _+_, _-_, _*_, _/_, _%_, _≤_, _<_, min}
 use mathlib.Core.Path.{_≡_, refl, sym, ap, ap₂, _∙_, subst}
 use mathlib.Core.Logic.{_≢_}
-use mathlib.Core.Bool.{Bool, true, false, cond, not, _&&_, true≢false, false≢true}
-use mathlib.Core.List.{List, [], _∷_, _++_, map, append-nil}
+use mathlib.Core.Bool.{Bool, true, false, cond, not, true≢false, false≢true}
+use mathlib.Core.List.{List, [], _∷_, _++_}
 use native.Mathlib.Omega.{arith}
-use native.Mathlib.Numerals.{add-one}
 use lib.Dec.{eqb, leb, ltb}
 use lib.ListN.{length, getD, set, replicate, length-set, getD-replicate, length-replicate, length-map}
 use lib.Seq.{getD-set-same, getD-set-other, ext-getD}
-use borrow.Author.Tests.{eqb-true, eqb-false, eq-eqb, ne-eqb, lt-ltb, le-ltb, le-leb, ltb-true, ltb-false, leb-true}
+use borrow.Author.Tests.{eqb-true, eqb-false, ne-eqb, lt-ltb, le-ltb, le-leb, ltb-true, ltb-false, leb-true}
 use Rattle.laws.specs.Cases.{by}
 use Rattle.laws.specs.All.{all, and-left, and-right}
-use Rattle.rig.specs.declared.Row.{Row}
 use Rattle.rig.specs.declared.Cycle.{Cycle}
 use Rattle.rig.specs.declared.Rig.{Rig}
 use Rattle.rig.specs.Rules.{noRow, noCycle, place, Right}
 use Rattle.rig.specs.Tree.{controllers-low}
-use Rattle.rig.specs.Forms.{noRig, flagsOf, tableOf}
+use Rattle.rig.specs.Forms.{flagsOf, tableOf}
 use Rattle.rigrows.specs.Kinds.{counts, countOf, sorts, sortOf, under}
 use Rattle.rigrows.specs.Line.{Line}
-use Rattle.rigbuild.specs.declared.Marks.{Marks}
-use Rattle.rigbuild.specs.Built.{Built, built, numbers, zeros, noMarks, noTable, nothing, underOne, aboveAfter, withAbove, withCounts, rowOf, putFlag, byKind, store, build}
+use Rattle.rigbuild.specs.Built.{Built, built, numbers, zeros, noMarks, noTable, nothing, underOne, aboveAfter, rowOf, putFlag, byKind, store, build}
 use Rattle.laws.specs.Tables.{zeros-at}
 use Rattle.rigbuild.specs.Marked.{begun}
 use Rattle.rigwrite.specs.Kept.{kept}
-use Rattle.rigwrite.specs.File.{line, rigLine, isTask, taskLine, isCondition, conditionLine, isLine, flagLine, flagAt, isFlag, cycleLine, isRow, rowLine, linesFrom}
+use Rattle.rigwrite.specs.File.{rigLine, isTask, taskLine, isCondition, conditionLine, isLine, flagLine, flagAt, isFlag, cycleLine, isRow, rowLine}
 use Rattle.rigwrite.specs.Sized.{mapped-at}
 use Rattle.rigtrips.specs.Back.{cell}
 use Rattle.rigtrips.specs.Steps.{cell-here, cell-else, cell-long}

@@ -1,26 +1,26 @@
 -- The lines of a right rig are faultless: shape, sizes and order.
 -- Assumes nothing.
 use Prim.Native.Nat.{ℕ, zero, suc, _+_, _-_, _*_, _/_, _%_, _≤_, _<_}
-use mathlib.Core.Path.{_≡_, refl, sym, ap, ap₂, _∙_, subst}
-use mathlib.Core.Logic.{_⊎_, inl, inr, ⊎-elim, _≢_}
-use mathlib.Core.Bool.{Bool, true, false, cond, not, _&&_, true≢false, false≢true}
-use mathlib.Core.List.{List, [], _∷_, _++_, map, append-nil}
+use mathlib.Core.Path.{_≡_, refl, sym, ap, _∙_, subst}
+use mathlib.Core.Logic.{inl, inr, _≢_}
+use mathlib.Core.Bool.{Bool, true, not, false≢true}
+use mathlib.Core.List.{List, [], _∷_, _++_, append-nil}
 use native.Mathlib.Omega.{arith}
-use lib.Dec.{eqb, leb, ltb}
-use lib.ListN.{length, getD}
-use borrow.Author.Tests.{eqb-true, eqb-false, eq-eqb, ne-eqb, lt-ltb, le-leb, ltb-true, leb-true}
+use lib.Dec.{eqb, leb}
+use lib.ListN.{getD}
+use borrow.Author.Tests.{eqb-true, eqb-false, ne-eqb, lt-ltb, le-leb, ltb-true, leb-true}
 use Rattle.laws.specs.Cases.{by}
-use Rattle.laws.specs.All.{and-left, and-right}
+use Rattle.laws.specs.All.{and-right}
 use Rattle.rig.specs.declared.Cycle.{Cycle}
 use Rattle.rig.specs.declared.Rig.{Rig}
-use Rattle.rig.specs.Rules.{noRow, noCycle, Right, Rises}
+use Rattle.rig.specs.Rules.{noCycle, Right, Rises}
 use Rattle.rig.specs.Forms.{flagsOf, tableOf}
 use Rattle.rigrows.specs.Kinds.{keys, keysOf, keyed, rank, follows}
 use Rattle.rigrows.specs.Line.{Line, placed, ordered, judge}
-use Rattle.rigrows.specs.Judged.{Sound, sound-judged}
+use Rattle.rigrows.specs.Judged.{sound-judged}
 use Rattle.rigrows.specs.Text.{Faultless}
 use Rattle.rigwrite.specs.Kept.{kept}
-use Rattle.rigwrite.specs.File.{line, rigLine, isTask, taskLine, isCondition, conditionLine, isLine, flagLine, flagAt, isFlag, cycleLine, isRow, rowLine, linesFrom}
+use Rattle.rigwrite.specs.File.{rigLine, isTask, taskLine, isCondition, conditionLine, isLine, flagLine, flagAt, isFlag, cycleLine, isRow, rowLine, linesFrom}
 use Rattle.rigwrite.specs.Sized.{Good, rig-good, task-good, condition-good, line-good, cycle-good, row-good, mapped-at}
 
 -- the place of the last line, p where there is none

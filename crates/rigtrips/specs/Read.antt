@@ -1,31 +1,26 @@
 -- READING WHAT WAS WRITTEN GIVES THE RIG.
 --     read-written    the file of a right rig is accepted, with that rig and its cycles
 -- Assumes nothing.
-use Prim.Native.Nat.{ℕ, zero, suc, _+_, _≤_, _<_}
+use Prim.Native.Nat.{ℕ}
 use mathlib.Core.Path.{_≡_, refl, sym, ap, ap₂, _∙_, subst}
-use mathlib.Core.Bool.{Bool, true, false, cond}
-use mathlib.Core.List.{List, [], _∷_, _++_}
-use native.Mathlib.Omega.{arith}
+use mathlib.Core.List.{List, [], _∷_}
 use lib.Dec.{eqb}
-use lib.ListN.{length, getD}
 use borrow.Author.Tests.{eqb-true, eq-eqb}
-use Rattle.laws.specs.All.{all, all-all, allOf, allOf-cons, allOf-nil}
+use Rattle.laws.specs.All.{all, all-all, allOf-cons, allOf-nil}
 use Rattle.laws.specs.First.{firstFalse, all-first}
 use Rattle.rig.specs.declared.Cycle.{Cycle}
 use Rattle.rig.specs.declared.Rig.{Rig}
 use Rattle.rig.specs.Rules.{Right}
-use Rattle.rig.specs.Forms.{cycleOf, flagsOf, cyclesOf, tableOf}
+use Rattle.rig.specs.Forms.{cyclesOf, tableOf}
 use Rattle.rig.specs.Tests.{firstBroken, rightB}
 use Rattle.rig.specs.Whole.{right-is}
 use Rattle.rigrows.specs.Line.{Line}
 use Rattle.rigrows.specs.Text.{text, Faultless}
 use Rattle.rigrows.specs.File.{Fault, faultOf, linesOf}
 use Rattle.rigrows.specs.RoundTrip.{read-lines}
-use Rattle.rigbuild.specs.declared.Marks.{Marks}
-use Rattle.rigbuild.specs.declared.Answer.{Answer}
-use Rattle.rigbuild.specs.Built.{Built, numbers, nothing, store, build}
+use Rattle.rigbuild.specs.Built.{Built, numbers, nothing, build}
 use Rattle.rigbuild.specs.MarkTests.{markedOne, markTests}
-use Rattle.rigbuild.specs.Marked.{begun, after-rig, marks-say}
+use Rattle.rigbuild.specs.Marked.{after-rig, marks-say}
 use Rattle.rigbuild.specs.Read.{lineTests, behind, brokenRule, accepted, readOf}
 use Rattle.rigbuild.specs.Exactly.{ruleOf, all-right}
 use Rattle.rigwrite.specs.File.{rigLine, linesFrom, fileOf}

@@ -2,43 +2,41 @@
 --     same-bytes    of an accepted file, the file of its rig is that file
 --     one-file      two accepted files with one rig are one file
 -- Assumes nothing.
-use Prim.Native.Nat.{ℕ, zero, suc, _+_, _*_, _/_, _%_, _≤_, _<_}
+use Prim.Native.Nat.{ℕ, zero, suc, _+_, _≤_, _<_}
 use mathlib.Core.Path.{_≡_, refl, sym, ap, ap₂, _∙_, subst}
 use mathlib.Core.Logic.{_≢_}
-use mathlib.Core.Bool.{Bool, true, false, cond, not, _&&_, true≢false, false≢true}
-use mathlib.Core.List.{List, [], _∷_, _++_, map, append-assoc, append-nil}
+use mathlib.Core.Bool.{true, false≢true}
+use mathlib.Core.List.{List, [], _∷_, _++_, append-assoc, append-nil}
 use native.Mathlib.Omega.{arith}
 use native.Mathlib.Numerals.{add-one}
-use lib.Dec.{eqb, leb, ltb}
-use lib.ListN.{length, getD, set, replicate, getD-replicate, length-replicate}
-use borrow.Author.Tests.{eqb-true, eqb-false, eq-eqb, ne-eqb, le-ltb, le-leb, leb-true}
+use lib.Dec.{eqb, leb}
+use lib.ListN.{length, getD, getD-replicate, length-replicate}
+use borrow.Author.Tests.{eqb-true, le-leb, leb-true}
 use Rattle.laws.specs.Cases.{by}
-use Rattle.laws.specs.All.{all, all-at, allOf, allOf-at, and-left, and-right}
+use Rattle.laws.specs.All.{all, all-at, allOf-at, and-left, and-right}
 use Rattle.laws.specs.First.{firstFalse, first-all}
 use Rattle.rig.specs.declared.Cycle.{Cycle}
 use Rattle.rig.specs.declared.Rig.{Rig}
 use Rattle.rig.specs.Rules.{noRow, place}
-use Rattle.rig.specs.Forms.{noRig, cycleOf, flagsOf, cyclesOf, tableOf}
+use Rattle.rig.specs.Forms.{cyclesOf, tableOf}
 use Rattle.rigrows.specs.Kinds.{counts, countOf, keys, keysOf, lows, lowOf, highs, highOf, keyed, rank}
 use Rattle.rigrows.specs.Line.{Line, placed, judge}
 use Rattle.rigrows.specs.Judged.{judged-sound, shaped-known}
 use Rattle.rigrows.specs.Text.{text, Faultless}
-use Rattle.rigrows.specs.File.{faultOf, linesOf}
+use Rattle.rigrows.specs.File.{linesOf}
 use Rattle.rigrows.specs.RoundTrip.{written, some-line}
 use Rattle.rigbuild.specs.declared.Marks.{Marks}
 use Rattle.rigbuild.specs.declared.Answer.{Answer}
-use Rattle.rigbuild.specs.Built.{Built, built, numbers, zeros, noMarks, noTable, nothing, underOne, aboveAfter, withAbove, withCounts, withTask, withCondition, withLine, withRow, rowOf, hasLine, oneFlag, putFlag, store, build}
+use Rattle.rigbuild.specs.Built.{Built, built, numbers, zeros, noMarks, noTable, nothing, underOne, aboveAfter, withAbove, withTask, withCondition, withLine, withRow, rowOf, hasLine, oneFlag, putFlag, store, build}
 use Rattle.laws.specs.Tables.{zeros-at}
-use Rattle.rigbuild.specs.Cases.{Cases, by-cases}
+use Rattle.rigbuild.specs.Cases.{by-cases}
 use Rattle.rigbuild.specs.MarkTests.{markedOne, markTests}
-use Rattle.rigbuild.specs.Marked.{first-rig, not-rig, place-low, tasks-most, begun, after-rig, marks-say}
-use Rattle.rigbuild.specs.Read.{lineTests, behind, brokenRule, readOf}
-use Rattle.rigbuild.specs.Laws.{behind-more}
-use Rattle.rigbuild.specs.Exactly.{ruleOf, all-right, number-none}
-use Rattle.rigwrite.specs.Kept.{kept}
-use Rattle.rigwrite.specs.File.{line, rigLine, isTask, taskLine, isCondition, isLine, isFlag, isRow, flagAt, linesFrom, fileOf}
-use Rattle.rigtrips.specs.Kept.{kept-same, kept-none}
-use Rattle.rigtrips.specs.Back.{hasT, partT, partC, partA, partM, partB, linesBuilt, Whole, cell, Upto, no-tasks, no-conditions, no-lines, no-flags, no-rows}
+use Rattle.rigbuild.specs.Marked.{first-rig, not-rig, tasks-most, begun, after-rig, marks-say}
+use Rattle.rigbuild.specs.Read.{lineTests, brokenRule, readOf}
+use Rattle.rigbuild.specs.Exactly.{all-right, number-none}
+use Rattle.rigwrite.specs.File.{line, rigLine, isTask, taskLine, linesFrom, fileOf}
+use Rattle.rigtrips.specs.Kept.{kept-same}
+use Rattle.rigtrips.specs.Back.{hasT, partC, partA, partM, partB, linesBuilt, Upto, no-tasks, no-conditions, no-lines, no-flags, no-rows}
 use Rattle.rigtrips.specs.Steps.{Fine, fine, four, task-lines, task-upto, condition-lines, condition-upto, line-lines, line-upto, row-lines, row-upto, flag-lines, flag-upto}
 
 above-kept : (old k n : ℕ) (v : ℕ → ℕ) (tasks flags : ℕ) → aboveAfter old k n v tasks flags ≡ 0 → old ≡ 0

@@ -1,15 +1,15 @@
 -- One line more: the lines of what is built then are those before it, and it.
 -- Assumes nothing.
-use Prim.Native.Nat.{ℕ, zero, suc, _+_, _*_, _/_, _%_, _≤_, _<_}
+use Prim.Native.Nat.{ℕ, _+_, _*_, _/_, _%_, _≤_, _<_}
 use mathlib.Core.Path.{_≡_, refl, sym, ap, ap₂, _∙_}
 use mathlib.Core.Logic.{_≢_}
-use mathlib.Core.Bool.{Bool, true, false, cond, not, _&&_, true≢false, false≢true}
+use mathlib.Core.Bool.{true, not}
 use mathlib.Core.List.{List, [], _∷_, _++_}
 use native.Mathlib.Omega.{arith}
-use lib.Dec.{eqb, leb, ltb}
+use lib.Dec.{eqb, leb}
 use lib.ListN.{length, getD, set, length-set}
 use lib.Seq.{getD-set-same, getD-set-other}
-use borrow.Author.Tests.{eqb-true, eqb-false, eq-eqb, ne-eqb, lt-ltb, le-ltb, ltb-true, ltb-false, leb-true, leb-false, lt-leb}
+use borrow.Author.Tests.{eqb-true, eqb-false, eq-eqb, ne-eqb, lt-ltb, le-ltb, ltb-true, leb-true}
 use Rattle.laws.specs.Cases.{by}
 use Rattle.laws.specs.All.{all}
 use Rattle.rig.specs.declared.Row.{Row}
@@ -18,13 +18,13 @@ use Rattle.rig.specs.Rules.{noRow, place}
 use Rattle.rigrows.specs.Kinds.{counts, countOf, keys, keysOf, lows, lowOf, highs, highOf, sorts, sortOf, under, keyed, rank, follows}
 use Rattle.rigrows.specs.KindLaws.{within-is}
 use Rattle.rigrows.specs.Line.{Line, placed, ordered, judge}
-use Rattle.rigrows.specs.Judged.{Sound, judged-sound, shaped-known, shaped-count, sized-fits, fits-at}
+use Rattle.rigrows.specs.Judged.{judged-sound, shaped-count, sized-fits, fits-at}
 use Rattle.rigbuild.specs.declared.Marks.{Marks}
-use Rattle.rigbuild.specs.Built.{Built, built, numbers, underOne, aboveAfter, withAbove, withCounts, withTask, withCondition, withLine, rowOf, withRow, hasLine, manyLines, manyRows, manyFlags, oneFlag, putFlag, store}
+use Rattle.rigbuild.specs.Built.{Built, built, numbers, underOne, aboveAfter, withAbove, withTask, withCondition, withLine, rowOf, withRow, hasLine, oneFlag, putFlag}
 use Rattle.rigwrite.specs.Kept.{kept}
 use Rattle.rigwrite.specs.File.{line, rigLine, taskLine, isCondition, conditionLine, isLine, flagLine, flagAt, isFlag, cycleLine, isRow, rowLine, busNumbers}
-use Rattle.rigtrips.specs.Kept.{kept-same, kept-none, kept-more}
-use Rattle.rigtrips.specs.Back.{hasT, partT, partC, partA, partM, partB, linesBuilt, snoc-1, snoc-2, snoc-3, snoc-4, snoc-5, Whole, cell, Upto, no-tasks, no-conditions, no-lines, no-flags, no-rows}
+use Rattle.rigtrips.specs.Kept.{kept-more}
+use Rattle.rigtrips.specs.Back.{hasT, partT, partC, partA, partM, partB, linesBuilt, snoc-1, snoc-2, snoc-3, snoc-4, snoc-5, cell, Upto, no-conditions, no-lines, no-flags, no-rows}
 
 -- numbers of a known count, one by one
 pub two : (ns : List ℕ) → length ns ≡ 2 → getD ns 0 0 ∷ getD ns 1 0 ∷ [] ≡ ns

@@ -1,14 +1,13 @@
 -- "rig file up to 40,960 bytes": the file of a right rig always fits.
 -- Assumes nothing.
 use Prim.Native.Nat.{ℕ, zero, suc, _+_, _*_, _/_, _%_, _≤_, _<_}
-use mathlib.Core.Path.{_≡_, refl, sym, ap, _∙_}
-use mathlib.Core.Bool.{Bool, true, false, cond, _&&_}
+use mathlib.Core.Path.{_≡_, ap, _∙_}
+use mathlib.Core.Bool.{Bool, true, cond}
 use mathlib.Core.List.{List, [], _∷_, _++_, map, append-nil}
 use native.Mathlib.Omega.{arith}
-use native.Mathlib.Nat.{add-zero}
-use lib.Dec.{eqb, leb, ltb}
-use lib.ListN.{length, getD, length-append}
-use borrow.Author.Tests.{ltb-true, ltb-false, lt-ltb, le-ltb}
+use lib.Dec.{ltb}
+use lib.ListN.{length, length-append}
+use borrow.Author.Tests.{ltb-true, ltb-false, lt-ltb}
 use Rattle.laws.specs.Cases.{by}
 use Rattle.laws.specs.All.{and-left, and-right}
 use Rattle.rig.specs.declared.Cycle.{Cycle}
@@ -23,7 +22,7 @@ use Rattle.rigrows.specs.KindLaws.{within-is, within-small}
 use Rattle.rigrows.specs.Line.{Line, fits}
 use Rattle.rigrows.specs.Judged.{shaped-count, sized-fits}
 use Rattle.rigrows.specs.Text.{bytesOf, text}
-use Rattle.rigwrite.specs.Kept.{kept, ended, text-append, text-one}
+use Rattle.rigwrite.specs.Kept.{kept, ended, text-append}
 use Rattle.rigwrite.specs.File.{rigLine, isTask, taskLine, isCondition, conditionLine, isLine, flagLine, isFlag, cycleLine, isRow, rowLine, fileOf, file-parts, tasksText, conditionsText, linesText, cyclesText, rowsText}
 use Rattle.rigwrite.specs.Sized.{Good, rig-good, task-good, condition-good, line-good, cycle-good, row-good}
 

@@ -1,13 +1,12 @@
 -- Lines by number: those that pass a test, in order. One law for every kind's loop.
 -- Assumes nothing.
-use Prim.Native.Nat.{ℕ, zero, suc, _+_, _-_, _*_, _≤_, _<_}
+use Prim.Native.Nat.{ℕ, zero, suc, _+_, _-_, _≤_, _<_}
 use mathlib.Core.Path.{_≡_, refl, sym, ap, _∙_}
 use mathlib.Core.Bool.{Bool, true, false, cond}
 use mathlib.Core.List.{List, [], _∷_, _++_, append-assoc, append-nil}
 use native.Mathlib.Omega.{arith}
 use native.Mathlib.Numerals.{add-one}
 use lib.ListN.{length, length-append}
-use Rattle.laws.specs.Cases.{by}
 use Rattle.laws.specs.Put.{put, put-put, length-put}
 use Rattle.rigrows.specs.Turns.{put-none}
 use Rattle.rigrows.specs.Line.{Line}

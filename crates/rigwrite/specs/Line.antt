@@ -1,21 +1,17 @@
 -- The text of a line as it is written, field after field, and its laws.
 -- Assumes nothing.
-use Prim.Native.Nat.{ℕ, zero, suc, _+_, _-_, _≤_, _<_}
+use Prim.Native.Nat.{ℕ, suc, _+_, _-_, _≤_, _<_}
 use mathlib.Core.Path.{_≡_, refl, sym, ap, _∙_}
-use mathlib.Core.Bool.{Bool, true, false, cond}
 use mathlib.Core.List.{List, [], _∷_, _++_, map, append-assoc, append-nil}
 use native.Mathlib.Omega.{arith}
 use native.Mathlib.Numerals.{add-one}
-use lib.Dec.{eqb}
 use lib.ListN.{length, getD, take, set, length-append, length-set}
 use lib.Seq.{take-suc, take-add}
-use borrow.Author.Tests.{eq-eqb, ne-eqb}
 use Rattle.laws.specs.Put.{put, put-one, put-put, length-put}
 use Rattle.decimal.specs.Decimal.{dec}
 use Rattle.text.specs.Split.{led}
 use Rattle.rigrows.specs.Kinds.{countOf, nameOf}
 use Rattle.rigrows.specs.Turns.{put-turn, put-none}
-use Rattle.rigrows.specs.Line.{Line}
 use Rattle.rigrows.specs.Text.{bytesOf}
 
 -- f numbers, each after a tab

@@ -1,19 +1,17 @@
 -- Each kind's line as the code writes it, and its test as the code makes it.
 -- Assumes nothing.
-use Prim.Native.Nat.{ℕ, zero, suc, _+_, _/_, _%_, _≤_, _<_}
-use mathlib.Core.Path.{_≡_, refl, sym, ap, _∙_}
-use mathlib.Core.Bool.{Bool, true, false, cond, not, _&&_}
-use mathlib.Core.List.{List, [], _∷_, _++_}
+use Prim.Native.Nat.{ℕ, _≤_, _<_}
+use mathlib.Core.Path.{_≡_}
+use mathlib.Core.Bool.{true, false, not}
+use mathlib.Core.List.{[], _∷_}
 use native.Mathlib.Omega.{arith}
-use lib.Dec.{eqb, leb, ltb}
-use lib.ListN.{length, getD}
+use lib.Dec.{eqb, ltb}
 use borrow.Author.Tests.{eq-eqb, ne-eqb, lt-ltb, le-ltb, le-leb, lt-leb}
-use Rattle.rig.specs.declared.Row.{Row}
 use Rattle.rig.specs.declared.Rig.{Rig}
 use Rattle.rigrows.specs.Kinds.{countOf, counts}
 use Rattle.rigwrite.specs.Line.{lineText, line-is}
 use Rattle.rigwrite.specs.Kept.{ended}
-use Rattle.rigwrite.specs.File.{rigLine, isTask, taskLine, isCondition, conditionLine, isLine, flagLine, flagAt, isFlag, cycleLine, isRow, rowLine, busNumbers, line}
+use Rattle.rigwrite.specs.File.{rigLine, isTask, line}
 
 pub rig-text : (g : Rig) → lineText 1 (1 ∷ g .tasks ∷ g .flags ∷ g .master ∷ 0 ∷ 0 ∷ 0 ∷ 0 ∷ 0 ∷ []) ≡ ended (rigLine g)
 unfolding countOf counts

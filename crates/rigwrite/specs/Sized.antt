@@ -1,21 +1,19 @@
 -- The lines of a right rig have the right shape and sizes.
 -- Assumes nothing.
-use Prim.Native.Nat.{ℕ, zero, suc, _+_, _*_, _/_, _%_, _≤_, _<_}
-use mathlib.Core.Path.{_≡_, refl, sym, ap, _∙_}
-use mathlib.Core.Logic.{_⊎_, inl, inr, ⊎-elim, _≢_}
-use mathlib.Core.Bool.{Bool, true, false, cond, not, _&&_, false≢true}
+use Prim.Native.Nat.{ℕ, zero, suc, _+_, _/_, _%_, _≤_, _<_}
+use mathlib.Core.Path.{_≡_, refl, sym, _∙_}
+use mathlib.Core.Logic.{inl, inr, _≢_}
+use mathlib.Core.Bool.{true, not, false≢true}
 use mathlib.Core.List.{List, [], _∷_, map}
 use native.Mathlib.Omega.{arith}
-use lib.Dec.{eqb, leb, ltb}
+use lib.Dec.{eqb, leb}
 use lib.ListN.{length, getD}
-use borrow.Author.Tests.{eqb-true, leb-true, ltb-true, eq-eqb, ne-eqb, le-leb, lt-ltb}
-use Rattle.laws.specs.Cases.{by}
+use borrow.Author.Tests.{eqb-true, leb-true, ltb-true, ne-eqb, le-leb, lt-ltb}
 use Rattle.laws.specs.All.{and-left, and-right}
 use Rattle.laws.specs.Members.{In}
-use Rattle.rig.specs.declared.Row.{Row}
 use Rattle.rig.specs.declared.Cycle.{Cycle}
 use Rattle.rig.specs.declared.Rig.{Rig}
-use Rattle.rig.specs.Rules.{at, noRow, noCycle, periods, RowSizes, Right}
+use Rattle.rig.specs.Rules.{noRow, noCycle, periods, Right}
 use Rattle.rig.specs.Forms.{flagsOf, tableOf}
 use Rattle.rig.specs.Tree.{controllers-low}
 use Rattle.decimal.specs.Decimal.{cap}
@@ -23,7 +21,7 @@ use Rattle.rigrows.specs.Kinds.{counts, lows, highs, countOf, lowOf, highOf, wi
 use Rattle.rigrows.specs.KindLaws.{within-fits, within-small}
 use Rattle.rigrows.specs.Line.{Line, decimals, shaped, fits, sized}
 use Rattle.rigrows.specs.Judged.{shaped-if, sized-if}
-use Rattle.rigwrite.specs.File.{line, rigLine, isTask, taskLine, isCondition, conditionLine, isLine, flagLine, flagAt, isFlag, cycleLine, isRow, rowLine, busNumbers}
+use Rattle.rigwrite.specs.File.{rigLine, isTask, taskLine, isCondition, conditionLine, isLine, flagLine, isFlag, cycleLine, isRow, rowLine}
 
 -- shape and sizes of a line
 pub record Good (r : Line) : Type 0 where

@@ -1,15 +1,15 @@
 // The rig file's writer: lines of a rig, one kind after the other.
 ghost use mathlib.Core.Path.{_≡_};
 ghost use mathlib.Core.List.{_∷_, []};
-ghost use Prim.Native.Nat.{ℕ, _+_, _≤_, _<_};
-ghost use lib.ListN.{length, getD, take};
+ghost use Prim.Native.Nat.{_+_, _≤_, _<_};
+ghost use lib.ListN.{length, take};
 ghost use Rattle.laws.specs.Put.{put};
 ghost use Rattle.rigrows.specs.Kinds.{nameOf};
 ghost use Rattle.rigrows.specs.Text.{text};
 ghost use Rattle.rigwrite.specs.Line.{begun, lineText};
 ghost use Rattle.rigwrite.specs.Kept.{kept, ended};
 ghost use Rattle.rigwrite.specs.Written.{writtenReport, writtenOf, bufferOf};
-ghost use Rattle.rigwrite.specs.File.{rigLine, isTask, taskLine, isCondition, conditionLine, isLine, flagLine, isFlag, cycleLine, isRow, rowLine, busNumbers, fileOf};
+ghost use Rattle.rigwrite.specs.File.{rigLine, isTask, taskLine, isCondition, conditionLine, isLine, flagLine, isFlag, cycleLine, isRow, rowLine, fileOf};
 
 fn wide(x: u8) -> usize
     ensures { λ r. ⌜ r ≡ x ⌝ }

@@ -1,7 +1,7 @@
 -- What the rules over conditions say, place by place.
 use mathlib.Core.Path.{_≡_, refl, ap}
 use mathlib.Core.Logic.{_≢_, _⊎_, _↔_}
-use mathlib.Core.Bool.{Bool, true, not, _&&_}
+use mathlib.Core.Bool.{Bool, true, _&&_}
 use mathlib.Core.List.{List}
 use Prim.Native.Nat.{ℕ, _-_, _<_}
 use borrow.Author.Tests.{eqb-true, eq-eqb}
@@ -11,7 +11,7 @@ use Rattle.laws.specs.Cases.{and-true, and-go}
 use Rattle.laws.specs.Decides.{is-eqb, is-not, is-or, is-and, is-all, is-any}
 use Rattle.laws.specs.Stores.{stores-hit, stores-miss}
 use Rattle.rules.specs.Rig.{place}
-use Rattle.rules.specs.Conditions.{relax, metOne, met, drive, namesOne, names}
+use Rattle.rules.specs.Conditions.{relax, met, drive, names}
 
 module _ (present latched desired : ℕ → ℕ) (t : ℕ) (conds : List ℕ) where
   test : ℕ → Bool

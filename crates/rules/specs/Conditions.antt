@@ -1,8 +1,8 @@
 -- CONDITIONS: what a schedule, an activation and a service do to them, and when they are as desired.
 -- Each rule is said for one position or one A line, and then for all of them.
-use mathlib.Core.Bool.{Bool, true, false, not, cond, _&&_, _||_}
+use mathlib.Core.Bool.{Bool, not, cond, _&&_, _||_}
 use mathlib.Core.List.{List}
-use Prim.Native.Nat.{ℕ, _+_, _-_, _*_}
+use Prim.Native.Nat.{ℕ, _-_}
 use lib.Dec.{eqb}
 use lib.ListN.{getD, set}
 use Rattle.laws.specs.Iter.{iter}

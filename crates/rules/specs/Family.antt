@@ -1,11 +1,10 @@
 -- THE FAMILY of a task: the task itself and all its descendants, whom a cancel strikes.
-use mathlib.Core.Bool.{Bool, true, false, not, cond, _&&_, _||_}
-use mathlib.Core.List.{List, [], _∷_}
+use mathlib.Core.Bool.{Bool, cond, _&&_, _||_}
+use mathlib.Core.List.{List, []}
 use Prim.Native.Nat.{ℕ, _+_}
 use lib.Dec.{eqb}
 use lib.ListN.{getD, set, replicate}
 use Rattle.laws.specs.Iter.{iter}
-use Rattle.rules.specs.Rig.{Rig}
 use Rattle.rules.specs.State.{Entry, active, off, uninvoked}
 use Rattle.rules.specs.Serving.{push}
 use Rattle.rules.specs.Waiting.{leave}

@@ -13,7 +13,7 @@ use Rattle.rules.specs.Rig.{Rig}
 use Rattle.rules.specs.State.{State, stateOf, active}
 use Rattle.rules.specs.Bus.{areaWords, blockWords}
 use Rattle.rules.specs.Calls.{Call, schedule, cancel, terminate, finish, tick, waitUntil, waitFor, latched, unlatched, signal, readFlag, readBlock, writeBlock}
-use Rattle.rules.specs.Calls.{row, decide, refusals, refusal, nobodyRuns, noSuch, notController, isUninvoked, isInvoked, notActive, inCycleOne, inCycle, minorOne, isMinor, activationOne, isActivation, notPlain, lastCount, wrongBlock}
+use Rattle.rules.specs.Calls.{row, decide, refusals, refusal, nobodyRuns, noSuch, notController, isUninvoked, isInvoked, notActive, inCycle, isMinor, isActivation, notPlain, lastCount, wrongBlock}
 use Rattle.rules.specs.Reasons.{Reasons, NoSuch, MinorCycleFlag, ActivationFlag, reasons, naming, flagging, waking, blocking, Exactly}
 
 -- ---- what the tests of the table say

@@ -1,10 +1,9 @@
 -- THE STATE of the executive of one processor, as plain data.
 -- Tables are lists read by number: place 0 is not used, so that task t stands at place t and flag f at place f.
 -- A number out of range reads as 0, which is "uninvoked" and "off".
-use mathlib.Core.Bool.{Bool, true, false, not, cond, _&&_, _||_}
-use mathlib.Core.List.{List, [], _∷_, _++_}
+use mathlib.Core.List.{List, []}
 use Prim.Native.Nat.{ℕ, zero, suc, _+_, _*_}
-use lib.ListN.{getD, set, replicate}
+use lib.ListN.{getD, replicate}
 
 -- "States: 0 uninvoked, 1 inactive, 2 waiting, 3 dispatchable."
 abbrev pub uninvoked : ℕ

@@ -1,9 +1,9 @@
 -- THE CASES MARKED *: "Cases marked * are proved of the rules, as one table with one statement."
 -- Those on words stand in crate words; here those on calls join them.
-use mathlib.Core.Path.{_≡_, refl}
+use mathlib.Core.Path.{refl}
 use mathlib.Core.Bool.{cond}
 use mathlib.Core.List.{List, [], _∷_, _++_}
-use Prim.Native.Nat.{ℕ, zero, suc}
+use Prim.Native.Nat.{ℕ}
 use lib.Dec.{eqb}
 use lib.ListN.{replicate}
 use Rattle.laws.specs.Iter.{iter}

@@ -1,10 +1,9 @@
 -- Laws: what a script line says, by where its tabs stand.
 use Prim.Native.Nat.{ℕ, _+_, _≤_, _<_}
 use mathlib.Core.Path.{_≡_, refl, sym, ap, _∙_}
-use mathlib.Core.Bool.{Bool, true, false, cond, _&&_}
 use mathlib.Core.List.{List, [], _∷_}
 use native.Mathlib.Omega.{arith}
-use lib.Dec.{ltb, eqb}
+use lib.Dec.{eqb}
 use lib.ListN.{length, getD}
 use borrow.Author.Tests.{lt-ltb, le-ltb}
 use Rattle.laws.specs.Cases.{if-yes}
@@ -13,7 +12,6 @@ use Rattle.text.specs.Split.{split, part, rest}
 use Rattle.text.specs.SplitLaws.{split-cons}
 use Rattle.text.specs.Parts.{Found, part-all, piece, rest-none, rest-next}
 use Rattle.script.specs.Script.{verbOf, alone, withNumber, withValue, fieldsSay, saidOf}
-use Rattle.script.specs.declared.Said.{Said}
 use Rattle.script.specs.declared.Said.the-variants.{Wrong}
 
 -- a number too large, or no decimal, is of wrong shape whatever follows it

@@ -1,10 +1,8 @@
 // Script lines and output lines of the bench runner.
 ghost use mathlib.Core.Path.{_≡_};
-ghost use mathlib.Core.List.{List, [], _∷_, _++_};
-ghost use Prim.Native.Nat.{ℕ, _+_, _*_, _≤_, _<_};
-ghost use lib.ListN.{length, take};
-ghost use Rattle.laws.specs.Put.{put};
-ghost use Rattle.decimal.specs.Decimal.{cap, dec};
+ghost use mathlib.Core.List.{[], _∷_};
+ghost use Prim.Native.Nat.{_+_, _*_, _≤_, _<_};
+ghost use lib.ListN.{length};
 ghost use Rattle.script.specs.Script.{verbOf, alone, withNumber, withValue, saidOf};
 ghost use Rattle.script.specs.Output.{fieldsText, startName};
 ghost use Rattle.script.specs.Written.{Wrote, Begun};

@@ -6,7 +6,6 @@ ghost use mathlib.Core.Bool.{cond, not, _&&_, _||_};
 ghost use mathlib.Core.List.{[]};
 ghost use Prim.Native.Nat.{_+_, _-_, _*_, _<_, _≤_};
 ghost use lib.Dec.{eqb, ltb, leb};
-ghost use lib.ListN.{take};
 ghost use Rattle.chains.specs.Held.{at, Sound};
 ghost use Rattle.laws.specs.Any.{any};
 ghost use Rattle.rules.specs.Conditions.{relax, met, drive, names};

@@ -1,6 +1,6 @@
 -- The tests of a table's entries part by part, as the loops compute them, and that together they say what the tests of
 -- Tests.antt say.
-use mathlib.Core.Path.{_≡_, refl, sym, _∙_, ap}
+use mathlib.Core.Path.{_≡_, refl, sym}
 use mathlib.Core.Logic.{_≢_, _⊎_}
 use mathlib.Core.Bool.{Bool, true, false, cond, _&&_}
 use mathlib.Core.List.{List}

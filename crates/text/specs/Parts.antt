@@ -3,8 +3,8 @@
 --     piece      the pieces of the part a .. e: the part a .. b, and those that follow b
 --     rest-next, rest-none    what follows b: the pieces of b + 1 .. e, or none
 -- Assumes nothing.
-use Prim.Native.Nat.{ℕ, zero, suc, _+_, _-_, _≤_, _<_}
-use mathlib.Core.Path.{_≡_, refl, sym, ap, _∙_}
+use Prim.Native.Nat.{ℕ, suc, _+_, _-_, _≤_, _<_}
+use mathlib.Core.Path.{_≡_}
 use mathlib.Core.List.{List, [], _∷_, _++_}
 use native.Mathlib.Omega.{arith}
 use native.Mathlib.Numerals.{add-one}
@@ -12,7 +12,7 @@ use native.Mathlib.Nat.{le-antisymm}
 use lib.Dec.{ltb}
 use borrow.Author.Tests.{ltb-true, ltb-false}
 use Rattle.laws.specs.Cases.{by}
-use lib.ListN.{length, take, drop, getD, length-drop, length-take}
+use lib.ListN.{length, drop, getD, length-drop, length-take}
 use lib.Seq.{drop-cons, take-suc, getD-drop, take-add, drop-drop, take-length}
 use Rattle.text.specs.Split.{split, part, rest}
 use Rattle.text.specs.SplitLaws.{Free, split-piece, split-last}

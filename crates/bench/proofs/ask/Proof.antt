@@ -1,168 +1,116 @@
 use mathlib.Core.Path.{sym, subst}
-use mathlib.Core.List.{List}
-use Prim.Native.Nat.{ℕ}
-use Rattle.exec.specs.declared.Step.{Step}
 use Rattle.exec.specs.declared.Answer.the-variants.{Refused}
 use Rattle.script.specs.declared.Said.{Said}
 use Rattle.bench.specs.TurnLaws.{Made}
 use borrow.Author.Needs.{needs}
 use Rattle.bench.proofs.ask.Statement.{statement}
 use Rattle.bench.proofs.ask.Tie as tie
-use Rattle.bench.proofs.ask.Reads as reads
-use Rattle.bench.proofs.ask.Lts as lts
-use Rattle.exec.proofs.Exec.cancel.Reads as cancel-reads
-use Rattle.exec.proofs.Exec.finish.Reads as finish-reads
-use Rattle.exec.proofs.Exec.latched.Reads as latched-reads
-use Rattle.exec.proofs.Exec.read_flag.Reads as read-flag-reads
-use Rattle.exec.proofs.Exec.schedule.Reads as schedule-reads
-use Rattle.exec.proofs.Exec.signal.Reads as signal-reads
-use Rattle.exec.proofs.Exec.terminate.Reads as terminate-reads
-use Rattle.exec.proofs.Exec.tick.Reads as tick-reads
-use Rattle.exec.proofs.Exec.unlatched.Reads as unlatched-reads
-use Rattle.exec.proofs.Exec.wait_for.Reads as wait-for-reads
-use Rattle.exec.proofs.Exec.wait_until.Reads as wait-until-reads
 
--- src/lib.rt:107:24
 enum-known-said : tie.Need-enum-known-said
 enum-known-said c = search needs
 
--- src/lib.rt:107:30
 schedule-requires : tie.Need-schedule-requires
 schedule-requires c κs = search needs
 
--- src/lib.rt:108:22
 enum-known-said-2 : tie.Need-enum-known-said-2
 enum-known-said-2 c = search needs
 
--- src/lib.rt:108:28
 cancel-requires : tie.Need-cancel-requires
 cancel-requires c κs = search needs
 
--- src/lib.rt:109:25
 enum-known-said-3 : tie.Need-enum-known-said-3
 enum-known-said-3 c = search needs
 
--- src/lib.rt:109:31
 terminate-requires : tie.Need-terminate-requires
 terminate-requires c κs = search needs
 
--- src/lib.rt:110:25
 enum-told : tie.Need-enum-told
 enum-told c = search needs
 
--- src/lib.rt:110:25
 finish-requires : tie.Need-finish-requires
 finish-requires c κs = search needs
 
--- src/lib.rt:111:30
 enum-told-2 : tie.Need-enum-told-2
 enum-told-2 c = search needs
 
--- src/lib.rt:111:23
 tick-requires : tie.Need-tick-requires
 tick-requires c κs = search needs
 
--- src/lib.rt:112:21
 enum-known-said-4 : tie.Need-enum-known-said-4
 enum-known-said-4 c = search needs
 
--- src/lib.rt:112:27
 wait-until-requires : tie.Need-wait-until-requires
 wait-until-requires c κs = search needs
 
--- src/lib.rt:113:22
 enum-known-said-5 : tie.Need-enum-known-said-5
 enum-known-said-5 c = search needs
 
--- src/lib.rt:113:28
 wait-for-requires : tie.Need-wait-for-requires
 wait-for-requires c κs = search needs
 
--- src/lib.rt:114:23
 enum-known-said-6 : tie.Need-enum-known-said-6
 enum-known-said-6 c = search needs
 
--- src/lib.rt:114:32
 latched-requires : tie.Need-latched-requires
 latched-requires c κs = search needs
 
--- src/lib.rt:115:25
 enum-known-said-7 : tie.Need-enum-known-said-7
 enum-known-said-7 c = search needs
 
--- src/lib.rt:115:34
 unlatched-requires : tie.Need-unlatched-requires
 unlatched-requires c κs = search needs
 
--- src/lib.rt:116:22
 enum-known-said-8 : tie.Need-enum-known-said-8
 enum-known-said-8 c = search needs
 
--- src/lib.rt:116:31
 signal-requires : tie.Need-signal-requires
 signal-requires c κs = search needs
 
--- src/lib.rt:117:19
 enum-known-said-9 : tie.Need-enum-known-said-9
 enum-known-said-9 c = search needs
 
--- src/lib.rt:117:25
 read-flag-requires : tie.Need-read-flag-requires
 read-flag-requires c κs = search needs
 
--- src/lib.rt:120:21
 enum-told-3 : tie.Need-enum-told-3
 enum-told-3 c = search needs
 
--- src/lib.rt:103:1
 returns : tie.Need-returns
 returns c = subst (λ (x : Said). Made (c .before .before .before .before .before .args .e) x (c .before .before .before .before .before .args .words .now) (c .schedule .result) (c .before .before .before .before .before .args .words .now)) (sym (c .before .before .said .given .1)) (c .schedule .ensures)
 
--- src/lib.rt:103:1
 returns-2 : tie.Need-returns-2
 returns-2 c = subst (λ (x : Said). Made (c .before .before .before .before .before .args .e) x (c .before .before .before .before .before .args .words .now) (c .cancel .result) (c .before .before .before .before .before .args .words .now)) (sym (c .before .before .said2 .given .1)) (c .cancel .ensures)
 
--- src/lib.rt:103:1
 returns-3 : tie.Need-returns-3
 returns-3 c = subst (λ (x : Said). Made (c .before .before .before .before .before .args .e) x (c .before .before .before .before .before .args .words .now) (c .terminate .result) (c .before .before .before .before .before .args .words .now)) (sym (c .before .before .said3 .given .1)) (c .terminate .ensures)
 
--- src/lib.rt:103:1
 returns-4 : tie.Need-returns-4
 returns-4 c = subst (λ (x : Said). Made (c .before .before .before .before .args .e) x (c .before .before .before .before .args .words .now) (c .finish .result) (c .before .before .before .before .args .words .now)) (sym (c .before .enum-told .given .1)) (c .finish .ensures)
 
--- src/lib.rt:103:1
 same-length : tie.Need-same-length
 same-length c = search needs
 
--- src/lib.rt:103:1
 returns-5 : tie.Need-returns-5
 returns-5 c = subst (λ (x : Said). Made (c .before .before .before .before .before .before .before .args .e) x (c .before .before .before .before .before .before .before .args .words .now) (c .before .before .tick .result) (c .before .before .tick .last .1 .0)) (sym (c .before .before .before .before .enum-told2 .given .1)) (c .before .before .tick .ensures)
 
--- src/lib.rt:103:1
 returns-6 : tie.Need-returns-6
 returns-6 c = subst (λ (x : Said). Made (c .before .before .before .before .before .args .e) x (c .before .before .before .before .before .args .words .now) (c .wait-until .result) (c .before .before .before .before .before .args .words .now)) (sym (c .before .before .said4 .given .1)) (c .wait-until .ensures)
 
--- src/lib.rt:103:1
 returns-7 : tie.Need-returns-7
 returns-7 c = subst (λ (x : Said). Made (c .before .before .before .before .before .args .e) x (c .before .before .before .before .before .args .words .now) (c .wait-for .result) (c .before .before .before .before .before .args .words .now)) (sym (c .before .before .said5 .given .1)) (c .wait-for .ensures)
 
--- src/lib.rt:103:1
 returns-8 : tie.Need-returns-8
 returns-8 c = subst (λ (x : Said). Made (c .before .before .before .before .before .args .e) x (c .before .before .before .before .before .args .words .now) (c .latched .result) (c .before .before .before .before .before .args .words .now)) (sym (c .before .before .said6 .given .1)) (c .latched .ensures)
 
--- src/lib.rt:103:1
 returns-9 : tie.Need-returns-9
 returns-9 c = subst (λ (x : Said). Made (c .before .before .before .before .before .args .e) x (c .before .before .before .before .before .args .words .now) (c .unlatched .result) (c .before .before .before .before .before .args .words .now)) (sym (c .before .before .said7 .given .1)) (c .unlatched .ensures)
 
--- src/lib.rt:103:1
 returns-10 : tie.Need-returns-10
 returns-10 c = subst (λ (x : Said). Made (c .before .before .before .before .before .args .e) x (c .before .before .before .before .before .args .words .now) (c .signal .result) (c .before .before .before .before .before .args .words .now)) (sym (c .before .before .said8 .given .1)) (c .signal .ensures)
 
--- src/lib.rt:103:1
 returns-11 : tie.Need-returns-11
 returns-11 c = subst (λ (x : Said). Made (c .before .before .before .before .before .args .e) x (c .before .before .before .before .before .args .words .now) (c .read-flag .result) (c .before .before .before .before .before .args .words .now)) (sym (c .before .before .said9 .given .1)) (c .read-flag .ensures)
 
--- src/lib.rt:103:1
 returns-12 : tie.Need-returns-12
 returns-12 c = subst (λ (x : Said). Made (c .before .before .before .args .e) x (c .before .before .before .args .words .now) (record { exec = c .before .before .before .args .e; answer = Refused 1 }) (c .before .before .before .args .words .now)) (sym (c .enum-told3 .given .1)) tt
 

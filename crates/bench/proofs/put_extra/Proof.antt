@@ -1,29 +1,19 @@
-use mathlib.Core.Path.{_≡_, refl, sym, ap, _∙_}
-use Prim.Native.Nat.{ℕ, _≤_, min}
 use native.Mathlib.Omega.{arith}
-use lib.ListN.{length, length-take, take}
+use lib.ListN.{length-take}
 use Rattle.bench.specs.TurnLaws.{extra-words, extra-value, extra-nothing}
 use borrow.Author.Needs.{needs}
 use Rattle.bench.proofs.put_extra.Statement.{statement}
 use Rattle.bench.proofs.put_extra.Tie as tie
-use Rattle.bench.proofs.put_extra.Reads as reads
-use Rattle.bench.proofs.put_extra.Lts as lts
-use Rattle.bench.proofs.least.Reads as least-reads
-use Rattle.script.proofs.put_field.Reads as put-field-reads
-use Rattle.script.proofs.put_words.Reads as put-words-reads
 
--- src/lib.rt:29:13
 least-requires : tie.Need-least-requires
 least-requires c κs = search needs
 
--- src/lib.rt:30:43
 slice-aggregate-put-words : tie.Need-slice-aggregate-put-words
 slice-aggregate-put-words c =
     let e = c .before .before .least .ensures in
     let l = length-take (c .before .before .least .result) (c .before .before .before .before .before .before .args .words .now) in
     omega arith
 
--- src/lib.rt:30:9
 put-words-requires : tie.Need-put-words-requires
 put-words-requires c κs =
     let e = c .before .before .least .ensures in
@@ -32,33 +22,27 @@ put-words-requires c κs =
     let q = c .before .before .before .before .before .before .pre .1 in
     omega arith
 
--- src/lib.rt:30:9
 same-length : tie.Need-same-length
 same-length c = search needs
 
--- src/lib.rt:30:9
 returns : tie.Need-returns
 returns c =
     let s = c .before .before .before .before .before .before .before .before .before in
     let w = c .before .before .put-words in
     extra-words (s .args .verb) (s .args .report) (s .args .words .now) (s .args .out .now) (w .last .0) (s .args .at) (w .result) (c .before .before .before .before .before .before .if1 .taken) (c .before .before .before .before .before .least .result) (c .before .before .before .before .before .least .ensures) (w .ensures)
 
--- src/lib.rt:33:9
 put-field-requires : tie.Need-put-field-requires
 put-field-requires c κs = search needs
 
--- src/lib.rt:33:9
 same-length-2 : tie.Need-same-length-2
 same-length-2 c = search needs
 
--- src/lib.rt:33:9
 returns-2 : tie.Need-returns-2
 returns-2 c =
     let s = c .before .before .before .before .before .before .before .before in
     let w = c .before .before .put-field in
     extra-value (s .args .verb) (s .args .report) (s .args .words .now) (s .args .out .now) (w .last .0) (s .args .at) (w .result) (c .before .before .before .before .before .if1 .left) (c .before .before .before .before .if2 .taken) (w .ensures)
 
--- src/lib.rt:24:1
 returns-3 : tie.Need-returns-3
 returns-3 c =
     let s = c .before .before .before .before in

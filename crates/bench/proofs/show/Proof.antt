@@ -1,5 +1,5 @@
-use mathlib.Core.Path.{_≡_, refl, sym, ap, _∙_, subst}
-use mathlib.Core.List.{List, [], _∷_}
+use mathlib.Core.Path.{subst}
+use mathlib.Core.List.{[], _∷_}
 use Prim.Native.Nat.{ℕ, _+_, _≤_, _<_}
 use native.Mathlib.Omega.{arith}
 use lib.ListN.{length, set, length-set}
@@ -9,11 +9,6 @@ use Rattle.bench.specs.TurnLaws.{headOf, after-head, shown-refused, afte
 use borrow.Author.Needs.{needs}
 use Rattle.bench.proofs.show.Statement.{statement}
 use Rattle.bench.proofs.show.Tie as tie
-use Rattle.bench.proofs.show.Reads as reads
-use Rattle.bench.proofs.show.Lts as lts
-use Rattle.bench.proofs.number_of.Reads as number-of-reads
-use Rattle.bench.proofs.put_extra.Reads as put-extra-reads
-use Rattle.script.proofs.put_answer.Reads as put-answer-reads
 
 -- the head was written
 wrote : (c : tie.After-put-answer) → Wrote (set (c .before .before .before .before .before .args .out .now) (c .before .before .before .before .before .args .at) (c .before .before .before .before .before .args .verb)) (c .before .before .before .before .before .args .at + 1) (fieldsText (headOf (c .before .before .before .before .before .args .answer) (c .before .before .before .before .before .args .count) (c .before .before .before .before .before .args .running))) (c .put-answer .last .0) (c .put-answer .result)
@@ -27,19 +22,15 @@ room-behind c =
     let a = s .args in
     after-head (a .verb) (a .answer) (a .count) (a .running) (a .words .now) (a .out .now) (a .at) (s .pre .0) (s .pre .1) (c .put-answer .last .0) (c .put-answer .result) (wrote c)
 
--- src/lib.rt:58:9
 number-of-requires : tie.Need-number-of-requires
 number-of-requires c κs = search needs
 
--- src/lib.rt:59:13
 add-a : tie.Need-add-a
 add-a c = search needs
 
--- src/lib.rt:60:5
 slice-write-out : tie.Need-slice-write-out
 slice-write-out c = search needs
 
--- src/lib.rt:61:9
 put-answer-requires : tie.Need-put-answer-requires
 put-answer-requires c κs =
     let s = c .before .before .before .before in
@@ -47,21 +38,17 @@ put-answer-requires c κs =
     let p = s .pre .1 in
     omega arith
 
--- src/lib.rt:62:26
 enum-known-answer : tie.Need-enum-known-answer
 enum-known-answer c = search needs
 
--- src/lib.rt:63:9
 enum-told : tie.Need-enum-told
 enum-told c = search needs
 
--- src/lib.rt:63:9
 slice-write-out-2 : tie.Need-slice-write-out-2
 slice-write-out-2 c =
     let r = room-behind (c .before .before .before .before) in
     omega arith
 
--- src/lib.rt:64:16
 add-result : tie.Need-add-result
 add-result c =
     let r = room-behind (c .before .before .before .before) in
@@ -71,7 +58,6 @@ add-result c =
     let k : c .before .before .before .before .put-answer .result < length (s .args .out .now) = omega arith in
     search needs
 
--- src/lib.rt:64:9
 same-length : tie.Need-same-length
 same-length c =
     let s = c .before .before .before .before .before .before .before .before .before in
@@ -79,7 +65,6 @@ same-length c =
     let p = c .before .before .before .before .put-answer in
     shown-refused (a .verb) (a .answer) (a .count) (a .running) (a .words .now) (a .out .now) (a .at) (s .pre .0) (s .pre .1) (p .last .0) (p .result) (wrote (c .before .before .before .before)) _ (c .enum-told .given .1) .size
 
--- src/lib.rt:64:9
 returns : tie.Need-returns
 returns c =
     let s = c .before .before .before .before .before .before .before .before .before in
@@ -87,13 +72,11 @@ returns c =
     let p = c .before .before .before .before .put-answer in
     shown-refused (a .verb) (a .answer) (a .count) (a .running) (a .words .now) (a .out .now) (a .at) (s .pre .0) (s .pre .1) (p .last .0) (p .result) (wrote (c .before .before .before .before)) _ (c .enum-told .given .1)
 
--- src/lib.rt:66:9
 put-extra-requires : tie.Need-put-extra-requires
 put-extra-requires c κs =
     let r = room-behind (c .before .before .before .before .before .before) in
     (c .before .before .before .before .before .before .before .before .before .before .before .pre .0, omega arith)
 
--- src/lib.rt:67:5
 slice-write-out-3 : tie.Need-slice-write-out-3
 slice-write-out-3 c =
     let s = c .before .before .before .before .before .before .before .before .before .before .before .before .before .before in
@@ -102,7 +85,6 @@ slice-write-out-3 c =
     let q = c .before .before .put-extra in
     after-extra (a .verb) (a .answer) (a .count) (a .running) (a .words .now) (a .out .now) (a .at) (s .pre .0) (s .pre .1) (p .last .0) (p .result) (wrote (c .before .before .before .before .before .before .before .before .before)) _ (c .before .before .before .before .before .answer .given .1) (q .last .1 .1 .1 .0) (q .result) (q .ensures)
 
--- src/lib.rt:68:5
 add-result-2 : tie.Need-add-result-2
 add-result-2 c =
     let s = c .before .before .before .before .before .before .before .before .before .before .before .before .before .before in
@@ -116,7 +98,6 @@ add-result-2 c =
     let k : q .result < length (a .out .now) = omega arith in
     search needs
 
--- src/lib.rt:54:1
 same-length-2 : tie.Need-same-length-2
 same-length-2 c =
     let s = c .before .before .before .before .before .before .before .before .before .before .before .before .before .before in
@@ -125,7 +106,6 @@ same-length-2 c =
     let q = c .before .before .put-extra in
     shown-accepted (a .verb) (a .answer) (a .count) (a .running) (a .words .now) (a .out .now) (a .at) (s .pre .0) (s .pre .1) (p .last .0) (p .result) (wrote (c .before .before .before .before .before .before .before .before .before)) _ (c .before .before .before .before .before .answer .given .1) (q .last .1 .1 .1 .0) (q .result) (q .ensures) .size
 
--- src/lib.rt:54:1
 returns-2 : tie.Need-returns-2
 returns-2 c =
     let s = c .before .before .before .before .before .before .before .before .before .before .before .before .before .before in

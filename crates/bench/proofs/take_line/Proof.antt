@@ -1,8 +1,7 @@
-use mathlib.Core.Path.{_≡_, refl, sym, ap, _∙_, subst}
+use mathlib.Core.Path.{refl, sym, _∙_, subst}
 use mathlib.Core.Logic.{inl, inr}
 use Prim.Native.Nat.{ℕ}
 use native.Mathlib.Omega.{arith}
-use lib.ListN.{length}
 use Rattle.script.specs.declared.Said.{Said}
 use Rattle.script.specs.Written.{Wrote}
 use Rattle.bench.specs.Turn.{Takes, letterOf, askedBy, answerText}
@@ -10,39 +9,25 @@ use Rattle.bench.specs.TurnLaws.{answered, unasked}
 use borrow.Author.Needs.{needs}
 use Rattle.bench.proofs.take_line.Statement.{statement}
 use Rattle.bench.proofs.take_line.Tie as tie
-use Rattle.bench.proofs.take_line.Reads as reads
-use Rattle.bench.proofs.take_line.Lts as lts
-use Rattle.bench.proofs.ask.Reads as ask-reads
-use Rattle.bench.proofs.letter.Reads as letter-reads
-use Rattle.bench.proofs.show.Reads as show-reads
-use Rattle.bench.proofs.wrong.Reads as wrong-reads
-use Rattle.script.proofs.read_line.Reads as read-line-reads
 
--- src/lib.rt:131:9
 returns : tie.Need-returns
 returns c = record { is = inr (omega arith, refl, refl) }
 
--- src/lib.rt:134:9
 returns-2 : tie.Need-returns-2
 returns-2 c = record { is = inr (omega (arith, c .if2 .taken), refl, refl) }
 
--- src/lib.rt:136:9
 read-line-requires : tie.Need-read-line-requires
 read-line-requires c κs = search needs
 
--- src/lib.rt:137:9
 letter-requires : tie.Need-letter-requires
 letter-requires c κs = search needs
 
--- src/lib.rt:139:13
 wrong-requires : tie.Need-wrong-requires
 wrong-requires c κs = search needs
 
--- src/lib.rt:140:9
 same-length : tie.Need-same-length
 same-length c = search needs
 
--- src/lib.rt:140:9
 returns-3 : tie.Need-returns-3
 returns-3 c =
     let s = c .before .before .before .before .before .before .before .before .before .before .before .before .args in
@@ -56,31 +41,24 @@ returns-3 c =
       );
     }
 
--- src/lib.rt:143:26
 slice-aggregate-ask : tie.Need-slice-aggregate-ask
 slice-aggregate-ask c = search needs
 
--- src/lib.rt:143:9
 ask-requires : tie.Need-ask-requires
 ask-requires c κs = search needs
 
--- src/lib.rt:146:47
 cast-show : tie.Need-cast-show
 cast-show c = search needs
 
--- src/lib.rt:146:71
 slice-aggregate-show : tie.Need-slice-aggregate-show
 slice-aggregate-show c = search needs
 
--- src/lib.rt:146:9
 show-requires : tie.Need-show-requires
 show-requires c κs = search needs
 
--- src/lib.rt:126:1
 same-length-2 : tie.Need-same-length-2
 same-length-2 c = search needs
 
--- src/lib.rt:126:1
 returns-4 : tie.Need-returns-4
 returns-4 c =
     let s = c .before .before .before .before .before .before .before .before .before .before .before .before .before .before .before .before .before .before .before .args in

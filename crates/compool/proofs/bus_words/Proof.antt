@@ -7,10 +7,6 @@ use Rattle.compool.specs.View.{rowsOf}
 use Rattle.compool.specs.Words.{Sent, sent-start, sent-room, sent-no, sent-yes, sent-done}
 use Rattle.compool.proofs.bus_words.Statement.{statement}
 use Rattle.compool.proofs.bus_words.Tie as tie
-use Rattle.compool.proofs.bus_words.Reads as reads
-use Rattle.compool.proofs.bus_words.Lts as lts
-use Rattle.compool.proofs.due.Reads as due-reads
-use Rattle.compool.proofs.put_row.Reads as put-row-reads
 
 abbrev Inv-loop : tie.InvT-loop
 Inv-loop many master count out₀ rows n₀ i₀ out n i = Sent master (rowsOf rows) count out₀ out n i × (i ≤ many)
@@ -18,25 +14,20 @@ Inv-loop many master count out₀ rows n₀ i₀ out n i = Sent master (rowsOf r
 abbrev μ-loop : tie.MeasureT-loop
 μ-loop many master count out₀ rows n₀ i₀ out n i = many - i
 
--- src/lib.rt:97:5
 loop-holds : tie.Need-loop-holds Inv-loop μ-loop
 loop-holds c =
     let a = c .before .args in
     (sent-start (a .master) (rowsOf (a .t1)) (a .count) (a .out .now) (c .before .pre .1), search needs)
 
--- src/lib.rt:98:19
 mul-row : tie.Need-mul-row Inv-loop μ-loop
 mul-row c = search needs
 
--- src/lib.rt:98:19
 array-copy-out-row : tie.Need-array-copy-out-row Inv-loop μ-loop
 array-copy-out-row c = search needs
 
--- src/lib.rt:99:12
 due-requires : tie.Need-due-requires Inv-loop μ-loop
 due-requires c κs = c .before .before .before .before .pre .0 .row (c .before .before .loop .i) (c .before .loop-test .taken) .period
 
--- src/lib.rt:100:13
 put-row-requires : tie.Need-put-row-requires Inv-loop μ-loop
 put-row-requires c κs =
     let d = c .before .before .before .before .before in
@@ -45,15 +36,12 @@ put-row-requires c κs =
       sent-room (a .master) (rowsOf (a .t1)) (a .count) (a .out .now) (c .before .before .before .before .before .before .before .pre .1) (d .loop .out) (d .loop .n) (d .loop .i) (d .loop .inv .0) (omega (arith, c .before .before .before .before .before .before .before .pre .0 .few, c .before .before .before .before .loop-test .taken)),
     )
 
--- src/lib.rt:102:13
 add-i : tie.Need-add-i Inv-loop μ-loop
 add-i c = search needs
 
--- src/lib.rt:97:5
 loop-less : tie.Need-loop-less Inv-loop μ-loop
 loop-less c = search needs
 
--- src/lib.rt:97:5
 loop-again : tie.Need-loop-again Inv-loop μ-loop
 loop-again c =
     let d = c .before .before .before .before in
@@ -70,11 +58,9 @@ loop-again c =
       omega (arith, c .before .before .before .loop-test .taken),
     )
 
--- src/lib.rt:91:1
 same-length : tie.Need-same-length Inv-loop μ-loop
 same-length c = c .before .loop .inv .0 .long
 
--- src/lib.rt:91:1
 returns : tie.Need-returns Inv-loop μ-loop
 returns c =
     let d = c .before in

@@ -3,34 +3,25 @@ use mathlib.Core.Path.{refl}
 use borrow.Author.Needs.{needs}
 use Rattle.compool.proofs.command.Statement.{statement}
 use Rattle.compool.proofs.command.Tie as tie
-use Rattle.compool.proofs.command.Reads as reads
-use Rattle.compool.proofs.command.Lts as lts
 
--- src/lib.rt:59:5
 mul-result : tie.Need-mul-result
 mul-result c = search needs
 
--- src/lib.rt:59:31
 mul-result-2 : tie.Need-mul-result-2
 mul-result-2 c = search needs
 
--- src/lib.rt:59:5
 add-result : tie.Need-add-result
 add-result c = search needs
 
--- src/lib.rt:59:58
 mul-result-3 : tie.Need-mul-result-3
 mul-result-3 c = search needs
 
--- src/lib.rt:59:5
 add-result-2 : tie.Need-add-result-2
 add-result-2 c = search needs
 
--- src/lib.rt:59:5
 add-result-3 : tie.Need-add-result-3
 add-result-3 c = search needs
 
--- src/lib.rt:55:1
 returns : tie.Need-returns
 unfolding commandWord
 returns c = refl

@@ -7,8 +7,6 @@ use lib.Seq.{paste, paste-zero}
 use Rattle.compool.specs.Blocks.{pasted-next, pasted-done}
 use Rattle.compool.proofs.copy_in.Statement.{statement}
 use Rattle.compool.proofs.copy_in.Tie as tie
-use Rattle.compool.proofs.copy_in.Reads as reads
-use Rattle.compool.proofs.copy_in.Lts as lts
 
 abbrev Inv-loop : tie.InvT-loop
 Inv-loop words start area₀ i₀ area i = (area ≡ paste area₀ start words i) × (length area ≡ length area₀) × (i ≤ length words)
@@ -16,41 +14,32 @@ Inv-loop words start area₀ i₀ area i = (area ≡ paste area₀ start words i
 abbrev μ-loop : tie.MeasureT-loop
 μ-loop words start area₀ i₀ area i = length words - i
 
--- src/lib.rt:31:5
 loop-holds : tie.Need-loop-holds Inv-loop μ-loop
 loop-holds c =
     let a = c .args in
     (paste-zero (a .area .now) (a .start) (a .words .now), search needs, search needs)
 
--- src/lib.rt:32:27
 mul-area : tie.Need-mul-area Inv-loop μ-loop
 mul-area c = search needs
 
--- src/lib.rt:32:27
 shared-slice-read-area : tie.Need-shared-slice-read-area Inv-loop μ-loop
 shared-slice-read-area c = search needs
 
--- src/lib.rt:32:14
 add-area : tie.Need-add-area Inv-loop μ-loop
 add-area c = search needs
 
--- src/lib.rt:32:9
 mul-area-2 : tie.Need-mul-area-2 Inv-loop μ-loop
 mul-area-2 c = search needs
 
--- src/lib.rt:32:9
 slice-write-area : tie.Need-slice-write-area Inv-loop μ-loop
 slice-write-area c = search needs
 
--- src/lib.rt:33:13
 add-i : tie.Need-add-i Inv-loop μ-loop
 add-i c = search needs
 
--- src/lib.rt:31:5
 loop-less : tie.Need-loop-less Inv-loop μ-loop
 loop-less c = search needs
 
--- src/lib.rt:31:5
 loop-again : tie.Need-loop-again Inv-loop μ-loop
 loop-again c =
     let d = c .before .before in
@@ -60,11 +49,9 @@ loop-again c =
       omega (arith, c .before .loop-test .taken),
     )
 
--- src/lib.rt:26:1
 same-length : tie.Need-same-length Inv-loop μ-loop
 same-length c = c .before .loop .inv .1
 
--- src/lib.rt:26:1
 returns : tie.Need-returns Inv-loop μ-loop
 returns c =
     let d = c .before in

@@ -6,8 +6,6 @@ use lib.ListN.{length}
 use Rattle.compool.specs.Blocks.{Copied, copied-start, copied-step, copied-done}
 use Rattle.compool.proofs.copy_out.Statement.{statement}
 use Rattle.compool.proofs.copy_out.Tie as tie
-use Rattle.compool.proofs.copy_out.Reads as reads
-use Rattle.compool.proofs.copy_out.Lts as lts
 
 abbrev Inv-loop : tie.InvT-loop
 Inv-loop area start out₀ i₀ out i = Copied area start out₀ out i × (i ≤ length out₀)
@@ -15,49 +13,38 @@ Inv-loop area start out₀ i₀ out i = Copied area start out₀ out i × (i ≤
 abbrev μ-loop : tie.MeasureT-loop
 μ-loop area start out₀ i₀ out i = length out₀ - i
 
--- src/lib.rt:19:5
 loop-holds : tie.Need-loop-holds Inv-loop μ-loop
 loop-holds c = (copied-start _ _ _, search needs)
 
--- src/lib.rt:20:23
 add-out : tie.Need-add-out Inv-loop μ-loop
 add-out c = search needs
 
--- src/lib.rt:20:18
 mul-out : tie.Need-mul-out Inv-loop μ-loop
 mul-out c = search needs
 
--- src/lib.rt:20:18
 shared-slice-read-out : tie.Need-shared-slice-read-out Inv-loop μ-loop
 shared-slice-read-out c = search needs
 
--- src/lib.rt:20:9
 mul-out-2 : tie.Need-mul-out-2 Inv-loop μ-loop
 mul-out-2 c = search needs
 
--- src/lib.rt:20:9
 slice-write-out : tie.Need-slice-write-out Inv-loop μ-loop
 slice-write-out c = search needs
 
--- src/lib.rt:21:13
 add-i : tie.Need-add-i Inv-loop μ-loop
 add-i c = search needs
 
--- src/lib.rt:19:5
 loop-less : tie.Need-loop-less Inv-loop μ-loop
 loop-less c = search needs
 
--- src/lib.rt:19:5
 loop-again : tie.Need-loop-again Inv-loop μ-loop
 loop-again c =
     let d = c .before .before in
     (copied-step _ _ _ (d .loop .out) (d .loop .i) (search needs) (d .loop .inv .0), search needs)
 
--- src/lib.rt:14:1
 same-length : tie.Need-same-length Inv-loop μ-loop
 same-length c = c .before .loop .inv .0 .long
 
--- src/lib.rt:14:1
 returns : tie.Need-returns Inv-loop μ-loop
 returns c =
     let d = c .before in

@@ -7,45 +7,33 @@ use Rattle.compool.specs.Blocks.{tagged-length}
 use borrow.Author.Needs.{needs}
 use Rattle.compool.proofs.write_block.Statement.{statement}
 use Rattle.compool.proofs.write_block.Tie as tie
-use Rattle.compool.proofs.write_block.Reads as reads
-use Rattle.compool.proofs.write_block.Lts as lts
-use Rattle.compool.proofs.copy_in.Reads as copy-in-reads
 
--- src/lib.rt:50:19
 sub-b : tie.Need-sub-b
 sub-b c = search needs
 
--- src/lib.rt:50:13
 mul-b : tie.Need-mul-b
 mul-b c = search needs
 
--- src/lib.rt:51:15
 cast-area : tie.Need-cast-area
 cast-area c = search needs
 
--- src/lib.rt:51:5
 mul-area : tie.Need-mul-area
 mul-area c = search needs
 
--- src/lib.rt:51:5
 slice-write-area : tie.Need-slice-write-area
 slice-write-area c = search needs
 
--- src/lib.rt:52:20
 add-copy-in : tie.Need-add-copy-in
 add-copy-in c = search needs
 
--- src/lib.rt:52:5
 copy-in-requires : tie.Need-copy-in-requires
 copy-in-requires c κs = search needs
 
--- src/lib.rt:46:1
 same-length : tie.Need-same-length
 same-length c =
     let a = c .before .before .before .before .before .before .args in
     ap length (c .before .before .copy-in .ensures) ∙ tagged-length (a .area .now) (blockAt (a .k)) (a .count % 65536) (a .words .now) (c .before .before .before .before .before .before .pre .2)
 
--- src/lib.rt:46:1
 returns : tie.Need-returns
 unfolding written
 returns c =

@@ -1,7 +1,7 @@
 -- `decimal::put_number` meets its contract: it calls itself on the number without its last digit, as `dec` is defined. Measure: the number. Assumes nothing.
 use mathlib.Core.Path.{_≡_, ap, _∙_}
 use mathlib.Core.List.{[], _∷_}
-use Prim.Native.Nat.{_+_, _/_, _%_, _≤_}
+use Prim.Native.Nat.{_+_, _/_, _%_}
 use native.Mathlib.Omega.{arith}
 use lib.ListN.{length, length-set, length-append}
 use Rattle.decimal.specs.Decimal.{dec}
@@ -27,7 +27,6 @@ abbrev put-number-below : ℕ → In 1 put-number-kinds.ps
 put-number-below t =
     and 1 put-number-kinds.ps (falls 1 put-number-kinds.ps _<_ μ-put-number t) put-number.Pre
 
--- src/lib.rt:61:25
 put-number-cast-buf :
     (t : ℕ) →
     put-number-lts.Need-cast-buf
@@ -36,7 +35,6 @@ put-number-cast-buf :
     put-number.Post
 put-number-cast-buf t c = omega arith
 
--- src/lib.rt:61:19
 put-number-add-buf :
     (t : ℕ) →
     put-number-lts.Need-add-buf
@@ -45,28 +43,24 @@ put-number-add-buf :
     put-number.Post
 put-number-add-buf t c = omega arith
 
--- src/lib.rt:61:9
 put-number-slice-write-buf : (t : ℕ) → put-number-lts.Need-slice-write-buf (
   put-number-below t,
   put-number.Post,
 ) (put-number-at t) put-number.Post
 put-number-slice-write-buf t c = let w = write-small (c .before .before .args .buf .now) (c .before .before .args .at) (c .before .before .args .n) (c .if1 .taken) (c .before .before .pre .1 .1) in w .0
 
--- src/lib.rt:62:16
 put-number-add-result : (t : ℕ) → put-number-lts.Need-add-result (
   put-number-below t,
   put-number.Post,
 ) (put-number-at t) put-number.Post
 put-number-add-result t c = omega arith
 
--- src/lib.rt:62:9
 put-number-same-length : (t : ℕ) → put-number-lts.Need-same-length (
   put-number-below t,
   put-number.Post,
 ) (put-number-at t) put-number.Post
 put-number-same-length t c = simp length-set
 
--- src/lib.rt:62:9
 put-number-returns :
     (t : ℕ) →
     put-number-lts.Need-returns
@@ -75,7 +69,6 @@ put-number-returns :
     put-number.Post
 put-number-returns t c = let w = write-small (c .before .before .args .buf .now) (c .before .before .args .at) (c .before .before .args .n) (c .if1 .taken) (c .before .before .pre .1 .1) in (w .1, w .2)
 
--- src/lib.rt:64:9
 put-number-put-number-requires : (t : ℕ) → put-number-lts.Need-put-number-requires (
   put-number-below t,
   put-number.Post,
@@ -86,42 +79,36 @@ put-number-put-number-requires t c κs =
     let k : length (dec (a .n)) ≡ length (dec (a .n / 10)) + 1 = ap length e ∙ length-append (dec (a .n / 10)) ((48 + a .n % 10) ∷ []) in
     (omega arith, (omega arith, omega arith))
 
--- src/lib.rt:65:20
 put-number-cast-buf-2 : (t : ℕ) → put-number-lts.Need-cast-buf-2 (
   put-number-below t,
   put-number.Post,
 ) (put-number-at t) put-number.Post
 put-number-cast-buf-2 t c = omega arith
 
--- src/lib.rt:65:14
 put-number-add-buf-2 : (t : ℕ) → put-number-lts.Need-add-buf-2 (
   put-number-below t,
   put-number.Post,
 ) (put-number-at t) put-number.Post
 put-number-add-buf-2 t c = omega arith
 
--- src/lib.rt:65:5
 put-number-slice-write-buf-2 : (t : ℕ) → put-number-lts.Need-slice-write-buf-2 (
   put-number-below t,
   put-number.Post,
 ) (put-number-at t) put-number.Post
 put-number-slice-write-buf-2 t c = let w = write-tens (c .before .before .before .before .before .before .args .buf .now) (c .before .before .before .before .before .before .args .at) (c .before .before .before .before .before .before .args .n) (c .before .before .put-number .result) (c .before .before .put-number .last .0) (c .before .before .before .before .if1 .left) (c .before .before .before .before .before .before .pre .1 .0) (c .before .before .before .before .before .before .pre .1 .1) (c .before .before .put-number .ensures .0) (c .before .before .put-number .ensures .1) in w .0
 
--- src/lib.rt:66:5
 put-number-add-result-2 : (t : ℕ) → put-number-lts.Need-add-result-2 (
   put-number-below t,
   put-number.Post,
 ) (put-number-at t) put-number.Post
 put-number-add-result-2 t c = let w = write-tens (c .before .before .before .before .before .before .args .buf .now) (c .before .before .before .before .before .before .args .at) (c .before .before .before .before .before .before .args .n) (c .before .before .put-number .result) (c .before .before .put-number .last .0) (c .before .before .before .before .if1 .left) (c .before .before .before .before .before .before .pre .1 .0) (c .before .before .before .before .before .before .pre .1 .1) (c .before .before .put-number .ensures .0) (c .before .before .put-number .ensures .1) in omega arith
 
--- src/lib.rt:56:1
 put-number-same-length-2 : (t : ℕ) → put-number-lts.Need-same-length-2 (
   put-number-below t,
   put-number.Post,
 ) (put-number-at t) put-number.Post
 put-number-same-length-2 t c = let w = write-tens (c .before .before .before .before .before .before .args .buf .now) (c .before .before .before .before .before .before .args .at) (c .before .before .before .before .before .before .args .n) (c .before .before .put-number .result) (c .before .before .put-number .last .0) (c .before .before .before .before .if1 .left) (c .before .before .before .before .before .before .pre .1 .0) (c .before .before .before .before .before .before .pre .1 .1) (c .before .before .put-number .ensures .0) (c .before .before .put-number .ensures .1) in simp length-set (w .3)
 
--- src/lib.rt:56:1
 put-number-returns-2 : (t : ℕ) → put-number-lts.Need-returns-2 (
   put-number-below t,
   put-number.Post,

@@ -8,9 +8,6 @@ use Rattle.decimal.specs.Decimal.{run, start}
 use Rattle.decimal.specs.Laws.{run-turn, run-ends}
 use Rattle.decimal.proofs.number_in.Statement.{statement}
 use Rattle.decimal.proofs.number_in.Tie as tie
-use Rattle.decimal.proofs.number_in.Reads as reads
-use Rattle.decimal.proofs.number_in.Lts as lts
-use Rattle.decimal.proofs.step_on.Reads as step-on-reads
 
 abbrev Inv-loop : tie.InvT-loop
 Inv-loop f m₀ i₀ m i = (i ≤ length f) × (run m (drop i f) ≡ run start f)
@@ -18,27 +15,21 @@ Inv-loop f m₀ i₀ m i = (i ≤ length f) × (run m (drop i f) ≡ run start f
 abbrev μ-loop : tie.MeasureT-loop
 μ-loop f m₀ i₀ m i = length f - i
 
--- src/lib.rt:48:5
 loop-holds : tie.Need-loop-holds Inv-loop μ-loop
 loop-holds c = (omega arith, refl)
 
--- src/lib.rt:49:24
 shared-slice-read-step-on : tie.Need-shared-slice-read-step-on Inv-loop μ-loop
 shared-slice-read-step-on c = search needs
 
--- src/lib.rt:49:9
 step-on-requires : tie.Need-step-on-requires Inv-loop μ-loop
 step-on-requires c κs = search needs
 
--- src/lib.rt:50:9
 add-i : tie.Need-add-i Inv-loop μ-loop
 add-i c = search needs
 
--- src/lib.rt:48:5
 loop-less : tie.Need-loop-less Inv-loop μ-loop
 loop-less c = search needs
 
--- src/lib.rt:48:5
 loop-again : tie.Need-loop-again Inv-loop μ-loop
 loop-again c =
     (omega arith, run-turn _ _ _ _ _ (c .before .before .before .loop .inv .1) (c .step-on .ensures) (c .before .before .loop-test .taken))

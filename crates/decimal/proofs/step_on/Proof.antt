@@ -1,56 +1,41 @@
 -- `decimal::step_on` meets its contract: each way out is one law of `step`. Assumes nothing.
 use borrow.Author.Needs.{needs}
 use native.Mathlib.Omega.{arith}
-use mathlib.Core.Path.{_≡_, refl, sym, _∙_}
-use borrow.Author.Tests.{lt-leb, le-leb}
-use Rattle.decimal.specs.Laws.{digit-low, digit-high, step-not, step-zero, step-over, on-start, on-zero, on-num, on-cap}
+use mathlib.Core.Path.{sym}
+use Rattle.decimal.specs.Laws.{digit-low, digit-high, step-not, step-over, on-start, on-zero, on-num, on-cap}
 use Rattle.decimal.proofs.step_on.Statement.{statement}
 use Rattle.decimal.proofs.step_on.Tie as tie
-use Rattle.decimal.proofs.step_on.Reads as reads
-use Rattle.decimal.proofs.step_on.Lts as lts
-use Rattle.decimal.proofs.wide.Reads as wide-reads
 
--- src/lib.rt:17:9
 returns : tie.Need-returns
 returns c = sym (step-not _ _ (digit-low _ (c .if1 .taken)))
 
--- src/lib.rt:20:9
 returns-2 : tie.Need-returns-2
 returns-2 c = sym (step-not _ _ (digit-high _ (c .if2 .taken)))
 
--- src/lib.rt:22:13
 wide-requires : tie.Need-wide-requires
 wide-requires c κs = search needs
 
--- src/lib.rt:22:13
 sub-d : tie.Need-sub-d
 sub-d c = search needs
 
--- src/lib.rt:24:9
 returns-3 : tie.Need-returns-3
 returns-3 c = on-start _ _ _ (omega arith) (omega arith) (c .if3 .taken) (c .before .wide .ensures)
 
--- src/lib.rt:27:9
 returns-4 : tie.Need-returns-4
 returns-4 c = on-zero _ _ (c .if4 .taken)
 
--- src/lib.rt:30:9
 returns-5 : tie.Need-returns-5
 returns-5 c = sym (step-over _ _ (c .if5 .taken) (c .before .before .if3 .left))
 
--- src/lib.rt:32:13
 mul-n : tie.Need-mul-n
 mul-n c = search needs
 
--- src/lib.rt:32:13
 add-n : tie.Need-add-n
 add-n c = search needs
 
--- src/lib.rt:13:1
 returns-6 : tie.Need-returns-6
 returns-6 c = on-num _ _ _ (omega arith) (omega arith) (omega arith) (c .before .before .before .before .wide .ensures) (c .if6 .taken)
 
--- src/lib.rt:13:1
 returns-7 : tie.Need-returns-7
 returns-7 c = on-cap _ _ _ (omega arith) (omega arith) (omega arith) (omega arith) (c .before .before .before .before .wide .ensures) (c .if6 .left)
 

@@ -6,20 +6,15 @@ use Rattle.rig.specs.Whole.{lengths-hold}
 use borrow.Author.Needs.{needs}
 use Rattle.rig.proofs.broken.Statement.{statement}
 use Rattle.rig.proofs.broken.Tie as tie
-use Rattle.rig.proofs.broken.Reads as reads
-use Rattle.rig.proofs.broken.Lts as lts
-use Rattle.rig.proofs.broken_in.Reads as broken-in-reads
 
 -- the lengths of the tables, as every rig has them
 shape-at : (c : tie.Start) → allOf (shapedTests (c .args .t1)) ≡ true
 shape-at c =
     lengths-hold (c .args .t1) (search needs) (search needs) (search needs) (search needs) (search needs) (search needs) (search needs) (search needs) (search needs) (search needs)
 
--- src/lib.rt:576:5
 broken-in-requires : tie.Need-broken-in-requires
 broken-in-requires c κs = shape-at (c .before .before .before .before .before .before .before .before .before .before .before .before)
 
--- src/lib.rt:572:1
 returns : tie.Need-returns
 returns c = search needs
 

@@ -10,16 +10,6 @@ use Rattle.rig.specs.Whole.{Counted, counted, risen, Numbered, numbered,
 use borrow.Author.Needs.{needs}
 use Rattle.rig.proofs.broken_in.Statement.{statement}
 use Rattle.rig.proofs.broken_in.Tie as tie
-use Rattle.rig.proofs.broken_in.Reads as reads
-use Rattle.rig.proofs.broken_in.Lts as lts
-use Rattle.rig.proofs.counts.Reads as counts-reads
-use Rattle.rig.proofs.line_rules.Reads as line-rules-reads
-use Rattle.rig.proofs.minor_marks.Reads as minor-marks-reads
-use Rattle.rig.proofs.numbers.Reads as numbers-reads
-use Rattle.rig.proofs.orders.Reads as orders-reads
-use Rattle.rig.proofs.rest_rules.Reads as rest-rules-reads
-use Rattle.rig.proofs.sizes.Reads as sizes-reads
-use Rattle.rig.proofs.task_rules.Reads as task-rules-reads
 
 -- the rig of the lent tables
 abbrev rig-at : tie.Start → Rig
@@ -86,78 +76,63 @@ past6 c =
     let s = c .before .before .before .before .before .before .before .before .before .before .before .before .before .before .before in
     past5 (c .before .before .before) ∙ first-passed 19 (lineGroup (rig-at s) (s .args .cycles)) (fromRest (rig-at s)) (c .before .line-rules .result) (line-at (c .before)) (c .if6 .left) (omega arith)
 
--- src/lib.rt:508:9
 counts-requires : tie.Need-counts-requires
 counts-requires c κs = search needs
 
--- src/lib.rt:510:9
 returns : tie.Need-returns
 unfolding firstBroken tests
 returns c =
     let s = c .before .before in
     first-found 1 (countGroup (rig-at s)) (fromSizes (rig-at s) (s .args .cycles)) (c .before .counts .result) (c .before .counts .ensures) (c .if1 .taken)
 
--- src/lib.rt:515:9
 sizes-requires : tie.Need-sizes-requires
 sizes-requires c κs = counted-at c .rows-le
 
--- src/lib.rt:517:9
 returns-2 : tie.Need-returns-2
 returns-2 c =
     let s = c .before .before .before .before in
     first-found 6 (sizeGroup (rig-at s)) (fromOrders (rig-at s) (s .args .cycles)) (c .before .sizes .result) (c .before .sizes .ensures) (c .if2 .taken) ∙ sym (past1 (c .before .before))
 
--- src/lib.rt:519:9
 orders-requires : tie.Need-orders-requires
 orders-requires c κs = counted-at (c .before .before) .lines-le
 
--- src/lib.rt:521:9
 returns-3 : tie.Need-returns-3
 returns-3 c =
     let s = c .before .before .before .before .before .before in
     first-found 10 (orderGroup (rig-at s) (s .args .cycles)) (fromNumbers (rig-at s) (s .args .cycles)) (c .before .orders .result) (c .before .orders .ensures) (c .if3 .taken) ∙ sym (past2 (c .before .before))
 
--- src/lib.rt:523:9
 numbers-requires : tie.Need-numbers-requires
 numbers-requires c κs = (counted-at (c .before .before .before .before) .lines-le, risen-at c)
 
--- src/lib.rt:535:9
 returns-4 : tie.Need-returns-4
 returns-4 c =
     let s = c .before .before .before .before .before .before .before .before in
     first-found 12 (numberGroup (rig-at s) (s .args .cycles)) (fromTasks (rig-at s) (s .args .cycles)) (c .before .numbers .result) (c .before .numbers .ensures) (c .if4 .taken) ∙ sym (past3 (c .before .before))
 
--- src/lib.rt:537:17
 minor-marks-requires : tie.Need-minor-marks-requires
 minor-marks-requires c κs = (risen-at (c .before .before), numbered-at c .minor)
 
--- src/lib.rt:538:9
 task-rules-requires : tie.Need-task-rules-requires
 task-rules-requires c κs = (counted-at (c .before .before .before .before .before .before .before .before) .some, (counted-at (c .before .before .before .before .before .before .before .before) .tasks-le, numbered-at (c .before .before) .activation))
 
--- src/lib.rt:540:9
 returns-5 : tie.Need-returns-5
 returns-5 c =
     let s = c .before .before .before .before .before .before .before .before .before .before .before .before in
     first-found 16 (taskGroup (rig-at s) (s .args .cycles)) (fromLines (rig-at s) (s .args .cycles)) (c .before .task-rules .result) (task-at (c .before)) (c .if5 .taken) ∙ sym (past4 (c .before .before .before .before))
 
--- src/lib.rt:542:9
 line-rules-requires : tie.Need-line-rules-requires
 line-rules-requires c κs =
     let n = numbered-at (c .before .before .before .before .before) in
     (n .fit, n .ends)
 
--- src/lib.rt:554:9
 returns-6 : tie.Need-returns-6
 returns-6 c =
     let s = c .before .before .before .before .before .before .before .before .before .before .before .before .before .before .before in
     first-found 19 (lineGroup (rig-at s) (s .args .cycles)) (fromRest (rig-at s)) (c .before .line-rules .result) (line-at (c .before)) (c .if6 .taken) ∙ sym (past5 (c .before .before .before))
 
--- src/lib.rt:556:5
 rest-rules-requires : tie.Need-rest-rules-requires
 rest-rules-requires c κs = (counted-at (c .before .before .before .before .before .before .before .before .before .before .before .before .before) .lines-le, counted-at (c .before .before .before .before .before .before .before .before .before .before .before .before .before) .rows-le)
 
--- src/lib.rt:482:1
 returns-7 : tie.Need-returns-7
 returns-7 c =
     let s = c .before .before .before .before .before .before .before .before .before .before .before .before .before .before .before .before in

@@ -4,39 +4,28 @@ use Rattle.laws.specs.First.{first-none, first-skip, first-here}
 use borrow.Author.Needs.{needs}
 use Rattle.rig.proofs.counts.Statement.{statement}
 use Rattle.rig.proofs.counts.Tie as tie
-use Rattle.rig.proofs.counts.Reads as reads
-use Rattle.rig.proofs.counts.Lts as lts
-use Rattle.rigtests.proofs.in_range.Reads as in-range-reads
 
--- src/lib.rt:283:9
 in-range-requires : tie.Need-in-range-requires
 in-range-requires c κs = search needs
 
--- src/lib.rt:284:9
 returns : tie.Need-returns
 returns c = sym (first-here 1 _ _ (sym (c .before .in-range .ensures) ∙ not-true _ (c .if1 .taken)))
 
--- src/lib.rt:286:9
 in-range-requires-2 : tie.Need-in-range-requires-2
 in-range-requires-2 c κs = search needs
 
--- src/lib.rt:287:9
 returns-2 : tie.Need-returns-2
 returns-2 c = sym (first-skip 1 _ _ (sym (c .before .before .before .in-range .ensures) ∙ not-false _ (c .before .before .if1 .left)) ∙ first-here 2 _ _ (sym (c .before .in-range2 .ensures) ∙ not-true _ (c .if2 .taken)))
 
--- src/lib.rt:290:9
 returns-3 : tie.Need-returns-3
 returns-3 c = sym (first-skip 1 _ _ (sym (c .before .before .before .before .in-range .ensures) ∙ not-false _ (c .before .before .before .if1 .left)) ∙ first-skip 2 _ _ (sym (c .before .before .in-range2 .ensures) ∙ not-false _ (c .before .if2 .left)) ∙ first-here 3 _ _ (lt-leb _ _ (c .if3 .taken)))
 
--- src/lib.rt:293:9
 returns-4 : tie.Need-returns-4
 returns-4 c = sym (first-skip 1 _ _ (sym (c .before .before .before .before .before .in-range .ensures) ∙ not-false _ (c .before .before .before .before .if1 .left)) ∙ first-skip 2 _ _ (sym (c .before .before .before .in-range2 .ensures) ∙ not-false _ (c .before .before .if2 .left)) ∙ first-skip 3 _ _ (le-leb _ _ (c .before .if3 .left)) ∙ first-here 4 _ _ (lt-leb _ _ (c .if4 .taken)))
 
--- src/lib.rt:296:9
 returns-5 : tie.Need-returns-5
 returns-5 c = sym (first-skip 1 _ _ (sym (c .before .before .before .before .before .before .in-range .ensures) ∙ not-false _ (c .before .before .before .before .before .if1 .left)) ∙ first-skip 2 _ _ (sym (c .before .before .before .before .in-range2 .ensures) ∙ not-false _ (c .before .before .before .if2 .left)) ∙ first-skip 3 _ _ (le-leb _ _ (c .before .before .if3 .left)) ∙ first-skip 4 _ _ (le-leb _ _ (c .before .if4 .left)) ∙ first-here 5 _ _ (lt-leb _ _ (c .if5 .taken)))
 
--- src/lib.rt:280:1
 returns-6 : tie.Need-returns-6
 returns-6 c = sym (first-skip 1 _ _ (sym (c .before .before .before .before .before .before .in-range .ensures) ∙ not-false _ (c .before .before .before .before .before .if1 .left)) ∙ first-skip 2 _ _ (sym (c .before .before .before .before .in-range2 .ensures) ∙ not-false _ (c .before .before .before .if2 .left)) ∙ first-skip 3 _ _ (le-leb _ _ (c .before .before .if3 .left)) ∙ first-skip 4 _ _ (le-leb _ _ (c .before .if4 .left)) ∙ first-skip 5 _ _ (le-leb _ _ (c .if5 .left)) ∙ first-none 6)
 

@@ -8,9 +8,6 @@ use Rattle.laws.specs.Mapped.{Mapped, mapped-none, mapped-turn, mapped-all}
 use Rattle.rig.specs.Forms.{cycleOf, cyclesOf}
 use Rattle.rig.proofs.cycles_of.Statement.{statement}
 use Rattle.rig.proofs.cycles_of.Tie as tie
-use Rattle.rig.proofs.cycles_of.Reads as reads
-use Rattle.rig.proofs.cycles_of.Lts as lts
-use Rattle.rig.proofs.no_cycles.Reads as no-cycles-reads
 
 abbrev Inv-loop : tie.InvT-loop
 Inv-loop table cycles₀ c₀ cycles c = Mapped cycleOf [] table c cycles × ((length table ≡ 64) × (c ≤ 64))
@@ -18,45 +15,35 @@ Inv-loop table cycles₀ c₀ cycles c = Mapped cycleOf [] table c cycles × ((l
 abbrev μ-loop : tie.MeasureT-loop
 μ-loop table cycles₀ c₀ cycles c = 64 - c
 
--- src/lib.rt:98:22
 no-cycles-requires : tie.Need-no-cycles-requires Inv-loop μ-loop
 no-cycles-requires c κs = search needs
 
--- src/lib.rt:100:5
 loop-holds : tie.Need-loop-holds Inv-loop μ-loop
 loop-holds c =
     let z : length (c .before .args .t1) ≡ 64 = search needs in
     (mapped-none cycleOf [] (c .before .args .t1) (c .no-cycles .result) (ap length (c .no-cycles .ensures) ∙ sym z), (z, search needs))
 
--- src/lib.rt:101:21
 mul-flags : tie.Need-mul-flags Inv-loop μ-loop
 mul-flags c = search needs
 
--- src/lib.rt:101:21
 array-copy-out-flags : tie.Need-array-copy-out-flags Inv-loop μ-loop
 array-copy-out-flags c = search needs
 
--- src/lib.rt:102:9
 mul-cycles : tie.Need-mul-cycles Inv-loop μ-loop
 mul-cycles c = search needs
 
--- src/lib.rt:102:9
 array-set-from-cycles : tie.Need-array-set-from-cycles Inv-loop μ-loop
 array-set-from-cycles c = search needs
 
--- src/lib.rt:103:13
 add-c : tie.Need-add-c Inv-loop μ-loop
 add-c c = search needs
 
--- src/lib.rt:100:5
 loop-less : tie.Need-loop-less Inv-loop μ-loop
 loop-less c = search needs
 
--- src/lib.rt:100:5
 loop-again : tie.Need-loop-again Inv-loop μ-loop
 loop-again c = (mapped-turn cycleOf [] (c .before .before .before .before .args .t1) (c .before .before .loop .c) (c .before .before .loop .cycles) (omega arith) (c .before .before .loop .inv .0), search needs)
 
--- src/lib.rt:95:1
 returns : tie.Need-returns Inv-loop μ-loop
 unfolding cyclesOf
 returns c = mapped-all cycleOf [] (c .before .before .before .args .t1) (c .before .loop .c) (c .before .loop .cycles) (omega arith) (c .before .loop .inv .0)

@@ -19,9 +19,6 @@ use Rattle.laws.specs.All.{all, all-zero, all-next, all-not}
 use Rattle.rig.specs.Tests.{cycleRisesOne, cyclesRiseB}
 use Rattle.rig.proofs.cycles_rise.Statement.{statement}
 use Rattle.rig.proofs.cycles_rise.Tie as tie
-use Rattle.rig.proofs.cycles_rise.Reads as reads
-use Rattle.rig.proofs.cycles_rise.Lts as lts
-use Rattle.rigtests.proofs.cycle_rises.Reads as cycle-rises-reads
 
 -- each cycle of an array of cycles has fifteen places
 flags-long : (cycles : List Cycle) (us : List Val) (c : ℕ) → c < length cycles
@@ -37,45 +34,36 @@ Inv-loop cycles c₀ c = (all c (cycleRisesOne cycles) ≡ true) × ((length cyc
 abbrev μ-loop : tie.MeasureT-loop
 μ-loop cycles c₀ c = 64 - c
 
--- src/lib.rt:183:5
 loop-holds : tie.Need-loop-holds Inv-loop μ-loop
 loop-holds c = (all-zero _, search needs)
 
--- src/lib.rt:184:21
 mul-cycle : tie.Need-mul-cycle Inv-loop μ-loop
 mul-cycle c = search needs
 
--- src/lib.rt:184:21
 array-copy-out-cycle : tie.Need-array-copy-out-cycle Inv-loop μ-loop
 array-copy-out-cycle c = search needs
 
--- src/lib.rt:185:13
 cycle-rises-requires : tie.Need-cycle-rises-requires Inv-loop μ-loop
 cycle-rises-requires c κs =
     let s = c .before .before .before .before .before in
     let k = c .before .before .before .before .loop in
     flags-long (s .args .t1) (s .good .0 .0) (k .c) (omega (arith, k .inv .1 .0, c .before .before .before .loop-test .taken)) (s .good .0 .1 .1)
 
--- src/lib.rt:186:13
 returns : tie.Need-returns Inv-loop μ-loop
 unfolding cyclesRiseB
 returns c =
     let k = c .before .before .before .before .before .before .loop in
     sym (and-go (eq-eqb _ _ (k .inv .1 .0)) (all-not 64 (cycleRisesOne (c .before .before .before .before .before .before .before .args .t1)) (k .c) (c .before .before .before .before .before .loop-test .taken) (sym (c .before .cycle-rises .ensures) ∙ not-true _ (c .if1 .taken))))
 
--- src/lib.rt:188:13
 add-c : tie.Need-add-c Inv-loop μ-loop
 add-c c = search needs
 
--- src/lib.rt:183:5
 loop-less : tie.Need-loop-less Inv-loop μ-loop
 loop-less c = search needs
 
--- src/lib.rt:183:5
 loop-again : tie.Need-loop-again Inv-loop μ-loop
 loop-again c = (all-next _ _ (c .before .before .before .before .before .before .loop .inv .0) (sym (c .before .cycle-rises .ensures) ∙ not-false _ (c .if1 .left)), search needs)
 
--- src/lib.rt:179:1
 returns-2 : tie.Need-returns-2 Inv-loop μ-loop
 unfolding cyclesRiseB
 returns-2 c =

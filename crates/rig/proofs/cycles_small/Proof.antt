@@ -9,9 +9,6 @@ use Rattle.rig.specs.Tests.{cycleSmallOne, cyclesSmallB}
 use Rattle.rig.specs.Marks.{cycles-rise-at}
 use Rattle.rig.proofs.cycles_small.Statement.{statement}
 use Rattle.rig.proofs.cycles_small.Tie as tie
-use Rattle.rig.proofs.cycles_small.Reads as reads
-use Rattle.rig.proofs.cycles_small.Lts as lts
-use Rattle.rigtests.proofs.cycle_small.Reads as cycle-small-reads
 
 abbrev Inv-loop : tie.InvT-loop
 Inv-loop top cycles c₀ c = (all c (cycleSmallOne top cycles) ≡ true) × (c ≤ 64)
@@ -19,40 +16,31 @@ Inv-loop top cycles c₀ c = (all c (cycleSmallOne top cycles) ≡ true) × (c �
 abbrev μ-loop : tie.MeasureT-loop
 μ-loop top cycles c₀ c = 64 - c
 
--- src/lib.rt:199:5
 loop-holds : tie.Need-loop-holds Inv-loop μ-loop
 loop-holds c = (all-zero _, search needs)
 
--- src/lib.rt:200:21
 mul-cycle : tie.Need-mul-cycle Inv-loop μ-loop
 mul-cycle c = search needs
 
--- src/lib.rt:200:21
 array-copy-out-cycle : tie.Need-array-copy-out-cycle Inv-loop μ-loop
 array-copy-out-cycle c = search needs
 
--- src/lib.rt:201:13
 cycle-small-requires : tie.Need-cycle-small-requires Inv-loop μ-loop
 cycle-small-requires c κs = cycles-rise-at (c .before .before .before .before .before .args .t2) (c .before .before .before .before .before .pre) (c .before .before .before .before .loop .c) (c .before .before .before .loop-test .taken)
 
--- src/lib.rt:202:13
 returns : tie.Need-returns Inv-loop μ-loop
 unfolding cyclesSmallB
 returns c = sym (all-not _ _ (c .before .before .before .before .before .before .loop .c) (c .before .before .before .before .before .loop-test .taken) (sym (c .before .cycle-small .ensures) ∙ not-true _ (c .if1 .taken)))
 
--- src/lib.rt:204:13
 add-c : tie.Need-add-c Inv-loop μ-loop
 add-c c = search needs
 
--- src/lib.rt:199:5
 loop-less : tie.Need-loop-less Inv-loop μ-loop
 loop-less c = search needs
 
--- src/lib.rt:199:5
 loop-again : tie.Need-loop-again Inv-loop μ-loop
 loop-again c = (all-next _ _ (c .before .before .before .before .before .before .loop .inv .0) (sym (c .before .cycle-small .ensures) ∙ not-false _ (c .if1 .left)), search needs)
 
--- src/lib.rt:194:1
 returns-2 : tie.Need-returns-2 Inv-loop μ-loop
 unfolding cyclesSmallB
 returns-2 c =

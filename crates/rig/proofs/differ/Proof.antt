@@ -8,8 +8,6 @@ use Rattle.laws.specs.All.{all, all-zero, all-next, all-not}
 use Rattle.rig.specs.Tests.{differOne, differB}
 use Rattle.rig.proofs.differ.Statement.{statement}
 use Rattle.rig.proofs.differ.Tie as tie
-use Rattle.rig.proofs.differ.Reads as reads
-use Rattle.rig.proofs.differ.Lts as lts
 
 abbrev Inv-loop : tie.InvT-loop
 Inv-loop n row k₀ k = (all k (differOne row) ≡ true) × (k ≤ n)
@@ -17,36 +15,28 @@ Inv-loop n row k₀ k = (all k (differOne row) ≡ true) × (k ≤ n)
 abbrev μ-loop : tie.MeasureT-loop
 μ-loop n row k₀ k = n - k
 
--- src/lib.rt:230:5
 loop-holds : tie.Need-loop-holds Inv-loop μ-loop
 loop-holds c = (all-zero _, search needs)
 
--- src/lib.rt:231:17
 mul-b : tie.Need-mul-b Inv-loop μ-loop
 mul-b c = search needs
 
--- src/lib.rt:231:17
 array-copy-out-b : tie.Need-array-copy-out-b Inv-loop μ-loop
 array-copy-out-b c = search needs
 
--- src/lib.rt:233:13
 returns : tie.Need-returns Inv-loop μ-loop
 unfolding differB
 returns c = sym (all-not _ _ (c .before .before .before .before .loop .k) (c .before .before .before .loop-test .taken) (ap not (eq-eqb _ _ (c .if1 .taken))))
 
--- src/lib.rt:235:13
 add-k : tie.Need-add-k Inv-loop μ-loop
 add-k c = search needs
 
--- src/lib.rt:230:5
 loop-less : tie.Need-loop-less Inv-loop μ-loop
 loop-less c = search needs
 
--- src/lib.rt:230:5
 loop-again : tie.Need-loop-again Inv-loop μ-loop
 loop-again c = (all-next _ _ (c .before .before .before .before .loop .inv .0) (ap not (ne-eqb _ _ (c .if1 .left))), search needs)
 
--- src/lib.rt:225:1
 returns-2 : tie.Need-returns-2 Inv-loop μ-loop
 unfolding differB
 returns-2 c =

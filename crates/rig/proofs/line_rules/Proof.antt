@@ -12,12 +12,6 @@ use Rattle.rigtests.specs.Laws.{named-law, matched-law, minor-law, lasts-owned,
 use borrow.Author.Needs.{needs}
 use Rattle.rig.proofs.line_rules.Statement.{statement}
 use Rattle.rig.proofs.line_rules.Tie as tie
-use Rattle.rig.proofs.line_rules.Reads as reads
-use Rattle.rig.proofs.line_rules.Lts as lts
-use Rattle.rigtests.proofs.matched.Reads as matched-reads
-use Rattle.rigtests.proofs.minor_conditions.Reads as minor-conditions-reads
-use Rattle.rigtests.proofs.names_present.Reads as names-present-reads
-use Rattle.rigtests.proofs.place_owners.Reads as place-owners-reads
 
 -- what each test by the table says of the lines
 named-at : (c : tie.After-names-present) → namedB (c .before .before .before .before .before .before .args .alines) (c .before .before .before .before .before .before .args .present .now) (c .before .before .before .before .before .before .args .atask .now) (c .before .before .before .before .before .before .args .apos .now) ≡ c .names-present .result
@@ -49,19 +43,15 @@ minor-at c =
     ∙ ap (minorOwnerB (s .args .alines) (s .args .latched .now) (s .args .desired .now) (s .args .atask .now) (s .args .apos .now) (s .args .aflag .now) (s .args .flags .now)) (sym (c .before .before .before .before .before .place-owners .ensures))
     ∙ sym (c .minor-conditions .ensures)
 
--- src/lib.rt:430:17
 place-owners-requires : tie.Need-place-owners-requires
 place-owners-requires c κs = c .pre .0 .placed
 
--- src/lib.rt:432:33
 add-matched : tie.Need-add-matched
 add-matched c = search needs
 
--- src/lib.rt:432:27
 mul-matched : tie.Need-mul-matched
 mul-matched c = search needs
 
--- src/lib.rt:432:9
 matched-requires : tie.Need-matched-requires
 matched-requires c κs =
     let s = c .before .before in (
@@ -73,15 +63,12 @@ matched-requires c κs =
       ),
     )
 
--- src/lib.rt:433:13
 names-present-requires : tie.Need-names-present-requires
 names-present-requires c κs = search needs
 
--- src/lib.rt:434:13
 returns : tie.Need-returns
 returns c = sym (first-here 19 _ _ (named-at (c .before) ∙ not-true _ (c .if2 .taken)))
 
--- src/lib.rt:436:9
 returns-2 : tie.Need-returns-2
 returns-2 c =
     let s = c .before .before .before .before .before .before .before in
@@ -90,20 +77,17 @@ returns-2 c =
     (first-skip 19 _ _ a
     ∙ first-here 20 _ _ (second (namedB (s .args .alines) (s .args .present .now) (s .args .atask .now) (s .args .apos .now)) (usedB (s .args .alines) (s .args .present .now) (s .args .atask .now) (s .args .apos .now)) a (both-at (c .before .before .before .before) ∙ not-true _ (c .before .before .before .if1 .taken))))
 
--- src/lib.rt:438:9
 minor-conditions-requires : tie.Need-minor-conditions-requires
 minor-conditions-requires c κs =
     let s = c .before .before .before .before .before in
     subst (λ (l : List ℕ). Owned (s .args .alines) (s .args .atask .now) (s .args .apos .now) (s .args .aflag .now) l) (sym (c .before .before .before .before .place-owners .ensures))
     (lasts-owned (s .args .alines) (s .args .atask .now) (s .args .apos .now) (s .pre .0 .placed) (s .args .aflag .now) (s .pre .0 .flags))
 
--- src/lib.rt:439:9
 returns-3 : tie.Need-returns-3
 returns-3 c =
     let b = both-hold (c .before .before .before) in
     sym (first-skip 19 _ _ (b .0) ∙ first-skip 20 _ _ (b .1) ∙ first-here 21 _ _ (minor-at (c .before) ∙ not-true _ (c .if3 .taken)))
 
--- src/lib.rt:412:1
 returns-4 : tie.Need-returns-4
 returns-4 c =
     let b = both-hold (c .before .before .before) in

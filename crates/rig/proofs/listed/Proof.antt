@@ -8,8 +8,6 @@ use Rattle.laws.specs.Any.{any, any-zero, any-next, any-at}
 use Rattle.rig.specs.Tests.{isPeriod, listedB}
 use Rattle.rig.proofs.listed.Statement.{statement}
 use Rattle.rig.proofs.listed.Tie as tie
-use Rattle.rig.proofs.listed.Reads as reads
-use Rattle.rig.proofs.listed.Lts as lts
 
 abbrev Inv-loop : tie.InvT-loop
 Inv-loop p i₀ i = (any i (isPeriod p) ≡ false) × (i ≤ 7)
@@ -17,32 +15,25 @@ Inv-loop p i₀ i = (any i (isPeriod p) ≡ false) × (i ≤ 7)
 abbrev μ-loop : tie.MeasureT-loop
 μ-loop p i₀ i = 7 - i
 
--- src/lib.rt:129:5
 loop-holds : tie.Need-loop-holds Inv-loop μ-loop
 loop-holds c = (any-zero _, search needs)
 
--- src/lib.rt:130:12
 array-read-if1 : tie.Need-array-read-if1 Inv-loop μ-loop
 array-read-if1 c = search needs
 
--- src/lib.rt:131:13
 returns : tie.Need-returns Inv-loop μ-loop
 unfolding listedB
 returns c = sym (any-at 7 (isPeriod (c .before .before .before .args .p)) (c .before .before .loop .i) (c .before .loop-test .taken) (eq-eqb _ _ (c .if1 .taken)))
 
--- src/lib.rt:133:13
 add-i : tie.Need-add-i Inv-loop μ-loop
 add-i c = search needs
 
--- src/lib.rt:129:5
 loop-less : tie.Need-loop-less Inv-loop μ-loop
 loop-less c = search needs
 
--- src/lib.rt:129:5
 loop-again : tie.Need-loop-again Inv-loop μ-loop
 loop-again c = (any-next _ _ (c .before .before .loop .inv .0) (ne-eqb _ _ (c .if1 .left)), search needs)
 
--- src/lib.rt:125:1
 returns-2 : tie.Need-returns-2 Inv-loop μ-loop
 unfolding listedB
 returns-2 c =

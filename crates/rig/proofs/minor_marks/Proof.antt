@@ -10,9 +10,6 @@ use Rattle.rig.specs.Tests.{markCycle, minorMarks}
 use Rattle.rig.specs.Marks.{cycles-rise-at}
 use Rattle.rig.proofs.minor_marks.Statement.{statement}
 use Rattle.rig.proofs.minor_marks.Tie as tie
-use Rattle.rig.proofs.minor_marks.Reads as reads
-use Rattle.rig.proofs.minor_marks.Lts as lts
-use Rattle.rigtests.proofs.mark_cycle.Reads as mark-cycle-reads
 
 abbrev Inv-loop : tie.InvT-loop
 Inv-loop cycles table₀ c₀ table c = (flagsOnly table ≡ flagsOnly (iter c (markCycle cycles) (replicate 129 0))) × (c ≤ 64)
@@ -20,19 +17,15 @@ Inv-loop cycles table₀ c₀ table c = (flagsOnly table ≡ flagsOnly (iter c (
 abbrev μ-loop : tie.MeasureT-loop
 μ-loop cycles table₀ c₀ table c = 64 - c
 
--- src/lib.rt:216:5
 loop-holds : tie.Need-loop-holds Inv-loop μ-loop
 loop-holds c = (ap flagsOnly (sym (iter-zero _ _)), search needs)
 
--- src/lib.rt:217:21
 mul-cycle : tie.Need-mul-cycle Inv-loop μ-loop
 mul-cycle c = search needs
 
--- src/lib.rt:217:21
 array-copy-out-cycle : tie.Need-array-copy-out-cycle Inv-loop μ-loop
 array-copy-out-cycle c = search needs
 
--- src/lib.rt:218:9
 mark-cycle-requires : tie.Need-mark-cycle-requires Inv-loop μ-loop
 mark-cycle-requires c κs =
     let s = c .before .before .before .before .before .before in
@@ -40,26 +33,21 @@ mark-cycle-requires c κs =
     let h = c .before .before .before .before .loop-test .taken in
     (cycles-rise-at (s .args .t1) (s .pre .0) k h, s .pre .1 k h)
 
--- src/lib.rt:219:13
 add-c : tie.Need-add-c Inv-loop μ-loop
 add-c c = search needs
 
--- src/lib.rt:216:5
 loop-less : tie.Need-loop-less Inv-loop μ-loop
 loop-less c = search needs
 
--- src/lib.rt:216:5
 loop-again : tie.Need-loop-again Inv-loop μ-loop
 loop-again c =
     let k = c .before .before .before .before .before .before .loop in
     let l = c .before .before .before .before .before .before .before .args .t1 in
     (c .mark-cycle .ensures ∙ marks-flags 15 (at (getD l (k .c) noCycle .flags)) (k .table) (iter (k .c) (markCycle l) (replicate 129 0)) (k .inv .0) ∙ ap flagsOnly (sym (iter-next (k .c) (markCycle l) (replicate 129 0))), search needs)
 
--- src/lib.rt:221:5
 array-write-table : tie.Need-array-write-table Inv-loop μ-loop
 array-write-table c = search needs
 
--- src/lib.rt:210:1
 returns : tie.Need-returns Inv-loop μ-loop
 unfolding minorMarks
 returns c =

@@ -4,46 +4,31 @@ use Rattle.laws.specs.First.{first-none, first-skip, first-here}
 use borrow.Author.Needs.{needs}
 use Rattle.rig.proofs.numbers.Statement.{statement}
 use Rattle.rig.proofs.numbers.Tie as tie
-use Rattle.rig.proofs.numbers.Reads as reads
-use Rattle.rig.proofs.numbers.Lts as lts
-use Rattle.rig.proofs.cycles_small.Reads as cycles-small-reads
-use Rattle.rigtests.proofs.condition_tasks.Reads as condition-tasks-reads
-use Rattle.rigtests.proofs.lines.Reads as lines-reads
-use Rattle.rigtests.proofs.small.Reads as small-reads
 
--- src/lib.rt:372:9
 small-requires : tie.Need-small-requires
 small-requires c κs = search needs
 
--- src/lib.rt:373:9
 returns : tie.Need-returns
 returns c = sym (first-here 12 _ _ (sym (c .before .small .ensures) ∙ not-true _ (c .if1 .taken)))
 
--- src/lib.rt:375:9
 condition-tasks-requires : tie.Need-condition-tasks-requires
 condition-tasks-requires c κs = search needs
 
--- src/lib.rt:376:9
 returns-2 : tie.Need-returns-2
 returns-2 c = sym (first-skip 12 _ _ (sym (c .before .before .before .small .ensures) ∙ not-false _ (c .before .before .if1 .left)) ∙ first-here 13 _ _ (sym (c .before .condition-tasks .ensures) ∙ not-true _ (c .if2 .taken)))
 
--- src/lib.rt:378:9
 lines-requires : tie.Need-lines-requires
 lines-requires c κs = search needs
 
--- src/lib.rt:379:9
 returns-3 : tie.Need-returns-3
 returns-3 c = sym (first-skip 12 _ _ (sym (c .before .before .before .before .before .small .ensures) ∙ not-false _ (c .before .before .before .before .if1 .left)) ∙ first-skip 13 _ _ (sym (c .before .before .before .condition-tasks .ensures) ∙ not-false _ (c .before .before .if2 .left)) ∙ first-here 14 _ _ (sym (c .before .lines .ensures) ∙ not-true _ (c .if3 .taken)))
 
--- src/lib.rt:381:9
 cycles-small-requires : tie.Need-cycles-small-requires
 cycles-small-requires c κs = search needs
 
--- src/lib.rt:382:9
 returns-4 : tie.Need-returns-4
 returns-4 c = sym (first-skip 12 _ _ (sym (c .before .before .before .before .before .before .before .small .ensures) ∙ not-false _ (c .before .before .before .before .before .before .if1 .left)) ∙ first-skip 13 _ _ (sym (c .before .before .before .before .before .condition-tasks .ensures) ∙ not-false _ (c .before .before .before .before .if2 .left)) ∙ first-skip 14 _ _ (sym (c .before .before .before .lines .ensures) ∙ not-false _ (c .before .before .if3 .left)) ∙ first-here 15 _ _ (sym (c .before .cycles-small .ensures) ∙ not-true _ (c .if4 .taken)))
 
--- src/lib.rt:354:1
 returns-5 : tie.Need-returns-5
 returns-5 c = sym (first-skip 12 _ _ (sym (c .before .before .before .before .before .before .before .small .ensures) ∙ not-false _ (c .before .before .before .before .before .before .if1 .left)) ∙ first-skip 13 _ _ (sym (c .before .before .before .before .before .condition-tasks .ensures) ∙ not-false _ (c .before .before .before .before .if2 .left)) ∙ first-skip 14 _ _ (sym (c .before .before .before .lines .ensures) ∙ not-false _ (c .before .before .if3 .left)) ∙ first-skip 15 _ _ (sym (c .before .cycles-small .ensures) ∙ not-false _ (c .if4 .left)) ∙ first-none 16)
 

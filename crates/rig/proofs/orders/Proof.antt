@@ -4,28 +4,19 @@ use Rattle.laws.specs.First.{first-none, first-skip, first-here}
 use borrow.Author.Needs.{needs}
 use Rattle.rig.proofs.orders.Statement.{statement}
 use Rattle.rig.proofs.orders.Tie as tie
-use Rattle.rig.proofs.orders.Reads as reads
-use Rattle.rig.proofs.orders.Lts as lts
-use Rattle.rig.proofs.cycles_rise.Reads as cycles-rise-reads
-use Rattle.rigtests.proofs.lines_rise.Reads as lines-rise-reads
 
--- src/lib.rt:344:9
 lines-rise-requires : tie.Need-lines-rise-requires
 lines-rise-requires c κs = search needs
 
--- src/lib.rt:345:9
 returns : tie.Need-returns
 returns c = sym (first-here 10 _ _ (sym (c .before .lines-rise .ensures) ∙ not-true _ (c .if1 .taken)))
 
--- src/lib.rt:347:9
 cycles-rise-requires : tie.Need-cycles-rise-requires
 cycles-rise-requires c κs = search needs
 
--- src/lib.rt:348:9
 returns-2 : tie.Need-returns-2
 returns-2 c = sym (first-skip 10 _ _ (sym (c .before .before .before .lines-rise .ensures) ∙ not-false _ (c .before .before .if1 .left)) ∙ first-here 11 _ _ (sym (c .before .cycles-rise .ensures) ∙ not-true _ (c .if2 .taken)))
 
--- src/lib.rt:334:1
 returns-3 : tie.Need-returns-3
 returns-3 c = sym (first-skip 10 _ _ (sym (c .before .before .before .lines-rise .ensures) ∙ not-false _ (c .before .before .if1 .left)) ∙ first-skip 11 _ _ (sym (c .before .cycles-rise .ensures) ∙ not-false _ (c .if2 .left)) ∙ first-none 12)
 

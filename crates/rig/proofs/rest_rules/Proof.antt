@@ -4,46 +4,31 @@ use Rattle.laws.specs.First.{first-none, first-skip, first-here}
 use borrow.Author.Needs.{needs}
 use Rattle.rig.proofs.rest_rules.Statement.{statement}
 use Rattle.rig.proofs.rest_rules.Tie as tie
-use Rattle.rig.proofs.rest_rules.Reads as reads
-use Rattle.rig.proofs.rest_rules.Lts as lts
-use Rattle.rig.proofs.differ.Reads as differ-reads
-use Rattle.rig.proofs.row_zeros.Reads as row-zeros-reads
-use Rattle.rigtests.proofs.line_zeros.Reads as line-zeros-reads
-use Rattle.rigtests.proofs.task_zeros.Reads as task-zeros-reads
 
--- src/lib.rt:465:9
 differ-requires : tie.Need-differ-requires
 differ-requires c κs = search needs
 
--- src/lib.rt:466:9
 returns : tie.Need-returns
 returns c = sym (first-here 22 _ _ (sym (c .before .differ .ensures) ∙ not-true _ (c .if1 .taken)))
 
--- src/lib.rt:468:9
 task-zeros-requires : tie.Need-task-zeros-requires
 task-zeros-requires c κs = search needs
 
--- src/lib.rt:469:9
 returns-2 : tie.Need-returns-2
 returns-2 c = sym (first-skip 22 _ _ (sym (c .before .before .before .differ .ensures) ∙ not-false _ (c .before .before .if1 .left)) ∙ first-here 23 _ _ (sym (c .before .task-zeros .ensures) ∙ not-true _ (c .if2 .taken)))
 
--- src/lib.rt:471:9
 line-zeros-requires : tie.Need-line-zeros-requires
 line-zeros-requires c κs = c .before .before .before .before .pre .0
 
--- src/lib.rt:472:9
 returns-3 : tie.Need-returns-3
 returns-3 c = sym (first-skip 22 _ _ (sym (c .before .before .before .before .before .differ .ensures) ∙ not-false _ (c .before .before .before .before .if1 .left)) ∙ first-skip 23 _ _ (sym (c .before .before .before .task-zeros .ensures) ∙ not-false _ (c .before .before .if2 .left)) ∙ first-here 24 _ _ (sym (c .before .line-zeros .ensures) ∙ not-true _ (c .if3 .taken)))
 
--- src/lib.rt:474:9
 row-zeros-requires : tie.Need-row-zeros-requires
 row-zeros-requires c κs = search needs
 
--- src/lib.rt:475:9
 returns-4 : tie.Need-returns-4
 returns-4 c = sym (first-skip 22 _ _ (sym (c .before .before .before .before .before .before .before .differ .ensures) ∙ not-false _ (c .before .before .before .before .before .before .if1 .left)) ∙ first-skip 23 _ _ (sym (c .before .before .before .before .before .task-zeros .ensures) ∙ not-false _ (c .before .before .before .before .if2 .left)) ∙ first-skip 24 _ _ (sym (c .before .before .before .line-zeros .ensures) ∙ not-false _ (c .before .before .if3 .left)) ∙ first-here 25 _ _ (sym (c .before .row-zeros .ensures) ∙ not-true _ (c .if4 .taken)))
 
--- src/lib.rt:445:1
 returns-5 : tie.Need-returns-5
 returns-5 c = sym (first-skip 22 _ _ (sym (c .before .before .before .before .before .before .before .differ .ensures) ∙ not-false _ (c .before .before .before .before .before .before .if1 .left)) ∙ first-skip 23 _ _ (sym (c .before .before .before .before .before .task-zeros .ensures) ∙ not-false _ (c .before .before .before .before .if2 .left)) ∙ first-skip 24 _ _ (sym (c .before .before .before .line-zeros .ensures) ∙ not-false _ (c .before .before .if3 .left)) ∙ first-skip 25 _ _ (sym (c .before .row-zeros .ensures) ∙ not-false _ (c .if4 .left)) ∙ first-none 26)
 

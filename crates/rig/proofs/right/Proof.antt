@@ -5,15 +5,10 @@ use Rattle.rig.specs.Tests.{rightB}
 use borrow.Author.Needs.{needs}
 use Rattle.rig.proofs.right.Statement.{statement}
 use Rattle.rig.proofs.right.Tie as tie
-use Rattle.rig.proofs.right.Reads as reads
-use Rattle.rig.proofs.right.Lts as lts
-use Rattle.rig.proofs.broken.Reads as broken-reads
 
--- src/lib.rt:601:5
 broken-requires : tie.Need-broken-requires
 broken-requires c κs = search needs
 
--- src/lib.rt:598:1
 returns : tie.Need-returns
 unfolding rightB
 returns c = ap (λ (n : ℕ). eqb n 0) (c .broken .ensures)

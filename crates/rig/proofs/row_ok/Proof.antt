@@ -5,58 +5,43 @@ use Rattle.rig.specs.Tests.{rowTests}
 use borrow.Author.Needs.{needs}
 use Rattle.rig.proofs.row_ok.Statement.{statement}
 use Rattle.rig.proofs.row_ok.Tie as tie
-use Rattle.rig.proofs.row_ok.Reads as reads
-use Rattle.rig.proofs.row_ok.Lts as lts
-use Rattle.rig.proofs.listed.Reads as listed-reads
-use Rattle.rigtests.proofs.in_range.Reads as in-range-reads
 
--- src/lib.rt:143:9
 returns : tie.Need-returns
 unfolding rowTests
 returns c = sym (allOf-not (rowTests (c .before .before .args .b)) 0 (lt-leb _ _ (c .if1 .taken)))
 
--- src/lib.rt:145:9
 in-range-requires : tie.Need-in-range-requires
 in-range-requires c κs = search needs
 
--- src/lib.rt:146:9
 returns-2 : tie.Need-returns-2
 unfolding rowTests
 returns-2 c = sym (allOf-not (rowTests (c .before .before .before .before .args .b)) 1 (sym (c .before .in-range .ensures) ∙ not-true _ (c .if2 .taken)))
 
--- src/lib.rt:149:9
 returns-3 : tie.Need-returns-3
 unfolding rowTests
 returns-3 c = sym (allOf-not (rowTests (c .before .before .before .before .before .before .args .b)) 2 (lt-leb _ _ (c .if3 .taken)))
 
--- src/lib.rt:151:9
 in-range-requires-2 : tie.Need-in-range-requires-2
 in-range-requires-2 c κs = search needs
 
--- src/lib.rt:152:9
 returns-4 : tie.Need-returns-4
 unfolding rowTests
 returns-4 c = sym (allOf-not (rowTests (c .before .before .before .before .before .before .before .before .args .b)) 3 (sym (c .before .in-range2 .ensures) ∙ not-true _ (c .if4 .taken)))
 
--- src/lib.rt:154:9
 in-range-requires-3 : tie.Need-in-range-requires-3
 in-range-requires-3 c κs = search needs
 
--- src/lib.rt:155:9
 returns-5 : tie.Need-returns-5
 unfolding rowTests
 returns-5 c = sym (allOf-not (rowTests (c .before .before .before .before .before .before .before .before .before .before .args .b)) 4 (sym (c .before .in-range3 .ensures) ∙ not-true _ (c .if5 .taken)))
 
--- src/lib.rt:157:9
 listed-requires : tie.Need-listed-requires
 listed-requires c κs = search needs
 
--- src/lib.rt:158:9
 returns-6 : tie.Need-returns-6
 unfolding rowTests
 returns-6 c = sym (allOf-not (rowTests (c .before .before .before .before .before .before .before .before .before .before .before .before .args .b)) 5 (sym (c .before .listed .ensures) ∙ not-true _ (c .if6 .taken)))
 
--- src/lib.rt:139:1
 returns-7 : tie.Need-returns-7
 unfolding rowTests
 returns-7 c = sym (allOf-skip _ _ (le-leb _ _ (c .before .before .before .before .before .before .before .before .before .before .before .if1 .left)) ∙ allOf-skip _ _ (sym (c .before .before .before .before .before .before .before .before .before .before .in-range .ensures) ∙ not-false _ (c .before .before .before .before .before .before .before .before .before .if2 .left)) ∙ allOf-skip _ _ (le-leb _ _ (c .before .before .before .before .before .before .before .if3 .left)) ∙ allOf-skip _ _ (sym (c .before .before .before .before .before .before .in-range2 .ensures) ∙ not-false _ (c .before .before .before .before .before .if4 .left)) ∙ allOf-skip _ _ (sym (c .before .before .before .before .in-range3 .ensures) ∙ not-false _ (c .before .before .before .if5 .left)) ∙ allOf-skip _ _ (sym (c .before .before .listed .ensures) ∙ not-false _ (c .before .if6 .left)) ∙ allOf-last _)

@@ -4,40 +4,31 @@ use Rattle.laws.specs.All.{allOf-not, allOf-skip, allOf-last}
 use Rattle.rig.specs.Tests.{rowZero, rowZeros}
 use Rattle.rig.proofs.row_zero.Statement.{statement}
 use Rattle.rig.proofs.row_zero.Tie as tie
-use Rattle.rig.proofs.row_zero.Reads as reads
-use Rattle.rig.proofs.row_zero.Lts as lts
 
--- src/lib.rt:244:9
 returns : tie.Need-returns
 unfolding rowZero rowZeros
 returns c = sym (allOf-not (rowZeros (c .before .before .args .b)) 0 (ne-eqb _ _ (c .if1 .taken)))
 
--- src/lib.rt:247:9
 returns-2 : tie.Need-returns-2
 unfolding rowZero rowZeros
 returns-2 c = sym (allOf-not (rowZeros (c .before .before .before .before .args .b)) 1 (ne-eqb _ _ (c .if2 .taken)))
 
--- src/lib.rt:250:9
 returns-3 : tie.Need-returns-3
 unfolding rowZero rowZeros
 returns-3 c = sym (allOf-not (rowZeros (c .before .before .before .before .before .before .args .b)) 2 (ne-eqb _ _ (c .if3 .taken)))
 
--- src/lib.rt:253:9
 returns-4 : tie.Need-returns-4
 unfolding rowZero rowZeros
 returns-4 c = sym (allOf-not (rowZeros (c .before .before .before .before .before .before .before .before .args .b)) 3 (ne-eqb _ _ (c .if4 .taken)))
 
--- src/lib.rt:256:9
 returns-5 : tie.Need-returns-5
 unfolding rowZero rowZeros
 returns-5 c = sym (allOf-not (rowZeros (c .before .before .before .before .before .before .before .before .before .before .args .b)) 4 (ne-eqb _ _ (c .if5 .taken)))
 
--- src/lib.rt:259:9
 returns-6 : tie.Need-returns-6
 unfolding rowZero rowZeros
 returns-6 c = sym (allOf-not (rowZeros (c .before .before .before .before .before .before .before .before .before .before .before .before .args .b)) 5 (ne-eqb _ _ (c .if6 .taken)))
 
--- src/lib.rt:240:1
 returns-7 : tie.Need-returns-7
 unfolding rowZero rowZeros
 returns-7 c = sym (allOf-skip _ _ (eq-eqb _ _ (c .before .before .before .before .before .before .before .before .before .before .before .if1 .left)) ∙ allOf-skip _ _ (eq-eqb _ _ (c .before .before .before .before .before .before .before .before .before .if2 .left)) ∙ allOf-skip _ _ (eq-eqb _ _ (c .before .before .before .before .before .before .before .if3 .left)) ∙ allOf-skip _ _ (eq-eqb _ _ (c .before .before .before .before .before .if4 .left)) ∙ allOf-skip _ _ (eq-eqb _ _ (c .before .before .before .if5 .left)) ∙ allOf-skip _ _ (eq-eqb _ _ (c .before .if6 .left)) ∙ allOf-last _)

@@ -10,9 +10,6 @@ use Rattle.rig.specs.Tests.{rowZeroOne, rowZerosB}
 use Rattle.rig.specs.Marks.{rows-start}
 use Rattle.rig.proofs.row_zeros.Statement.{statement}
 use Rattle.rig.proofs.row_zeros.Tie as tie
-use Rattle.rig.proofs.row_zeros.Reads as reads
-use Rattle.rig.proofs.row_zeros.Lts as lts
-use Rattle.rig.proofs.row_zero.Reads as row-zero-reads
 
 abbrev Inv-loop : tie.InvT-loop
 Inv-loop n row k₀ k = (all k (rowZeroOne n row) ≡ true) × ((n ≤ k) × (k ≤ 64))
@@ -20,44 +17,35 @@ Inv-loop n row k₀ k = (all k (rowZeroOne n row) ≡ true) × ((n ≤ k) × (k 
 abbrev μ-loop : tie.MeasureT-loop
 μ-loop n row k₀ k = 64 - k
 
--- src/lib.rt:269:5
 loop-holds : tie.Need-loop-holds Inv-loop μ-loop
 loop-holds c = (rows-start (c .args .n) (c .args .t2), search needs)
 
--- src/lib.rt:270:17
 mul-b : tie.Need-mul-b Inv-loop μ-loop
 mul-b c = search needs
 
--- src/lib.rt:270:17
 array-copy-out-b : tie.Need-array-copy-out-b Inv-loop μ-loop
 array-copy-out-b c = search needs
 
--- src/lib.rt:271:13
 row-zero-requires : tie.Need-row-zero-requires Inv-loop μ-loop
 row-zero-requires c κs = search needs
 
--- src/lib.rt:272:13
 returns : tie.Need-returns Inv-loop μ-loop
 unfolding rowZerosB
 returns c =
     let d = c .before .before .before .before in
     sym (all-not 64 _ (d .loop .k) (c .before .before .before .loop-test .taken) (sym (or-skip _ _ (le-ltb (d .loop .k) (d .before .args .n) (d .loop .inv .1 .0))) ∙ sym (c .before .row-zero .ensures) ∙ not-true _ (c .if1 .taken)))
 
--- src/lib.rt:274:13
 add-k : tie.Need-add-k Inv-loop μ-loop
 add-k c = search needs
 
--- src/lib.rt:269:5
 loop-less : tie.Need-loop-less Inv-loop μ-loop
 loop-less c = search needs
 
--- src/lib.rt:269:5
 loop-again : tie.Need-loop-again Inv-loop μ-loop
 loop-again c =
     let d = c .before .before .before .before in
     (all-next _ _ (d .loop .inv .0) (sym (or-skip _ _ (le-ltb (d .loop .k) (d .before .args .n) (d .loop .inv .1 .0))) ∙ sym (c .before .row-zero .ensures) ∙ not-false _ (c .if1 .left)), search needs)
 
--- src/lib.rt:264:1
 returns-2 : tie.Need-returns-2 Inv-loop μ-loop
 unfolding rowZerosB
 returns-2 c =

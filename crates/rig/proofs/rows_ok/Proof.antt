@@ -10,9 +10,6 @@ use Rattle.laws.specs.All.{all, all-zero, all-next, all-not}
 use Rattle.rig.specs.Tests.{rowOne, rowsB}
 use Rattle.rig.proofs.rows_ok.Statement.{statement}
 use Rattle.rig.proofs.rows_ok.Tie as tie
-use Rattle.rig.proofs.rows_ok.Reads as reads
-use Rattle.rig.proofs.rows_ok.Lts as lts
-use Rattle.rig.proofs.row_ok.Reads as row-ok-reads
 
 abbrev Inv-loop : tie.InvT-loop
 Inv-loop n row k₀ k = (all k (rowOne row) ≡ true) × ((length row ≡ 64) × (k ≤ n))
@@ -20,40 +17,31 @@ Inv-loop n row k₀ k = (all k (rowOne row) ≡ true) × ((length row ≡ 64) ×
 abbrev μ-loop : tie.MeasureT-loop
 μ-loop n row k₀ k = n - k
 
--- src/lib.rt:168:5
 loop-holds : tie.Need-loop-holds Inv-loop μ-loop
 loop-holds c = (all-zero _, search needs)
 
--- src/lib.rt:169:17
 mul-b : tie.Need-mul-b Inv-loop μ-loop
 mul-b c = search needs
 
--- src/lib.rt:169:17
 array-copy-out-b : tie.Need-array-copy-out-b Inv-loop μ-loop
 array-copy-out-b c = search needs
 
--- src/lib.rt:170:13
 row-ok-requires : tie.Need-row-ok-requires Inv-loop μ-loop
 row-ok-requires c κs = search needs
 
--- src/lib.rt:171:13
 returns : tie.Need-returns Inv-loop μ-loop
 unfolding rowsB
 returns c = sym (and-go (eq-eqb _ _ (c .before .before .before .before .loop .inv .1 .0)) (all-not (c .before .before .before .before .before .args .n) (rowOne (c .before .before .before .before .before .args .t2)) (c .before .before .before .before .loop .k) (c .before .before .before .loop-test .taken) (sym (c .before .row-ok .ensures) ∙ not-true _ (c .if1 .taken))))
 
--- src/lib.rt:173:13
 add-k : tie.Need-add-k Inv-loop μ-loop
 add-k c = search needs
 
--- src/lib.rt:168:5
 loop-less : tie.Need-loop-less Inv-loop μ-loop
 loop-less c = search needs
 
--- src/lib.rt:168:5
 loop-again : tie.Need-loop-again Inv-loop μ-loop
 loop-again c = (all-next _ _ (c .before .before .before .before .loop .inv .0) (sym (c .before .row-ok .ensures) ∙ not-false _ (c .if1 .left)), search needs)
 
--- src/lib.rt:163:1
 returns-2 : tie.Need-returns-2 Inv-loop μ-loop
 unfolding rowsB
 returns-2 c =

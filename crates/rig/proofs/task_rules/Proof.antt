@@ -6,42 +6,28 @@ use Rattle.rigtests.specs.Laws.{served-law}
 use borrow.Author.Needs.{needs}
 use Rattle.rig.proofs.task_rules.Statement.{statement}
 use Rattle.rig.proofs.task_rules.Tie as tie
-use Rattle.rig.proofs.task_rules.Reads as reads
-use Rattle.rig.proofs.task_rules.Lts as lts
-use Rattle.rigtests.proofs.controllers.Reads as controllers-reads
-use Rattle.rigtests.proofs.flag_owners.Reads as flag-owners-reads
-use Rattle.rigtests.proofs.served.Reads as served-reads
-use Rattle.rigtests.proofs.unmarked.Reads as unmarked-reads
 
--- src/lib.rt:397:9
 controllers-requires : tie.Need-controllers-requires
 controllers-requires c κs = search needs
 
--- src/lib.rt:398:9
 returns : tie.Need-returns
 returns c = sym (first-here 16 _ _ (sym (c .before .controllers .ensures) ∙ not-true _ (c .if1 .taken)))
 
--- src/lib.rt:400:17
 flag-owners-requires : tie.Need-flag-owners-requires
 flag-owners-requires c κs = search needs
 
--- src/lib.rt:401:9
 served-requires : tie.Need-served-requires
 served-requires c κs = search needs
 
--- src/lib.rt:402:9
 returns-2 : tie.Need-returns-2
 returns-2 c = sym (first-skip 16 _ _ (sym (c .before .before .before .before .before .controllers .ensures) ∙ not-false _ (c .before .before .before .before .if1 .left)) ∙ first-here 17 _ _ (sym (served-law (c .before .before .before .before .before .before .args .activation .now) (c .before .before .before .before .before .before .pre .1 .1)) ∙ ap (servedB (c .before .before .before .before .before .before .args .activation .now)) (sym (c .before .before .before .flag-owners .ensures)) ∙ sym (c .before .served .ensures) ∙ not-true _ (c .if2 .taken)))
 
--- src/lib.rt:404:9
 unmarked-requires : tie.Need-unmarked-requires
 unmarked-requires c κs = search needs
 
--- src/lib.rt:405:9
 returns-3 : tie.Need-returns-3
 returns-3 c = sym (first-skip 16 _ _ (sym (c .before .before .before .before .before .before .before .controllers .ensures) ∙ not-false _ (c .before .before .before .before .before .before .if1 .left)) ∙ first-skip 17 _ _ (sym (served-law (c .before .before .before .before .before .before .before .before .args .activation .now) (c .before .before .before .before .before .before .before .before .pre .1 .1)) ∙ ap (servedB (c .before .before .before .before .before .before .before .before .args .activation .now)) (sym (c .before .before .before .before .before .flag-owners .ensures)) ∙ sym (c .before .before .before .served .ensures) ∙ not-false _ (c .before .before .if2 .left)) ∙ first-here 18 _ _ (sym (c .before .unmarked .ensures) ∙ not-true _ (c .if3 .taken)))
 
--- src/lib.rt:388:1
 returns-4 : tie.Need-returns-4
 returns-4 c = sym (first-skip 16 _ _ (sym (c .before .before .before .before .before .before .before .controllers .ensures) ∙ not-false _ (c .before .before .before .before .before .before .if1 .left)) ∙ first-skip 17 _ _ (sym (served-law (c .before .before .before .before .before .before .before .before .args .activation .now) (c .before .before .before .before .before .before .before .before .pre .1 .1)) ∙ ap (servedB (c .before .before .before .before .before .before .before .before .args .activation .now)) (sym (c .before .before .before .before .before .flag-owners .ensures)) ∙ sym (c .before .before .before .served .ensures) ∙ not-false _ (c .before .before .if2 .left)) ∙ first-skip 18 _ _ (sym (c .before .unmarked .ensures) ∙ not-false _ (c .if3 .left)) ∙ first-none 19)
 

@@ -2,20 +2,14 @@ use Rattle.rigbuild.specs.Built.{aboveAfter}
 use borrow.Author.Needs.{needs}
 use Rattle.rigbuild.proofs.above_after.Statement.{statement}
 use Rattle.rigbuild.proofs.above_after.Tie as tie
-use Rattle.rigbuild.proofs.above_after.Reads as reads
-use Rattle.rigbuild.proofs.above_after.Lts as lts
-use Rattle.rigbuild.proofs.all_under.Reads as all-under-reads
 
--- src/lib.rt:96:8
 all-under-requires : tie.Need-all-under-requires
 all-under-requires c κs = search needs
 
--- src/lib.rt:92:1
 returns : tie.Need-returns
 unfolding aboveAfter
 returns c = rw (← c .before .all-under .ensures, c .if1 .taken)
 
--- src/lib.rt:92:1
 returns-2 : tie.Need-returns-2
 unfolding aboveAfter
 returns-2 c = rw (← c .before .all-under .ensures, c .if1 .left)

@@ -8,9 +8,6 @@ use Rattle.laws.specs.All.{all, all-zero, all-next, all-not}
 use Rattle.rigbuild.specs.Built.{underOne, numbers}
 use Rattle.rigbuild.proofs.all_under.Statement.{statement}
 use Rattle.rigbuild.proofs.all_under.Tie as tie
-use Rattle.rigbuild.proofs.all_under.Reads as reads
-use Rattle.rigbuild.proofs.all_under.Lts as lts
-use Rattle.rigrows.proofs.under.Reads as under-reads
 
 abbrev Inv-loop : tie.InvT-loop
 Inv-loop k m tasks flags v i₀ i = (i ≤ m) × (k < 7) × (m ≤ 9) × (all i (underOne tasks flags k (numbers v)) ≡ true)
@@ -18,35 +15,27 @@ Inv-loop k m tasks flags v i₀ i = (i ≤ m) × (k < 7) × (m ≤ 9) × (all i 
 abbrev μ-loop : tie.MeasureT-loop
 μ-loop k m tasks flags v i₀ i = m - i
 
--- src/lib.rt:83:5
 loop-holds : tie.Need-loop-holds Inv-loop μ-loop
 loop-holds c = (omega arith, c .pre .0, c .pre .1, all-zero (underOne (c .args .tasks) (c .args .flags) (c .args .k) (numbers (c .args .t3))))
 
--- src/lib.rt:84:34
 array-read-under : tie.Need-array-read-under Inv-loop μ-loop
 array-read-under c = search needs
 
--- src/lib.rt:84:13
 under-requires : tie.Need-under-requires Inv-loop μ-loop
 under-requires c κs = search needs
 
--- src/lib.rt:85:13
 returns : tie.Need-returns Inv-loop μ-loop
 returns c = sym (all-not _ _ _ (c .before .before .loop-test .taken) (sym (c .before .under .ensures) ∙ not-true _ (c .if1 .taken)))
 
--- src/lib.rt:87:9
 add-i : tie.Need-add-i Inv-loop μ-loop
 add-i c = search needs
 
--- src/lib.rt:83:5
 loop-less : tie.Need-loop-less Inv-loop μ-loop
 loop-less c = search needs
 
--- src/lib.rt:83:5
 loop-again : tie.Need-loop-again Inv-loop μ-loop
 loop-again c = (omega (arith, c .before .before .loop-test .taken), c .before .before .before .loop .inv .1, c .before .before .before .loop .inv .2, all-next _ _ (c .before .before .before .loop .inv .3) (sym (c .before .under .ensures) ∙ not-false _ (c .if1 .left)))
 
--- src/lib.rt:78:1
 returns-2 : tie.Need-returns-2 Inv-loop μ-loop
 returns-2 c = let e : c .before .loop .i ≡ c .before .before .args .m = omega (arith, c .before .loop .inv .0, c .loop-test .left) in sym (c .before .loop .inv .3) ∙ ap (λ (j : ℕ). all j (underOne (c .before .before .args .tasks) (c .before .before .args .flags) (c .before .before .args .k) (numbers (c .before .before .args .t3)))) e
 

@@ -1,86 +1,63 @@
-use mathlib.Core.Path.{_≡_}
 use native.Mathlib.Omega.{arith}
-use lib.ListN.{length}
 use Rattle.rigbuild.specs.Leaves.{nine}
 use borrow.Author.Needs.{needs}
 use Rattle.rigbuild.proofs.bytes_of.Statement.{statement}
 use Rattle.rigbuild.proofs.bytes_of.Tie as tie
-use Rattle.rigbuild.proofs.bytes_of.Reads as reads
-use Rattle.rigbuild.proofs.bytes_of.Lts as lts
 
--- src/lib.rt:65:9
 array-read-t5 : tie.Need-array-read-t5
 array-read-t5 c = search needs
 
--- src/lib.rt:65:9
 cast-t6 : tie.Need-cast-t6
 cast-t6 c = omega (arith, c .pre 0)
 
--- src/lib.rt:66:9
 array-read-t9 : tie.Need-array-read-t9
 array-read-t9 c = search needs
 
--- src/lib.rt:66:9
 cast-t10 : tie.Need-cast-t10
 cast-t10 c = omega (arith, c .pre 1)
 
--- src/lib.rt:67:9
 array-read-t13 : tie.Need-array-read-t13
 array-read-t13 c = search needs
 
--- src/lib.rt:67:9
 cast-t14 : tie.Need-cast-t14
 cast-t14 c = omega (arith, c .pre 2)
 
--- src/lib.rt:68:9
 array-read-t17 : tie.Need-array-read-t17
 array-read-t17 c = search needs
 
--- src/lib.rt:68:9
 cast-t18 : tie.Need-cast-t18
 cast-t18 c = omega (arith, c .pre 3)
 
--- src/lib.rt:69:9
 array-read-t21 : tie.Need-array-read-t21
 array-read-t21 c = search needs
 
--- src/lib.rt:69:9
 cast-t22 : tie.Need-cast-t22
 cast-t22 c = omega (arith, c .pre 4)
 
--- src/lib.rt:70:9
 array-read-t25 : tie.Need-array-read-t25
 array-read-t25 c = search needs
 
--- src/lib.rt:70:9
 cast-t26 : tie.Need-cast-t26
 cast-t26 c = omega (arith, c .pre 5)
 
--- src/lib.rt:71:9
 array-read-t29 : tie.Need-array-read-t29
 array-read-t29 c = search needs
 
--- src/lib.rt:71:9
 cast-t30 : tie.Need-cast-t30
 cast-t30 c = omega (arith, c .pre 6)
 
--- src/lib.rt:72:9
 array-read-t33 : tie.Need-array-read-t33
 array-read-t33 c = search needs
 
--- src/lib.rt:72:9
 cast-t34 : tie.Need-cast-t34
 cast-t34 c = omega (arith, c .pre 7)
 
--- src/lib.rt:73:9
 array-read-t37 : tie.Need-array-read-t37
 array-read-t37 c = search needs
 
--- src/lib.rt:73:9
 cast-t38 : tie.Need-cast-t38
 cast-t38 c = omega (arith, c .pre 8)
 
--- src/lib.rt:60:1
 returns : tie.Need-returns
 returns c = nine _ (search needs)
 

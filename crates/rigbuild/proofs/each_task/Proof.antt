@@ -3,16 +3,12 @@ use mathlib.Core.Path.{_≡_, ap, _∙_, sym}
 use mathlib.Core.Bool.{true}
 use native.Mathlib.Omega.{arith}
 use Prim.Native.Nat.{ℕ, _≤_, _-_}
-use lib.ListN.{length}
 use borrow.Author.Tests.{eq-eqb}
 use Rattle.laws.specs.All.{all, all-zero, all-next}
 use Rattle.rigbuild.specs.MarkTests.{markedOne}
 use Rattle.rigbuild.specs.Leaves.{not-marked, not-there}
 use Rattle.rigbuild.proofs.each_task.Statement.{statement}
 use Rattle.rigbuild.proofs.each_task.Tie as tie
-use Rattle.rigbuild.proofs.each_task.Reads as reads
-use Rattle.rigbuild.proofs.each_task.Lts as lts
-use Rattle.rigbuild.proofs.wide.Reads as wide-reads
 
 abbrev Inv-loop : tie.InvT-loop
 Inv-loop tasks tline n i₀ i = (i ≤ n) × (n ≡ tasks) × (all i (markedOne tline) ≡ true)
@@ -20,43 +16,33 @@ Inv-loop tasks tline n i₀ i = (i ≤ n) × (n ≡ tasks) × (all i (markedOne 
 abbrev μ-loop : tie.MeasureT-loop
 μ-loop tasks tline n i₀ i = n - i
 
--- src/lib.rt:165:9
 wide-requires : tie.Need-wide-requires Inv-loop μ-loop
 wide-requires c κs = search needs
 
--- src/lib.rt:167:5
 loop-holds : tie.Need-loop-holds Inv-loop μ-loop
 loop-holds c = (omega arith, c .wide .ensures, all-zero (markedOne (c .before .args .t1)))
 
--- src/lib.rt:169:13
 returns : tie.Need-returns Inv-loop μ-loop
 returns c = not-there (c .before .before .before .before .args .t1) (c .before .before .before .before .args .tasks) (c .before .before .loop .i) (omega (arith, c .before .loop-test .taken, c .before .before .loop .inv .1)) (search needs) (c .if1 .taken)
 
--- src/lib.rt:171:18
 add-if2 : tie.Need-add-if2 Inv-loop μ-loop
 add-if2 c = search needs
 
--- src/lib.rt:171:12
 array-read-if2 : tie.Need-array-read-if2 Inv-loop μ-loop
 array-read-if2 c = search needs
 
--- src/lib.rt:172:13
 returns-2 : tie.Need-returns-2 Inv-loop μ-loop
 returns-2 c = not-marked (c .before .before .before .before .before .args .t1) (c .before .before .before .before .before .args .tasks) (c .before .before .before .loop .i) (omega (arith, c .before .before .loop-test .taken, c .before .before .before .loop .inv .1)) (c .if2 .taken)
 
--- src/lib.rt:174:9
 add-i : tie.Need-add-i Inv-loop μ-loop
 add-i c = search needs
 
--- src/lib.rt:167:5
 loop-less : tie.Need-loop-less Inv-loop μ-loop
 loop-less c = search needs
 
--- src/lib.rt:167:5
 loop-again : tie.Need-loop-again Inv-loop μ-loop
 loop-again c = (omega (arith, c .before .before .loop-test .taken), c .before .before .before .loop .inv .1, all-next _ _ (c .before .before .before .loop .inv .2) (eq-eqb _ _ (c .if2 .left)))
 
--- src/lib.rt:162:1
 returns-3 : tie.Need-returns-3 Inv-loop μ-loop
 returns-3 c = let e : c .before .loop .i ≡ c .before .before .before .args .tasks = omega (arith, c .before .loop .inv .0, c .before .loop .inv .1, c .loop-test .left) in sym (c .before .loop .inv .2) ∙ ap (λ (m : ℕ). all m (markedOne (c .before .before .before .args .t1))) e
 

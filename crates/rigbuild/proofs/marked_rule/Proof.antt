@@ -1,38 +1,28 @@
-use mathlib.Core.Path.{_≡_, sym, _∙_}
+use mathlib.Core.Path.{sym, _∙_}
 use borrow.Author.Tests.{not-true, not-false}
 use Rattle.rigbuild.specs.Laws.{marked-1, marked-2, marked-3, marked-4, marked-5, marked-none}
 use borrow.Author.Needs.{needs}
 use Rattle.rigbuild.proofs.marked_rule.Statement.{statement}
 use Rattle.rigbuild.proofs.marked_rule.Tie as tie
-use Rattle.rigbuild.proofs.marked_rule.Reads as reads
-use Rattle.rigbuild.proofs.marked_rule.Lts as lts
-use Rattle.rigbuild.proofs.each_task.Reads as each-task-reads
 
--- src/lib.rt:184:9
 returns : tie.Need-returns
 returns c = marked-1 (c .before .before .args .marks) (c .before .before .args .tasks) (c .if1 .taken)
 
--- src/lib.rt:187:9
 returns-2 : tie.Need-returns-2
 returns-2 c = marked-2 (c .before .before .before .before .args .marks) (c .before .before .before .before .args .tasks) (c .before .before .if1 .left) (c .if2 .taken)
 
--- src/lib.rt:190:9
 returns-3 : tie.Need-returns-3
 returns-3 c = marked-3 (c .before .before .before .before .before .before .args .marks) (c .before .before .before .before .before .before .args .tasks) (c .before .before .before .before .if1 .left) (c .before .before .if2 .left) (c .if3 .taken)
 
--- src/lib.rt:193:9
 each-task-requires : tie.Need-each-task-requires
 each-task-requires c κs = search needs
 
--- src/lib.rt:194:9
 returns-4 : tie.Need-returns-4
 returns-4 c = marked-4 (c .before .before .before .before .before .before .before .before .before .args .marks) (c .before .before .before .before .before .before .before .before .before .args .tasks) (c .before .before .before .before .before .before .before .if1 .left) (c .before .before .before .before .before .if2 .left) (c .before .before .before .if3 .left) (sym (c .before .each-task .ensures) ∙ not-true _ (c .if4 .taken))
 
--- src/lib.rt:197:9
 returns-5 : tie.Need-returns-5
 returns-5 c = marked-5 (c .before .before .before .before .before .before .before .before .before .before .before .args .marks) (c .before .before .before .before .before .before .before .before .before .before .before .args .tasks) (c .before .before .before .before .before .before .before .before .before .if1 .left) (c .before .before .before .before .before .before .before .if2 .left) (c .before .before .before .before .before .if3 .left) (sym (c .before .before .before .each-task .ensures) ∙ not-false _ (c .before .before .if4 .left)) (c .if5 .taken)
 
--- src/lib.rt:180:1
 returns-6 : tie.Need-returns-6
 returns-6 c = marked-none (c .before .before .before .before .before .before .before .before .before .before .before .args .marks) (c .before .before .before .before .before .before .before .before .before .before .before .args .tasks) (c .before .before .before .before .before .before .before .before .before .if1 .left) (c .before .before .before .before .before .before .before .if2 .left) (c .before .before .before .before .before .if3 .left) (sym (c .before .before .before .each-task .ensures) ∙ not-false _ (c .before .before .if4 .left)) (c .if5 .left)
 

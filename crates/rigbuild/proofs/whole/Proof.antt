@@ -1,59 +1,39 @@
-use mathlib.Core.Path.{_≡_, sym, ap, _∙_}
+use mathlib.Core.Path.{sym, ap, _∙_}
 use Rattle.rigbuild.specs.Laws.{judged-lines, judged-rig, judged-right}
 use Rattle.rigbuild.specs.Built.{built}
-use Rattle.rigbuild.specs.declared.Answer.{Answer}
-use Rattle.rig.specs.declared.Rig.{Rig}
 use Rattle.rig.specs.Tests.{firstBroken}
 use Rattle.rigbuild.specs.Read.{accepted}
 use borrow.Author.Needs.{needs}
 use Rattle.rigbuild.proofs.whole.Statement.{statement}
 use Rattle.rigbuild.proofs.whole.Tie as tie
-use Rattle.rigbuild.proofs.whole.Reads as reads
-use Rattle.rigbuild.proofs.whole.Lts as lts
-use Rattle.rig.proofs.broken.Reads as broken-reads
-use Rattle.rig.proofs.cycles_of.Reads as cycles-of-reads
-use Rattle.rigbuild.proofs.behind.Reads as behind-reads
-use Rattle.rigbuild.proofs.marked_rule.Reads as marked-rule-reads
-use Rattle.rigbuild.proofs.refused.Reads as refused-reads
-use Rattle.rigbuild.proofs.taken.Reads as taken-reads
 
--- src/lib.rt:206:9
 marked-rule-requires : tie.Need-marked-rule-requires
 marked-rule-requires c κs = search needs
 
--- src/lib.rt:208:9
 refused-requires : tie.Need-refused-requires
 refused-requires c κs = search needs
 
--- src/lib.rt:208:9
 returns : tie.Need-returns
 returns c = c .refused .ensures ∙ rw (← c .before .before .marked-rule .ensures) (judged-lines _ _ (c .before .if1 .taken))
 
--- src/lib.rt:210:9
 cycles-of-requires : tie.Need-cycles-of-requires
 cycles-of-requires c κs = search needs
 
--- src/lib.rt:211:9
 broken-requires : tie.Need-broken-requires
 broken-requires c κs = search needs
 
--- src/lib.rt:213:30
 behind-requires : tie.Need-behind-requires
 behind-requires c κs = search needs
 
--- src/lib.rt:213:9
 refused-requires-2 : tie.Need-refused-requires-2
 refused-requires-2 c κs = search needs
 
--- src/lib.rt:213:9
 returns-2 : tie.Need-returns-2
 returns-2 c = c .refused2 .ensures ∙ judged-rig _ (built (c .before .before .before .before .before .before .before .args .g) (c .before .before .before .before .before .before .before .args .table) (c .before .before .before .before .before .before .before .args .marks)) (c .before .before .before .broken .result) (c .before .behind .result) (sym (c .before .before .before .before .before .before .marked-rule .ensures) ∙ c .before .before .before .before .before .if1 .left) (c .before .before .before .broken .ensures ∙ ap (firstBroken (c .before .before .before .before .before .before .before .args .g)) (c .before .before .before .before .cycles-of .ensures)) (c .before .before .if2 .taken) (c .before .behind .ensures)
 
--- src/lib.rt:215:5
 taken-requires : tie.Need-taken-requires
 taken-requires c κs = search needs
 
--- src/lib.rt:203:1
 returns-3 : tie.Need-returns-3
 returns-3 c = c .taken .ensures ∙ (ap (accepted (c .before .before .before .before .before .before .args .g)) (c .before .before .before .cycles-of .ensures) ∙ judged-right _ (built (c .before .before .before .before .before .before .args .g) (c .before .before .before .before .before .before .args .table) (c .before .before .before .before .before .before .args .marks)) (c .before .before .broken .result) (sym (c .before .before .before .before .before .marked-rule .ensures) ∙ c .before .before .before .before .if1 .left) (c .before .before .broken .ensures ∙ ap (firstBroken (c .before .before .before .before .before .before .args .g)) (c .before .before .before .cycles-of .ensures)) (c .before .if2 .left))
 

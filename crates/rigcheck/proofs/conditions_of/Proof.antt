@@ -4,8 +4,6 @@ use Prim.Native.Nat.{_≤_, _-_}
 use mathlib.Core.Logic.{⊎-elim}
 use Rattle.rigcheck.proofs.conditions_of.Statement.{statement}
 use Rattle.rigcheck.proofs.conditions_of.Tie as tie
-use Rattle.rigcheck.proofs.conditions_of.Reads as reads
-use Rattle.rigcheck.proofs.conditions_of.Lts as lts
 
 abbrev Inv-loop : tie.InvT-loop
 Inv-loop g n₀ i₀ n i = (i ≤ 1040) × (n ≤ i)
@@ -13,31 +11,24 @@ Inv-loop g n₀ i₀ n i = (i ≤ 1040) × (n ≤ i)
 abbrev μ-loop : tie.MeasureT-loop
 μ-loop g n₀ i₀ n i = 1040 - i
 
--- src/main.rt:22:5
 loop-holds : tie.Need-loop-holds Inv-loop μ-loop
 loop-holds c = omega arith
 
--- src/main.rt:23:12
 element-copy-out-if1 : tie.Need-element-copy-out-if1 Inv-loop μ-loop
 element-copy-out-if1 c = search needs
 
--- src/main.rt:24:13
 add-n : tie.Need-add-n Inv-loop μ-loop
 add-n c = search needs
 
--- src/main.rt:26:9
 add-i : tie.Need-add-i Inv-loop μ-loop
 add-i c = search needs
 
--- src/main.rt:22:5
 loop-less : tie.Need-loop-less Inv-loop μ-loop
 loop-less c = search needs
 
--- src/main.rt:22:5
 loop-again : tie.Need-loop-again Inv-loop μ-loop
 loop-again c = ⊎-elim (λ w. omega arith) (λ w. omega arith) (c .if1 .came)
 
--- src/main.rt:19:1
 returns : tie.Need-returns Inv-loop μ-loop
 returns c = search needs
 

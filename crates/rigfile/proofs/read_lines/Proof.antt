@@ -1,5 +1,4 @@
-use borrow.Author.Needs.{needs}
-use mathlib.Core.Path.{_≡_, refl, sym, _∙_}
+use mathlib.Core.Path.{refl, sym, _∙_}
 use borrow.Author.Tests.{not-true, not-false}
 use Prim.Native.Nat.{_-_}
 use native.Mathlib.Omega.{arith}
@@ -9,32 +8,9 @@ use Rattle.rigbuild.specs.Built.{built, nothing, noTable}
 use Rattle.rigbuild.specs.Laws.{by-fault}
 use Rattle.rigbuild.specs.Marked.{whole-answer}
 use Rattle.rigbuild.specs.Stores.{store-counts, store-task, store-condition, store-line, store-many, store-flag, store-crowded, store-row, store-rows}
-use Rattle.rigfile.proofs.Inv.{InLines, Sort, OfLine, InFields, Shaped, InSizes, lines-start, leave-open, leave-empty, leave-clean, leave-built, fields-start, not-known, too-many, no-number, fields-turn, too-few, fields-end, sizes-start, untimed, bytes, number-most, misplaced, next-line, too-large, sizes-on, sizes-end, nine-0, nine-1, nine-2, nine-3, nine-4, line-fits, row-fits, flag-fits, row-place, flag-place, field-next, field-part, field-end, field-place, field-stride, field-count, fields-shrink, size-place, size-stride, size-known, size-count, sizes-shrink, next-at, next-count, lines-shrink}
+use Rattle.rigfile.proofs.Inv.{InLines, InFields, InSizes, lines-start, leave-open, leave-empty, leave-clean, leave-built, fields-start, not-known, too-many, no-number, fields-turn, too-few, fields-end, sizes-start, untimed, bytes, number-most, misplaced, next-line, too-large, sizes-on, sizes-end, nine-0, nine-1, nine-2, nine-3, nine-4, line-fits, row-fits, flag-fits, row-place, flag-place, field-next, field-part, field-end, field-place, field-stride, field-count, fields-shrink, size-place, size-stride, size-known, size-count, sizes-shrink, next-at, next-count, lines-shrink}
 use Rattle.rigfile.proofs.read_lines.Statement.{statement}
 use Rattle.rigfile.proofs.read_lines.Tie as tie
-use Rattle.rigfile.proofs.read_lines.Reads as reads
-use Rattle.rigfile.proofs.read_lines.Lts as lts
-use Rattle.decimal.proofs.number_in.Reads as number-in-reads
-use Rattle.lines.proofs.line_of.Reads as line-of-reads
-use Rattle.rig.proofs.none.Reads as none-reads
-use Rattle.rigbuild.proofs.above_after.Reads as above-after-reads
-use Rattle.rigbuild.proofs.bytes_of.Reads as bytes-of-reads
-use Rattle.rigbuild.proofs.condition_place.Reads as condition-place-reads
-use Rattle.rigbuild.proofs.cycle_place.Reads as cycle-place-reads
-use Rattle.rigbuild.proofs.no_marks.Reads as no-marks-reads
-use Rattle.rigbuild.proofs.refused.Reads as refused-reads
-use Rattle.rigbuild.proofs.row_of.Reads as row-of-reads
-use Rattle.rigbuild.proofs.task_place.Reads as task-place-reads
-use Rattle.rigbuild.proofs.whole.Reads as whole-reads
-use Rattle.rigbuild.proofs.wide.Reads as wide-reads
-use Rattle.rigbuild.proofs.wide16.Reads as wide16-reads
-use Rattle.rigrows.proofs.count.Reads as count-reads
-use Rattle.rigrows.proofs.fits.Reads as fits-reads
-use Rattle.rigrows.proofs.in_order.Reads as in-order-reads
-use Rattle.rigrows.proofs.kind_in.Reads as kind-in-reads
-use Rattle.rigrows.proofs.on_time.Reads as on-time-reads
-use Rattle.rigrows.proofs.place_of.Reads as place-of-reads
-use Rattle.text.proofs.find.Reads as find-reads
 
 abbrev Inv-fields : tie.InvT-fields
 Inv-fields s n g table marks prev line at e q k m v₀ p₀ f₀ v p f = InFields s n (built g table marks) prev line at e q k m v p f
@@ -54,516 +30,400 @@ Inv-lines s n g₀ table₀ marks₀ prev₀ line₀ at₀ g table marks prev li
 abbrev μ-lines : tie.MeasureT-lines
 μ-lines s n g₀ table₀ marks₀ prev₀ line₀ at₀ g table marks prev line at = n - at
 
--- src/lib.rt:239:17
 none-requires : tie.Need-none-requires Inv-fields μ-fields Inv-sizes μ-sizes Inv-lines μ-lines
 none-requires c κs = tt
 
--- src/lib.rt:241:21
 no-marks-requires :
     tie.Need-no-marks-requires Inv-fields μ-fields Inv-sizes μ-sizes Inv-lines μ-lines
 no-marks-requires c κs = tt
 
--- src/lib.rt:245:9
 lines-holds : tie.Need-lines-holds Inv-fields μ-fields Inv-sizes μ-sizes Inv-lines μ-lines
 unfolding nothing noTable
 lines-holds c = lines-start _ _ _ refl (rw (c .before .none .ensures, c .no-marks .ensures)) (omega arith)
 
--- src/lib.rt:246:13
 line-of-requires :
     tie.Need-line-of-requires Inv-fields μ-fields Inv-sizes μ-sizes Inv-lines μ-lines
 line-of-requires c κs = tt
 
--- src/lib.rt:249:30
 refused-requires :
     tie.Need-refused-requires Inv-fields μ-fields Inv-sizes μ-sizes Inv-lines μ-lines
 refused-requires c κs = tt
 
--- src/lib.rt:252:30
 refused-requires-2 :
     tie.Need-refused-requires-2 Inv-fields μ-fields Inv-sizes μ-sizes Inv-lines μ-lines
 refused-requires-2 c κs = tt
 
--- src/lib.rt:254:26
 whole-requires : tie.Need-whole-requires Inv-fields μ-fields Inv-sizes μ-sizes Inv-lines μ-lines
 whole-requires c κs = tt
 
--- src/lib.rt:256:13
 find-requires : tie.Need-find-requires Inv-fields μ-fields Inv-sizes μ-sizes Inv-lines μ-lines
 find-requires c κs = let z = (c .before .line-of .ensures .0 (c .before .before .lines .inv .low)) in omega arith
 
--- src/lib.rt:257:34
 sub-kind-in : tie.Need-sub-kind-in Inv-fields μ-fields Inv-sizes μ-sizes Inv-lines μ-lines
 sub-kind-in c = c .find .ensures .low
 
--- src/lib.rt:257:34
 part-kind-in-start :
     tie.Need-part-kind-in-start Inv-fields μ-fields Inv-sizes μ-sizes Inv-lines μ-lines
 part-kind-in-start c = c .find .ensures .low
 
--- src/lib.rt:257:34
 part-kind-in-end :
     tie.Need-part-kind-in-end Inv-fields μ-fields Inv-sizes μ-sizes Inv-lines μ-lines
 part-kind-in-end c = let z = (c .before .before .line-of .ensures .0 (c .before .before .before .lines .inv .low)) in omega (arith, c .find .ensures .high)
 
--- src/lib.rt:257:13
 kind-in-requires :
     tie.Need-kind-in-requires Inv-fields μ-fields Inv-sizes μ-sizes Inv-lines μ-lines
 kind-in-requires c κs = tt
 
--- src/lib.rt:259:26
 refused-requires-3 :
     tie.Need-refused-requires-3 Inv-fields μ-fields Inv-sizes μ-sizes Inv-lines μ-lines
 refused-requires-3 c κs = tt
 
--- src/lib.rt:261:13
 count-requires : tie.Need-count-requires Inv-fields μ-fields Inv-sizes μ-sizes Inv-lines μ-lines
 count-requires c κs = c .before .kind-in .ensures .1
 
--- src/lib.rt:265:9
 fields-holds : tie.Need-fields-holds Inv-fields μ-fields Inv-sizes μ-sizes Inv-lines μ-lines
 unfolding part
 fields-holds c = fields-start _ _ _ _ _ _ _ _ _ (record { lines = c .before .before .before .before .before .before .before .lines .inv; end = c .before .before .before .before .before .before .line-of .ensures .0 (c .before .before .before .before .before .before .before .lines .inv .low); inside = (let z = (c .before .before .before .before .before .before .line-of .ensures .0 (c .before .before .before .before .before .before .before .lines .inv .low)) in omega (arith, c .before .before .before .before .before .if1 .left)); name = c .before .before .before .before .find .ensures; kind = c .before .before .kind-in .ensures .0 }) _ (record { known = omega (arith, c .before .if4 .left); few = c .before .before .kind-in .ensures .1; count = c .count .ensures .0; nine = c .count .ensures .1 })
 
--- src/lib.rt:266:21
 add-a : tie.Need-add-a Inv-fields μ-fields Inv-sizes μ-sizes Inv-lines μ-lines
 add-a c = field-next _ _ _ _ _ _ _ _ _ _ _ _ _ (c .before .fields .inv) (c .fields-test .taken)
 
--- src/lib.rt:267:17
 find-requires-2 : tie.Need-find-requires-2 Inv-fields μ-fields Inv-sizes μ-sizes Inv-lines μ-lines
 find-requires-2 c κs = field-part _ _ _ _ _ _ _ _ _ _ _ _ _ (c .before .fields .inv) (c .fields-test .taken)
 
--- src/lib.rt:268:40
 sub-number-in : tie.Need-sub-number-in Inv-fields μ-fields Inv-sizes μ-sizes Inv-lines μ-lines
 sub-number-in c = c .find2 .ensures .low
 
--- src/lib.rt:268:40
 part-number-in-start :
     tie.Need-part-number-in-start Inv-fields μ-fields Inv-sizes μ-sizes Inv-lines μ-lines
 part-number-in-start c = c .find2 .ensures .low
 
--- src/lib.rt:268:40
 part-number-in-end :
     tie.Need-part-number-in-end Inv-fields μ-fields Inv-sizes μ-sizes Inv-lines μ-lines
 part-number-in-end c = field-end _ _ _ _ _ _ _ _ _ _ _ _ _ (c .before .before .fields .inv) _ (c .find2 .ensures .high)
 
--- src/lib.rt:268:17
 number-in-requires :
     tie.Need-number-in-requires Inv-fields μ-fields Inv-sizes μ-sizes Inv-lines μ-lines
 number-in-requires c κs = tt
 
--- src/lib.rt:270:30
 refused-requires-4 :
     tie.Need-refused-requires-4 Inv-fields μ-fields Inv-sizes μ-sizes Inv-lines μ-lines
 refused-requires-4 c κs = tt
 
--- src/lib.rt:273:30
 refused-requires-5 :
     tie.Need-refused-requires-5 Inv-fields μ-fields Inv-sizes μ-sizes Inv-lines μ-lines
 refused-requires-5 c κs = tt
 
--- src/lib.rt:275:13
 mul-v : tie.Need-mul-v Inv-fields μ-fields Inv-sizes μ-sizes Inv-lines μ-lines
 mul-v c = field-stride _ _ _ _ _ _ _ _ _ _ _ _ _ (c .before .before .before .before .before .before .fields .inv) (c .before .if5 .left)
 
--- src/lib.rt:275:13
 array-write-v : tie.Need-array-write-v Inv-fields μ-fields Inv-sizes μ-sizes Inv-lines μ-lines
 array-write-v c = field-place _ _ _ _ _ _ _ _ _ _ _ _ _ (c .before .before .before .before .before .before .fields .inv) (c .before .if5 .left)
 
--- src/lib.rt:276:13
 add-f : tie.Need-add-f Inv-fields μ-fields Inv-sizes μ-sizes Inv-lines μ-lines
 add-f c = field-count _ _ _ _ _ _ _ _ _ _ _ _ _ (c .before .before .before .before .before .before .fields .inv) (c .before .if5 .left)
 
--- src/lib.rt:265:9
 fields-less : tie.Need-fields-less Inv-fields μ-fields Inv-sizes μ-sizes Inv-lines μ-lines
 fields-less c = fields-shrink _ _ _ (c .before .before .before .before .before .fields-test .taken) (c .before .before .before .before .find2 .ensures .low)
 
--- src/lib.rt:265:9
 fields-again : tie.Need-fields-again Inv-fields μ-fields Inv-sizes μ-sizes Inv-lines μ-lines
 unfolding part
 fields-again c = fields-turn _ _ _ _ _ _ _ _ _ _ _ _ _ (c .before .before .before .before .before .before .fields .inv) _ _ (c .before .before .before .before .before .fields-test .taken) (c .before .before .before .before .find2 .ensures) (c .before .before .number-in .ensures) (c .before .if5 .left) (c .if6 .left)
 
--- src/lib.rt:280:26
 refused-requires-6 :
     tie.Need-refused-requires-6 Inv-fields μ-fields Inv-sizes μ-sizes Inv-lines μ-lines
 refused-requires-6 c κs = tt
 
--- src/lib.rt:283:9
 sizes-holds : tie.Need-sizes-holds Inv-fields μ-fields Inv-sizes μ-sizes Inv-lines μ-lines
 sizes-holds c = sizes-start _ _ _ _ _ _ _ _ _ _ _ (fields-end _ _ _ _ _ _ _ _ _ _ _ _ _ (c .before .before .fields .inv) (c .before .fields-test .left) (c .if7 .left))
 
--- src/lib.rt:284:37
 mul-fits : tie.Need-mul-fits Inv-fields μ-fields Inv-sizes μ-sizes Inv-lines μ-lines
 mul-fits c = size-stride _ _ _ _ _ _ _ _ _ _ _ _ (c .before .sizes .inv) (c .sizes-test .taken)
 
--- src/lib.rt:284:37
 array-read-fits : tie.Need-array-read-fits Inv-fields μ-fields Inv-sizes μ-sizes Inv-lines μ-lines
 array-read-fits c = size-place _ _ _ _ _ _ _ _ _ _ _ _ (c .before .sizes .inv) (c .sizes-test .taken)
 
--- src/lib.rt:284:17
 fits-requires : tie.Need-fits-requires Inv-fields μ-fields Inv-sizes μ-sizes Inv-lines μ-lines
 fits-requires c κs = size-known _ _ _ _ _ _ _ _ _ _ _ _ (c .before .sizes .inv) (c .sizes-test .taken)
 
--- src/lib.rt:285:30
 refused-requires-7 :
     tie.Need-refused-requires-7 Inv-fields μ-fields Inv-sizes μ-sizes Inv-lines μ-lines
 refused-requires-7 c κs = tt
 
--- src/lib.rt:287:13
 add-j : tie.Need-add-j Inv-fields μ-fields Inv-sizes μ-sizes Inv-lines μ-lines
 add-j c = size-count _ _ _ _ _ _ _ _ _ _ _ _ (c .before .before .before .sizes .inv) (c .before .before .sizes-test .taken)
 
--- src/lib.rt:283:9
 sizes-less : tie.Need-sizes-less Inv-fields μ-fields Inv-sizes μ-sizes Inv-lines μ-lines
 sizes-less c = sizes-shrink _ _ (c .before .before .sizes-test .taken)
 
--- src/lib.rt:283:9
 sizes-again : tie.Need-sizes-again Inv-fields μ-fields Inv-sizes μ-sizes Inv-lines μ-lines
 sizes-again c = sizes-on _ _ _ _ _ _ _ _ _ _ _ _ (c .before .before .before .sizes .inv) (c .before .before .sizes-test .taken) (sym (not-false _ (c .if8 .left)) ∙ c .before .fits2 .ensures)
 
--- src/lib.rt:289:13
 on-time-requires :
     tie.Need-on-time-requires Inv-fields μ-fields Inv-sizes μ-sizes Inv-lines μ-lines
 on-time-requires c κs = tt
 
--- src/lib.rt:290:26
 refused-requires-8 :
     tie.Need-refused-requires-8 Inv-fields μ-fields Inv-sizes μ-sizes Inv-lines μ-lines
 refused-requires-8 c κs = tt
 
--- src/lib.rt:292:13
 place-of-requires :
     tie.Need-place-of-requires Inv-fields μ-fields Inv-sizes μ-sizes Inv-lines μ-lines
 place-of-requires c κs = (c .before .before .before .sizes .inv .line-shape .sort .few, c .before .before .before .sizes .inv .line-shape .small)
 
--- src/lib.rt:293:13
 in-order-requires :
     tie.Need-in-order-requires Inv-fields μ-fields Inv-sizes μ-sizes Inv-lines μ-lines
 in-order-requires c κs = tt
 
--- src/lib.rt:294:26
 refused-requires-9 :
     tie.Need-refused-requires-9 Inv-fields μ-fields Inv-sizes μ-sizes Inv-lines μ-lines
 refused-requires-9 c κs = tt
 
--- src/lib.rt:296:17
 bytes-of-requires :
     tie.Need-bytes-of-requires Inv-fields μ-fields Inv-sizes μ-sizes Inv-lines μ-lines
 bytes-of-requires c κs = bytes _ _ _ _ _ _ _ _ _ _ _ (c .before .before .before .before .before .before .sizes .inv .line-shape) (sizes-end _ _ _ _ _ _ _ _ _ _ _ _ (c .before .before .before .before .before .before .sizes .inv) (c .before .before .before .before .before .sizes-test .left))
 
--- src/lib.rt:297:23
 above-after-requires :
     tie.Need-above-after-requires Inv-fields μ-fields Inv-sizes μ-sizes Inv-lines μ-lines
 above-after-requires c κs = (c .before .before .before .before .before .before .before .sizes .inv .line-shape .sort .few, c .before .before .before .before .before .before .before .sizes .inv .line-shape .sort .nine)
 
--- src/lib.rt:299:14
 add-at : tie.Need-add-at Inv-fields μ-fields Inv-sizes μ-sizes Inv-lines μ-lines
 add-at c = next-at _ _ _ _ _ _ _ _ _ _ _ (c .before .before .before .before .before .before .before .before .sizes .inv .line-shape)
 
--- src/lib.rt:300:9
 add-line : tie.Need-add-line Inv-fields μ-fields Inv-sizes μ-sizes Inv-lines μ-lines
 add-line c = next-count _ _ _ _ _ _ _ _ _ _ _ (c .before .before .before .before .before .before .before .before .sizes .inv .line-shape)
 
--- src/lib.rt:302:23
 array-read-g : tie.Need-array-read-g Inv-fields μ-fields Inv-sizes μ-sizes Inv-lines μ-lines
 array-read-g c = nine-1
 
--- src/lib.rt:303:23
 array-read-g-2 : tie.Need-array-read-g-2 Inv-fields μ-fields Inv-sizes μ-sizes Inv-lines μ-lines
 array-read-g-2 c = nine-2
 
--- src/lib.rt:304:24
 array-read-g-3 : tie.Need-array-read-g-3 Inv-fields μ-fields Inv-sizes μ-sizes Inv-lines μ-lines
 array-read-g-3 c = nine-3
 
--- src/lib.rt:245:9
 lines-less : tie.Need-lines-less Inv-fields μ-fields Inv-sizes μ-sizes Inv-lines μ-lines
 lines-less c = lines-shrink _ _ _ _ _ _ _ _ _ _ _ (c .before .before .before .before .before .before .before .before .before .sizes .inv .line-shape)
 
--- src/lib.rt:245:9
 lines-again : tie.Need-lines-again Inv-fields μ-fields Inv-sizes μ-sizes Inv-lines μ-lines
 lines-again c = next-line _ _ _ _ _ _ _ _ _ _ _ (c .before .before .before .before .before .before .before .before .before .sizes .inv .line-shape) (sizes-end _ _ _ _ _ _ _ _ _ _ _ _ (c .before .before .before .before .before .before .before .before .before .sizes .inv) (c .before .before .before .before .before .before .before .before .sizes-test .left)) (sym (not-false _ (c .before .before .before .before .before .before .if9 .left)) ∙ c .before .before .before .before .before .before .before .on-time .ensures) _ (c .before .before .before .before .before .place-of .ensures) (sym (not-false _ (c .before .before .before .if10 .left)) ∙ c .before .before .before .before .in-order .ensures) _ (store-counts _ _ _ _ _ _ _ _ (c .before .before .bytes-of .ensures) (c .before .before .before .before .before .before .before .before .before .sizes .inv .line-shape .sort .count) (c .before .above-after .ensures) (c .if11 .taken))
 
--- src/lib.rt:308:17
 task-place-requires :
     tie.Need-task-place-requires Inv-fields μ-fields Inv-sizes μ-sizes Inv-lines μ-lines
 unfolding highOf highs countOf counts
 task-place-requires c κs = number-most _ _ _ _ _ _ _ _ _ _ _ (c .before .before .before .before .before .before .before .before .before .before .sizes .inv .line-shape) (sizes-end _ _ _ _ _ _ _ _ _ _ _ _ (c .before .before .before .before .before .before .before .before .before .before .sizes .inv) (c .before .before .before .before .before .before .before .before .before .sizes-test .left)) _ (c .before .before .before .bytes-of .ensures) 0 2 (c .if12 .taken) (omega arith)
 
--- src/lib.rt:309:31
 array-read-g-4 : tie.Need-array-read-g-4 Inv-fields μ-fields Inv-sizes μ-sizes Inv-lines μ-lines
 array-read-g-4 c = nine-1
 
--- src/lib.rt:309:13
 element-write-g : tie.Need-element-write-g Inv-fields μ-fields Inv-sizes μ-sizes Inv-lines μ-lines
 element-write-g c = c .task-place .ensures .1
 
--- src/lib.rt:310:29
 array-read-g-5 : tie.Need-array-read-g-5 Inv-fields μ-fields Inv-sizes μ-sizes Inv-lines μ-lines
 array-read-g-5 c = nine-2
 
--- src/lib.rt:310:13
 element-write-g-2 :
     tie.Need-element-write-g-2 Inv-fields μ-fields Inv-sizes μ-sizes Inv-lines μ-lines
 element-write-g-2 c = c .task-place .ensures .1
 
--- src/lib.rt:311:31
 array-read-g-6 : tie.Need-array-read-g-6 Inv-fields μ-fields Inv-sizes μ-sizes Inv-lines μ-lines
 array-read-g-6 c = nine-3
 
--- src/lib.rt:311:13
 element-write-g-3 :
     tie.Need-element-write-g-3 Inv-fields μ-fields Inv-sizes μ-sizes Inv-lines μ-lines
 element-write-g-3 c = c .task-place .ensures .1
 
--- src/lib.rt:312:31
 array-read-g-7 : tie.Need-array-read-g-7 Inv-fields μ-fields Inv-sizes μ-sizes Inv-lines μ-lines
 array-read-g-7 c = nine-4
 
--- src/lib.rt:312:13
 element-write-g-4 :
     tie.Need-element-write-g-4 Inv-fields μ-fields Inv-sizes μ-sizes Inv-lines μ-lines
 element-write-g-4 c = c .task-place .ensures .1
 
--- src/lib.rt:313:13
 element-write-marks :
     tie.Need-element-write-marks Inv-fields μ-fields Inv-sizes μ-sizes Inv-lines μ-lines
 element-write-marks c = c .task-place .ensures .1
 
--- src/lib.rt:245:9
 lines-less-2 : tie.Need-lines-less-2 Inv-fields μ-fields Inv-sizes μ-sizes Inv-lines μ-lines
 lines-less-2 c = lines-shrink _ _ _ _ _ _ _ _ _ _ _ (c .before .before .before .before .before .before .before .before .before .before .before .sizes .inv .line-shape)
 
--- src/lib.rt:245:9
 lines-again-2 : tie.Need-lines-again-2 Inv-fields μ-fields Inv-sizes μ-sizes Inv-lines μ-lines
 lines-again-2 c = next-line _ _ _ _ _ _ _ _ _ _ _ (c .before .before .before .before .before .before .before .before .before .before .before .sizes .inv .line-shape) (sizes-end _ _ _ _ _ _ _ _ _ _ _ _ (c .before .before .before .before .before .before .before .before .before .before .before .sizes .inv) (c .before .before .before .before .before .before .before .before .before .before .sizes-test .left)) (sym (not-false _ (c .before .before .before .before .before .before .before .before .if9 .left)) ∙ c .before .before .before .before .before .before .before .before .before .on-time .ensures) _ (c .before .before .before .before .before .before .before .place-of .ensures) (sym (not-false _ (c .before .before .before .before .before .if10 .left)) ∙ c .before .before .before .before .before .before .in-order .ensures) _ (store-task _ _ _ _ _ _ _ _ (c .before .before .before .before .bytes-of .ensures) (c .before .before .before .before .before .before .before .before .before .before .before .sizes .inv .line-shape .sort .count) (c .before .before .before .above-after .ensures) (c .before .before .if11 .left) (c .before .if12 .taken) _ (c .task-place .ensures .0))
 
--- src/lib.rt:317:17
 condition-place-requires :
     tie.Need-condition-place-requires Inv-fields μ-fields Inv-sizes μ-sizes Inv-lines μ-lines
 unfolding highOf highs countOf counts
 condition-place-requires c κs = (number-most _ _ _ _ _ _ _ _ _ _ _ (c .before .before .before .before .before .before .before .before .before .before .before .sizes .inv .line-shape) (sizes-end _ _ _ _ _ _ _ _ _ _ _ _ (c .before .before .before .before .before .before .before .before .before .before .before .sizes .inv) (c .before .before .before .before .before .before .before .before .before .before .sizes-test .left)) _ (c .before .before .before .before .bytes-of .ensures) 0 3 (c .if13 .taken) (omega arith), number-most _ _ _ _ _ _ _ _ _ _ _ (c .before .before .before .before .before .before .before .before .before .before .before .sizes .inv .line-shape) (sizes-end _ _ _ _ _ _ _ _ _ _ _ _ (c .before .before .before .before .before .before .before .before .before .before .before .sizes .inv) (c .before .before .before .before .before .before .before .before .before .before .sizes-test .left)) _ (c .before .before .before .before .bytes-of .ensures) 1 3 (c .if13 .taken) (omega arith))
 
--- src/lib.rt:318:13
 element-write-g-5 :
     tie.Need-element-write-g-5 Inv-fields μ-fields Inv-sizes μ-sizes Inv-lines μ-lines
 element-write-g-5 c = c .condition-place .ensures .1
 
--- src/lib.rt:319:28
 array-read-g-8 : tie.Need-array-read-g-8 Inv-fields μ-fields Inv-sizes μ-sizes Inv-lines μ-lines
 array-read-g-8 c = nine-2
 
--- src/lib.rt:319:13
 element-write-g-6 :
     tie.Need-element-write-g-6 Inv-fields μ-fields Inv-sizes μ-sizes Inv-lines μ-lines
 element-write-g-6 c = c .condition-place .ensures .1
 
--- src/lib.rt:320:28
 array-read-g-9 : tie.Need-array-read-g-9 Inv-fields μ-fields Inv-sizes μ-sizes Inv-lines μ-lines
 array-read-g-9 c = nine-3
 
--- src/lib.rt:320:13
 element-write-g-7 :
     tie.Need-element-write-g-7 Inv-fields μ-fields Inv-sizes μ-sizes Inv-lines μ-lines
 element-write-g-7 c = c .condition-place .ensures .1
 
--- src/lib.rt:245:9
 lines-less-3 : tie.Need-lines-less-3 Inv-fields μ-fields Inv-sizes μ-sizes Inv-lines μ-lines
 lines-less-3 c = lines-shrink _ _ _ _ _ _ _ _ _ _ _ (c .before .before .before .before .before .before .before .before .before .before .before .before .sizes .inv .line-shape)
 
--- src/lib.rt:245:9
 lines-again-3 : tie.Need-lines-again-3 Inv-fields μ-fields Inv-sizes μ-sizes Inv-lines μ-lines
 lines-again-3 c = next-line _ _ _ _ _ _ _ _ _ _ _ (c .before .before .before .before .before .before .before .before .before .before .before .before .sizes .inv .line-shape) (sizes-end _ _ _ _ _ _ _ _ _ _ _ _ (c .before .before .before .before .before .before .before .before .before .before .before .before .sizes .inv) (c .before .before .before .before .before .before .before .before .before .before .before .sizes-test .left)) (sym (not-false _ (c .before .before .before .before .before .before .before .before .before .if9 .left)) ∙ c .before .before .before .before .before .before .before .before .before .before .on-time .ensures) _ (c .before .before .before .before .before .before .before .before .place-of .ensures) (sym (not-false _ (c .before .before .before .before .before .before .if10 .left)) ∙ c .before .before .before .before .before .before .before .in-order .ensures) _ (store-condition _ _ _ _ _ _ _ _ (c .before .before .before .before .before .bytes-of .ensures) (c .before .before .before .before .before .before .before .before .before .before .before .before .sizes .inv .line-shape .sort .count) (c .before .before .before .before .above-after .ensures) (c .before .before .before .if11 .left) (c .before .before .if12 .left) (c .before .if13 .taken) _ (c .condition-place .ensures .0))
 
--- src/lib.rt:324:17
 wide16-requires : tie.Need-wide16-requires Inv-fields μ-fields Inv-sizes μ-sizes Inv-lines μ-lines
 wide16-requires c κs = tt
 
--- src/lib.rt:326:30
 array-read-g-10 : tie.Need-array-read-g-10 Inv-fields μ-fields Inv-sizes μ-sizes Inv-lines μ-lines
 array-read-g-10 c = nine-0
 
--- src/lib.rt:326:17
 element-write-g-8 :
     tie.Need-element-write-g-8 Inv-fields μ-fields Inv-sizes μ-sizes Inv-lines μ-lines
 element-write-g-8 c = c .if15 .taken
 
--- src/lib.rt:327:29
 array-read-g-11 : tie.Need-array-read-g-11 Inv-fields μ-fields Inv-sizes μ-sizes Inv-lines μ-lines
 array-read-g-11 c = nine-1
 
--- src/lib.rt:327:17
 element-write-g-9 :
     tie.Need-element-write-g-9 Inv-fields μ-fields Inv-sizes μ-sizes Inv-lines μ-lines
 element-write-g-9 c = c .if15 .taken
 
--- src/lib.rt:328:30
 array-read-g-12 : tie.Need-array-read-g-12 Inv-fields μ-fields Inv-sizes μ-sizes Inv-lines μ-lines
 array-read-g-12 c = nine-2
 
--- src/lib.rt:328:17
 element-write-g-10 :
     tie.Need-element-write-g-10 Inv-fields μ-fields Inv-sizes μ-sizes Inv-lines μ-lines
 element-write-g-10 c = c .if15 .taken
 
--- src/lib.rt:329:17
 add-g : tie.Need-add-g Inv-fields μ-fields Inv-sizes μ-sizes Inv-lines μ-lines
 add-g c = line-fits _ _ (c .before .wide16 .ensures) (c .if15 .taken)
 
--- src/lib.rt:245:9
 lines-less-4 : tie.Need-lines-less-4 Inv-fields μ-fields Inv-sizes μ-sizes Inv-lines μ-lines
 lines-less-4 c = lines-shrink _ _ _ _ _ _ _ _ _ _ _ (c .before .before .before .before .before .before .before .before .before .before .before .before .before .before .sizes .inv .line-shape)
 
--- src/lib.rt:245:9
 lines-again-4 : tie.Need-lines-again-4 Inv-fields μ-fields Inv-sizes μ-sizes Inv-lines μ-lines
 lines-again-4 c = next-line _ _ _ _ _ _ _ _ _ _ _ (c .before .before .before .before .before .before .before .before .before .before .before .before .before .before .sizes .inv .line-shape) (sizes-end _ _ _ _ _ _ _ _ _ _ _ _ (c .before .before .before .before .before .before .before .before .before .before .before .before .before .before .sizes .inv) (c .before .before .before .before .before .before .before .before .before .before .before .before .before .sizes-test .left)) (sym (not-false _ (c .before .before .before .before .before .before .before .before .before .before .before .if9 .left)) ∙ c .before .before .before .before .before .before .before .before .before .before .before .before .on-time .ensures) _ (c .before .before .before .before .before .before .before .before .before .before .place-of .ensures) (sym (not-false _ (c .before .before .before .before .before .before .before .before .if10 .left)) ∙ c .before .before .before .before .before .before .before .before .before .in-order .ensures) _ (store-line _ _ _ _ _ _ _ _ (c .before .before .before .before .before .before .before .bytes-of .ensures) (c .before .before .before .before .before .before .before .before .before .before .before .before .before .before .sizes .inv .line-shape .sort .count) (c .before .before .before .before .before .before .above-after .ensures) (c .before .before .before .before .before .if11 .left) (c .before .before .before .before .if12 .left) (c .before .before .before .if13 .left) (c .before .before .if14 .taken) _ (c .before .wide16 .ensures) (c .if15 .taken))
 
--- src/lib.rt:245:9
 lines-less-5 : tie.Need-lines-less-5 Inv-fields μ-fields Inv-sizes μ-sizes Inv-lines μ-lines
 lines-less-5 c = lines-shrink _ _ _ _ _ _ _ _ _ _ _ (c .before .before .before .before .before .before .before .before .before .before .before .before .before .before .sizes .inv .line-shape)
 
--- src/lib.rt:245:9
 lines-again-5 : tie.Need-lines-again-5 Inv-fields μ-fields Inv-sizes μ-sizes Inv-lines μ-lines
 lines-again-5 c = next-line _ _ _ _ _ _ _ _ _ _ _ (c .before .before .before .before .before .before .before .before .before .before .before .before .before .before .sizes .inv .line-shape) (sizes-end _ _ _ _ _ _ _ _ _ _ _ _ (c .before .before .before .before .before .before .before .before .before .before .before .before .before .before .sizes .inv) (c .before .before .before .before .before .before .before .before .before .before .before .before .before .sizes-test .left)) (sym (not-false _ (c .before .before .before .before .before .before .before .before .before .before .before .if9 .left)) ∙ c .before .before .before .before .before .before .before .before .before .before .before .before .on-time .ensures) _ (c .before .before .before .before .before .before .before .before .before .before .place-of .ensures) (sym (not-false _ (c .before .before .before .before .before .before .before .before .if10 .left)) ∙ c .before .before .before .before .before .before .before .before .before .in-order .ensures) _ (store-many _ _ _ _ _ _ _ _ (c .before .before .before .before .before .before .before .bytes-of .ensures) (c .before .before .before .before .before .before .before .before .before .before .before .before .before .before .sizes .inv .line-shape .sort .count) (c .before .before .before .before .before .before .above-after .ensures) (c .before .before .before .before .before .if11 .left) (c .before .before .before .before .if12 .left) (c .before .before .before .if13 .left) (c .before .before .if14 .taken) _ (c .before .wide16 .ensures) (c .if15 .left))
 
--- src/lib.rt:336:17
 cycle-place-requires :
     tie.Need-cycle-place-requires Inv-fields μ-fields Inv-sizes μ-sizes Inv-lines μ-lines
 unfolding highOf highs countOf counts
 cycle-place-requires c κs = number-most _ _ _ _ _ _ _ _ _ _ _ (c .before .before .before .before .before .before .before .before .before .before .before .before .before .sizes .inv .line-shape) (sizes-end _ _ _ _ _ _ _ _ _ _ _ _ (c .before .before .before .before .before .before .before .before .before .before .before .before .before .sizes .inv) (c .before .before .before .before .before .before .before .before .before .before .before .before .sizes-test .left)) _ (c .before .before .before .before .before .before .bytes-of .ensures) 0 5 (c .if16 .taken) (omega arith)
 
--- src/lib.rt:337:26
 element-copy-out-wide :
     tie.Need-element-copy-out-wide Inv-fields μ-fields Inv-sizes μ-sizes Inv-lines μ-lines
 element-copy-out-wide c = c .cycle-place .ensures .1
 
--- src/lib.rt:337:17
 wide-requires : tie.Need-wide-requires Inv-fields μ-fields Inv-sizes μ-sizes Inv-lines μ-lines
 wide-requires c κs = tt
 
--- src/lib.rt:339:31
 array-read-table :
     tie.Need-array-read-table Inv-fields μ-fields Inv-sizes μ-sizes Inv-lines μ-lines
 array-read-table c = nine-1
 
--- src/lib.rt:339:17
 mul-table : tie.Need-mul-table Inv-fields μ-fields Inv-sizes μ-sizes Inv-lines μ-lines
 mul-table c = flag-place _ (c .before .before .before .cycle-place .ensures .1)
 
--- src/lib.rt:339:17
 index-1-table : tie.Need-index-1-table Inv-fields μ-fields Inv-sizes μ-sizes Inv-lines μ-lines
 index-1-table c = c .before .before .before .cycle-place .ensures .1
 
--- src/lib.rt:339:17
 index-2-table : tie.Need-index-2-table Inv-fields μ-fields Inv-sizes μ-sizes Inv-lines μ-lines
 index-2-table c = c .if17 .taken
 
--- src/lib.rt:340:35
 element-copy-out-marks :
     tie.Need-element-copy-out-marks Inv-fields μ-fields Inv-sizes μ-sizes Inv-lines μ-lines
 element-copy-out-marks c = c .before .before .before .cycle-place .ensures .1
 
--- src/lib.rt:340:35
 add-marks : tie.Need-add-marks Inv-fields μ-fields Inv-sizes μ-sizes Inv-lines μ-lines
 add-marks c = flag-fits _ _ (c .before .before .wide .ensures) (c .before .if17 .taken)
 
--- src/lib.rt:340:17
 element-write-marks-2 :
     tie.Need-element-write-marks-2 Inv-fields μ-fields Inv-sizes μ-sizes Inv-lines μ-lines
 element-write-marks-2 c = c .before .before .before .before .cycle-place .ensures .1
 
--- src/lib.rt:245:9
 lines-less-6 : tie.Need-lines-less-6 Inv-fields μ-fields Inv-sizes μ-sizes Inv-lines μ-lines
 lines-less-6 c = lines-shrink _ _ _ _ _ _ _ _ _ _ _ (c .before .before .before .before .before .before .before .before .before .before .before .before .before .before .before .before .before .before .sizes .inv .line-shape)
 
--- src/lib.rt:245:9
 lines-again-6 : tie.Need-lines-again-6 Inv-fields μ-fields Inv-sizes μ-sizes Inv-lines μ-lines
 lines-again-6 c = next-line _ _ _ _ _ _ _ _ _ _ _ (c .before .before .before .before .before .before .before .before .before .before .before .before .before .before .before .before .before .before .sizes .inv .line-shape) (sizes-end _ _ _ _ _ _ _ _ _ _ _ _ (c .before .before .before .before .before .before .before .before .before .before .before .before .before .before .before .before .before .before .sizes .inv) (c .before .before .before .before .before .before .before .before .before .before .before .before .before .before .before .before .before .sizes-test .left)) (sym (not-false _ (c .before .before .before .before .before .before .before .before .before .before .before .before .before .before .before .if9 .left)) ∙ c .before .before .before .before .before .before .before .before .before .before .before .before .before .before .before .before .on-time .ensures) _ (c .before .before .before .before .before .before .before .before .before .before .before .before .before .before .place-of .ensures) (sym (not-false _ (c .before .before .before .before .before .before .before .before .before .before .before .before .if10 .left)) ∙ c .before .before .before .before .before .before .before .before .before .before .before .before .before .in-order .ensures) _ (store-flag _ _ _ _ _ _ _ _ (c .before .before .before .before .before .before .before .before .before .before .before .bytes-of .ensures) (c .before .before .before .before .before .before .before .before .before .before .before .before .before .before .before .before .before .before .sizes .inv .line-shape .sort .count) (c .before .before .before .before .before .before .before .before .before .before .above-after .ensures) (c .before .before .before .before .before .before .before .before .before .if11 .left) (c .before .before .before .before .before .before .before .before .if12 .left) (c .before .before .before .before .before .before .before .if13 .left) (c .before .before .before .before .before .before .if14 .left) (c .before .before .before .before .before .if16 .taken) _ _ _ (c .before .before .before .before .cycle-place .ensures .0) (c .before .before .wide .ensures) (sym (c .before .before .wide .ensures)) (c .before .if17 .taken))
 
--- src/lib.rt:245:9
 lines-less-7 : tie.Need-lines-less-7 Inv-fields μ-fields Inv-sizes μ-sizes Inv-lines μ-lines
 lines-less-7 c = lines-shrink _ _ _ _ _ _ _ _ _ _ _ (c .before .before .before .before .before .before .before .before .before .before .before .before .before .before .before .before .before .sizes .inv .line-shape)
 
--- src/lib.rt:245:9
 lines-again-7 : tie.Need-lines-again-7 Inv-fields μ-fields Inv-sizes μ-sizes Inv-lines μ-lines
 lines-again-7 c = next-line _ _ _ _ _ _ _ _ _ _ _ (c .before .before .before .before .before .before .before .before .before .before .before .before .before .before .before .before .before .sizes .inv .line-shape) (sizes-end _ _ _ _ _ _ _ _ _ _ _ _ (c .before .before .before .before .before .before .before .before .before .before .before .before .before .before .before .before .before .sizes .inv) (c .before .before .before .before .before .before .before .before .before .before .before .before .before .before .before .before .sizes-test .left)) (sym (not-false _ (c .before .before .before .before .before .before .before .before .before .before .before .before .before .before .if9 .left)) ∙ c .before .before .before .before .before .before .before .before .before .before .before .before .before .before .before .on-time .ensures) _ (c .before .before .before .before .before .before .before .before .before .before .before .before .before .place-of .ensures) (sym (not-false _ (c .before .before .before .before .before .before .before .before .before .before .before .if10 .left)) ∙ c .before .before .before .before .before .before .before .before .before .before .before .before .in-order .ensures) _ (store-crowded _ _ _ _ _ _ _ _ (c .before .before .before .before .before .before .before .before .before .before .bytes-of .ensures) (c .before .before .before .before .before .before .before .before .before .before .before .before .before .before .before .before .before .sizes .inv .line-shape .sort .count) (c .before .before .before .before .before .before .before .before .before .above-after .ensures) (c .before .before .before .before .before .before .before .before .if11 .left) (c .before .before .before .before .before .before .before .if12 .left) (c .before .before .before .before .before .before .if13 .left) (c .before .before .before .before .before .if14 .left) (c .before .before .before .before .if16 .taken) _ _ (c .before .before .before .cycle-place .ensures .0) (c .before .wide .ensures) (c .if17 .left))
 
--- src/lib.rt:346:13
 wide-requires-2 : tie.Need-wide-requires-2 Inv-fields μ-fields Inv-sizes μ-sizes Inv-lines μ-lines
 wide-requires-2 c κs = tt
 
--- src/lib.rt:348:24
 row-of-requires : tie.Need-row-of-requires Inv-fields μ-fields Inv-sizes μ-sizes Inv-lines μ-lines
 row-of-requires c κs = tt
 
--- src/lib.rt:348:13
 mul-t138 : tie.Need-mul-t138 Inv-fields μ-fields Inv-sizes μ-sizes Inv-lines μ-lines
 mul-t138 c = row-place _ (c .before .if18 .taken)
 
--- src/lib.rt:348:13
 element-set-from-g :
     tie.Need-element-set-from-g Inv-fields μ-fields Inv-sizes μ-sizes Inv-lines μ-lines
 element-set-from-g c = c .before .if18 .taken
 
--- src/lib.rt:349:13
 add-g-2 : tie.Need-add-g-2 Inv-fields μ-fields Inv-sizes μ-sizes Inv-lines μ-lines
 add-g-2 c = row-fits _ _ (c .before .before .wide2 .ensures) (c .before .if18 .taken)
 
--- src/lib.rt:245:9
 lines-less-8 : tie.Need-lines-less-8 Inv-fields μ-fields Inv-sizes μ-sizes Inv-lines μ-lines
 lines-less-8 c = lines-shrink _ _ _ _ _ _ _ _ _ _ _ (c .before .before .before .before .before .before .before .before .before .before .before .before .before .before .before .before .sizes .inv .line-shape)
 
--- src/lib.rt:245:9
 lines-again-8 : tie.Need-lines-again-8 Inv-fields μ-fields Inv-sizes μ-sizes Inv-lines μ-lines
 lines-again-8 c = next-line _ _ _ _ _ _ _ _ _ _ _ (c .before .before .before .before .before .before .before .before .before .before .before .before .before .before .before .before .sizes .inv .line-shape) (sizes-end _ _ _ _ _ _ _ _ _ _ _ _ (c .before .before .before .before .before .before .before .before .before .before .before .before .before .before .before .before .sizes .inv) (c .before .before .before .before .before .before .before .before .before .before .before .before .before .before .before .sizes-test .left)) (sym (not-false _ (c .before .before .before .before .before .before .before .before .before .before .before .before .before .if9 .left)) ∙ c .before .before .before .before .before .before .before .before .before .before .before .before .before .before .on-time .ensures) _ (c .before .before .before .before .before .before .before .before .before .before .before .before .place-of .ensures) (sym (not-false _ (c .before .before .before .before .before .before .before .before .before .before .if10 .left)) ∙ c .before .before .before .before .before .before .before .before .before .before .before .in-order .ensures) _ (store-row _ _ _ _ _ _ _ _ (c .before .before .before .before .before .before .before .before .before .bytes-of .ensures) (c .before .before .before .before .before .before .before .before .before .before .before .before .before .before .before .before .sizes .inv .line-shape .sort .count) (c .before .before .before .before .before .before .before .before .above-after .ensures) (c .before .before .before .before .before .before .before .if11 .left) (c .before .before .before .before .before .before .if12 .left) (c .before .before .before .before .before .if13 .left) (c .before .before .before .before .if14 .left) (c .before .before .before .if16 .left) _ _ (c .before .before .wide2 .ensures) (c .row-of .ensures) (c .before .if18 .taken))
 
--- src/lib.rt:245:9
 lines-less-9 : tie.Need-lines-less-9 Inv-fields μ-fields Inv-sizes μ-sizes Inv-lines μ-lines
 lines-less-9 c = lines-shrink _ _ _ _ _ _ _ _ _ _ _ (c .before .before .before .before .before .before .before .before .before .before .before .before .before .before .before .sizes .inv .line-shape)
 
--- src/lib.rt:245:9
 lines-again-9 : tie.Need-lines-again-9 Inv-fields μ-fields Inv-sizes μ-sizes Inv-lines μ-lines
 lines-again-9 c = next-line _ _ _ _ _ _ _ _ _ _ _ (c .before .before .before .before .before .before .before .before .before .before .before .before .before .before .before .sizes .inv .line-shape) (sizes-end _ _ _ _ _ _ _ _ _ _ _ _ (c .before .before .before .before .before .before .before .before .before .before .before .before .before .before .before .sizes .inv) (c .before .before .before .before .before .before .before .before .before .before .before .before .before .before .sizes-test .left)) (sym (not-false _ (c .before .before .before .before .before .before .before .before .before .before .before .before .if9 .left)) ∙ c .before .before .before .before .before .before .before .before .before .before .before .before .before .on-time .ensures) _ (c .before .before .before .before .before .before .before .before .before .before .before .place-of .ensures) (sym (not-false _ (c .before .before .before .before .before .before .before .before .before .if10 .left)) ∙ c .before .before .before .before .before .before .before .before .before .before .in-order .ensures) _ (store-rows _ _ _ _ _ _ _ _ (c .before .before .before .before .before .before .before .before .bytes-of .ensures) (c .before .before .before .before .before .before .before .before .before .before .before .before .before .before .before .sizes .inv .line-shape .sort .count) (c .before .before .before .before .before .before .before .above-after .ensures) (c .before .before .before .before .before .before .if11 .left) (c .before .before .before .before .before .if12 .left) (c .before .before .before .before .if13 .left) (c .before .before .before .if14 .left) (c .before .before .if16 .left) _ (c .before .wide2 .ensures) (c .if18 .left))
 
--- src/lib.rt:235:1
 returns : tie.Need-returns Inv-fields μ-fields Inv-sizes μ-sizes Inv-lines μ-lines
 returns c = c .refused .ensures ∙ by-fault _ 0 _ (leave-open _ _ _ _ _ _ _ (c .before .before .before .before .lines .inv) (c .before .before .before .line-of .ensures .0 (c .before .before .before .before .lines .inv .low)) (c .before .before .if1 .taken) (c .before .if2 .taken))
 
--- src/lib.rt:235:1
 returns-2 : tie.Need-returns-2 Inv-fields μ-fields Inv-sizes μ-sizes Inv-lines μ-lines
 returns-2 c = c .refused2 .ensures ∙ by-fault _ 0 _ (leave-empty _ _ _ _ _ _ _ (c .before .before .before .before .before .lines .inv) (c .before .before .before .before .line-of .ensures .0 (c .before .before .before .before .before .lines .inv .low)) (c .before .before .before .if1 .taken) (c .before .if3 .taken))
 
--- src/lib.rt:235:1
 returns-3 : tie.Need-returns-3 Inv-fields μ-fields Inv-sizes μ-sizes Inv-lines μ-lines
 returns-3 c = c .whole .ensures ∙ whole-answer _ _ (leave-clean _ _ _ _ _ _ _ (c .before .before .before .before .before .lines .inv) (c .before .before .before .before .line-of .ensures .0 (c .before .before .before .before .before .lines .inv .low)) (c .before .before .before .if1 .taken) (c .before .before .if2 .left) (c .before .if3 .left)) (leave-built _ _ _ _ _ _ _ (c .before .before .before .before .before .lines .inv) (c .before .before .before .before .line-of .ensures .0 (c .before .before .before .before .before .lines .inv .low)) (c .before .before .before .if1 .taken))
 
--- src/lib.rt:235:1
 returns-4 : tie.Need-returns-4 Inv-fields μ-fields Inv-sizes μ-sizes Inv-lines μ-lines
 unfolding part
 returns-4 c = c .refused3 .ensures ∙ by-fault _ 0 _ (not-known _ _ _ _ _ _ _ _ _ (record { lines = c .before .before .before .before .before .before .before .lines .inv; end = c .before .before .before .before .before .before .line-of .ensures .0 (c .before .before .before .before .before .before .before .lines .inv .low); inside = (let z = (c .before .before .before .before .before .before .line-of .ensures .0 (c .before .before .before .before .before .before .before .lines .inv .low)) in omega (arith, c .before .before .before .before .before .if1 .left)); name = c .before .before .before .before .find .ensures; kind = c .before .before .kind-in .ensures .0 }) (c .before .if4 .taken))
 
--- src/lib.rt:235:1
 returns-5 : tie.Need-returns-5 Inv-fields μ-fields Inv-sizes μ-sizes Inv-lines μ-lines
 unfolding part
 returns-5 c = c .refused4 .ensures ∙ by-fault _ 0 _ (too-many _ _ _ _ _ _ _ _ _ _ _ _ _ (c .before .before .before .before .before .before .fields .inv) _ _ (c .before .before .before .before .before .fields-test .taken) (c .before .before .before .before .find2 .ensures) (c .before .before .number-in .ensures) (c .before .if5 .taken))
 
--- src/lib.rt:235:1
 returns-6 : tie.Need-returns-6 Inv-fields μ-fields Inv-sizes μ-sizes Inv-lines μ-lines
 unfolding part
 returns-6 c = c .refused5 .ensures ∙ by-fault _ 0 _ (no-number _ _ _ _ _ _ _ _ _ _ _ _ _ (c .before .before .before .before .before .before .before .fields .inv) _ _ (c .before .before .before .before .before .before .fields-test .taken) (c .before .before .before .before .before .find2 .ensures) (c .before .before .before .number-in .ensures) (c .before .if6 .taken))
 
--- src/lib.rt:235:1
 returns-7 : tie.Need-returns-7 Inv-fields μ-fields Inv-sizes μ-sizes Inv-lines μ-lines
 returns-7 c = c .refused6 .ensures ∙ by-fault _ 0 _ (too-few _ _ _ _ _ _ _ _ _ _ _ _ _ (c .before .before .before .fields .inv) (c .before .before .fields-test .left) (c .before .if7 .taken))
 
--- src/lib.rt:235:1
 returns-8 : tie.Need-returns-8 Inv-fields μ-fields Inv-sizes μ-sizes Inv-lines μ-lines
 returns-8 c = c .refused7 .ensures ∙ by-fault _ 1 _ (too-large _ _ _ _ _ _ _ _ _ _ _ _ (c .before .before .before .before .sizes .inv) (c .before .before .before .sizes-test .taken) (sym (not-true _ (c .before .if8 .taken)) ∙ c .before .before .fits2 .ensures))
 
--- src/lib.rt:235:1
 returns-9 : tie.Need-returns-9 Inv-fields μ-fields Inv-sizes μ-sizes Inv-lines μ-lines
 returns-9 c = c .refused8 .ensures ∙ by-fault _ 1 _ (untimed _ _ _ _ _ _ _ _ _ _ _ (c .before .before .before .before .sizes .inv .line-shape) (sizes-end _ _ _ _ _ _ _ _ _ _ _ _ (c .before .before .before .before .sizes .inv) (c .before .before .before .sizes-test .left)) (sym (not-true _ (c .before .if9 .taken)) ∙ c .before .before .on-time .ensures))
 
--- src/lib.rt:235:1
 returns-10 : tie.Need-returns-10 Inv-fields μ-fields Inv-sizes μ-sizes Inv-lines μ-lines
 returns-10 c = c .refused9 .ensures ∙ by-fault _ 2 _ (misplaced _ _ _ _ _ _ _ _ _ _ _ (c .before .before .before .before .before .before .before .sizes .inv .line-shape) (sizes-end _ _ _ _ _ _ _ _ _ _ _ _ (c .before .before .before .before .before .before .before .sizes .inv) (c .before .before .before .before .before .before .sizes-test .left)) (sym (not-false _ (c .before .before .before .before .if9 .left)) ∙ c .before .before .before .before .before .on-time .ensures) _ (c .before .before .before .place-of .ensures) (sym (not-true _ (c .before .if10 .taken)) ∙ c .before .before .in-order .ensures))
 

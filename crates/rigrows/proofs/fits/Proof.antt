@@ -4,54 +4,41 @@ use Rattle.rigrows.specs.KindLaws.{within-low, within-high, within-fits,
 use borrow.Author.Needs.{needs}
 use Rattle.rigrows.proofs.fits.Statement.{statement}
 use Rattle.rigrows.proofs.fits.Tie as tie
-use Rattle.rigrows.proofs.fits.Reads as reads
-use Rattle.rigrows.proofs.fits.Lts as lts
 
--- src/lib.rt:260:20
 mul-low : tie.Need-mul-low
 mul-low c = search needs
 
--- src/lib.rt:260:20
 add-low : tie.Need-add-low
 add-low c = search needs
 
--- src/lib.rt:260:15
 array-read-low : tie.Need-array-read-low
 array-read-low c = search needs
 
--- src/lib.rt:261:22
 mul-high : tie.Need-mul-high
 mul-high c = search needs
 
--- src/lib.rt:261:22
 add-high : tie.Need-add-high
 add-high c = search needs
 
--- src/lib.rt:261:16
 array-read-high : tie.Need-array-read-high
 array-read-high c = search needs
 
--- src/lib.rt:262:13
 cast-if1 : tie.Need-cast-if1
 unfolding lows lowOf
 cast-if1 c = omega (arith, low-small (c .args .k) (c .args .f))
 
--- src/lib.rt:263:9
 returns : tie.Need-returns
 unfolding lows highs lowOf highOf
 returns c = within-low _ _ _ (c .if1 .taken)
 
--- src/lib.rt:265:9
 cast-if2 : tie.Need-cast-if2
 unfolding highs highOf
 cast-if2 c = omega (arith, high-small (c .before .args .k) (c .before .args .f))
 
--- src/lib.rt:266:9
 returns-2 : tie.Need-returns-2
 unfolding lows highs lowOf highOf
 returns-2 c = within-high _ _ _ (c .before .if1 .left) (c .if2 .taken)
 
--- src/lib.rt:256:1
 returns-3 : tie.Need-returns-3
 unfolding lows highs lowOf highOf
 returns-3 c = within-fits _ _ _ (c .before .if1 .left) (c .if2 .left)

@@ -1,22 +1,16 @@
-use borrow.Author.Needs.{needs}
 use borrow.Author.Tests.{eq-eqb, ne-eqb}
 use Rattle.rigrows.specs.Kinds.{follows}
 use Rattle.rigrows.proofs.in_order.Statement.{statement}
 use Rattle.rigrows.proofs.in_order.Tie as tie
-use Rattle.rigrows.proofs.in_order.Reads as reads
-use Rattle.rigrows.proofs.in_order.Lts as lts
 
--- src/lib.rt:129:9
 returns : tie.Need-returns
 unfolding follows
 returns c = rw (eq-eqb _ _ (c .if1 .taken))
 
--- src/lib.rt:132:9
 returns-2 : tie.Need-returns-2
 unfolding follows
 returns-2 c = rw (ne-eqb _ _ (c .before .if1 .left), eq-eqb _ _ (c .if2 .taken))
 
--- src/lib.rt:125:1
 returns-3 : tie.Need-returns-3
 unfolding follows
 returns-3 c = rw (ne-eqb _ _ (c .before .if1 .left), ne-eqb _ _ (c .if2 .left))

@@ -1,48 +1,37 @@
-use borrow.Author.Needs.{needs}
 use native.Mathlib.Omega.{arith}
 use borrow.Author.Tests.{eq-eqb, ne-eqb}
 use Rattle.rigrows.specs.Kinds.{listed}
 use Rattle.rigrows.proofs.is_period.Statement.{statement}
 use Rattle.rigrows.proofs.is_period.Tie as tie
-use Rattle.rigrows.proofs.is_period.Reads as reads
-use Rattle.rigrows.proofs.is_period.Lts as lts
 
--- src/lib.rt:83:1
 returns : tie.Need-returns
 unfolding listed
 returns c = rw (eq-eqb (c .before .args .p) 1 (omega arith))
 
--- src/lib.rt:83:1
 returns-2 : tie.Need-returns-2
 unfolding listed
 returns-2 c = rw (ne-eqb (c .before .args .p) 1 (omega arith), eq-eqb (c .before .args .p) 2 (omega arith))
 
--- src/lib.rt:83:1
 returns-3 : tie.Need-returns-3
 unfolding listed
 returns-3 c = rw (ne-eqb (c .before .args .p) 1 (omega arith), ne-eqb (c .before .args .p) 2 (omega arith), eq-eqb (c .before .args .p) 4 (omega arith))
 
--- src/lib.rt:83:1
 returns-4 : tie.Need-returns-4
 unfolding listed
 returns-4 c = rw (ne-eqb (c .before .args .p) 1 (omega arith), ne-eqb (c .before .args .p) 2 (omega arith), ne-eqb (c .before .args .p) 4 (omega arith), eq-eqb (c .before .args .p) 8 (omega arith))
 
--- src/lib.rt:83:1
 returns-5 : tie.Need-returns-5
 unfolding listed
 returns-5 c = rw (ne-eqb (c .before .args .p) 1 (omega arith), ne-eqb (c .before .args .p) 2 (omega arith), ne-eqb (c .before .args .p) 4 (omega arith), ne-eqb (c .before .args .p) 8 (omega arith), eq-eqb (c .before .args .p) 16 (omega arith))
 
--- src/lib.rt:83:1
 returns-6 : tie.Need-returns-6
 unfolding listed
 returns-6 c = rw (ne-eqb (c .before .args .p) 1 (omega arith), ne-eqb (c .before .args .p) 2 (omega arith), ne-eqb (c .before .args .p) 4 (omega arith), ne-eqb (c .before .args .p) 8 (omega arith), ne-eqb (c .before .args .p) 16 (omega arith), eq-eqb (c .before .args .p) 32 (omega arith))
 
--- src/lib.rt:83:1
 returns-7 : tie.Need-returns-7
 unfolding listed
 returns-7 c = rw (ne-eqb (c .before .args .p) 1 (omega arith), ne-eqb (c .before .args .p) 2 (omega arith), ne-eqb (c .before .args .p) 4 (omega arith), ne-eqb (c .before .args .p) 8 (omega arith), ne-eqb (c .before .args .p) 16 (omega arith), ne-eqb (c .before .args .p) 32 (omega arith), eq-eqb (c .before .args .p) 64 (omega arith))
 
--- src/lib.rt:83:1
 returns-8 : tie.Need-returns-8
 unfolding listed
 returns-8 c = rw (ne-eqb (c .before .args .p) 1 (c .match .rest .0 .0 .0 .0 .0 .0 .1), ne-eqb (c .before .args .p) 2 (c .match .rest .0 .0 .0 .0 .0 .1), ne-eqb (c .before .args .p) 4 (c .match .rest .0 .0 .0 .0 .1), ne-eqb (c .before .args .p) 8 (c .match .rest .0 .0 .0 .1), ne-eqb (c .before .args .p) 16 (c .match .rest .0 .0 .1), ne-eqb (c .before .args .p) 32 (c .match .rest .0 .1), ne-eqb (c .before .args .p) 64 (c .match .rest .1))

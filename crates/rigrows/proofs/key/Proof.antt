@@ -4,31 +4,23 @@ use Rattle.rigrows.specs.Kinds.{keyed, keysOf, keys}
 use borrow.Author.Needs.{needs}
 use Rattle.rigrows.proofs.key.Statement.{statement}
 use Rattle.rigrows.proofs.key.Tie as tie
-use Rattle.rigrows.proofs.key.Reads as reads
-use Rattle.rigrows.proofs.key.Lts as lts
 
--- src/lib.rt:109:12
 mul-if1 : tie.Need-mul-if1
 mul-if1 c = search needs
 
--- src/lib.rt:109:12
 array-read-if1 : tie.Need-array-read-if1
 array-read-if1 c = search needs
 
--- src/lib.rt:109:22
 mul-result : tie.Need-mul-result
 mul-result c = search needs
 
--- src/lib.rt:109:22
 array-read-result : tie.Need-array-read-result
 array-read-result c = search needs
 
--- src/lib.rt:105:1
 returns : tie.Need-returns
 unfolding keyed keysOf keys
 returns c = (rw (lt-ltb _ _ (c .if1 .taken)), c .before .pre .2 _)
 
--- src/lib.rt:105:1
 returns-2 : tie.Need-returns-2
 unfolding keyed keysOf keys
 returns-2 c = (rw (le-ltb _ _ (c .if1 .left)), omega arith)

@@ -1,39 +1,29 @@
-use borrow.Author.Needs.{needs}
-use mathlib.Core.Path.{_≡_}
 use native.Mathlib.Omega.{arith}
 use borrow.Author.Tests.{eq-eqb, ne-eqb}
 use Rattle.rigrows.specs.Kinds.{letterOf}
 use Rattle.rigrows.proofs.letter.Statement.{statement}
 use Rattle.rigrows.proofs.letter.Tie as tie
-use Rattle.rigrows.proofs.letter.Reads as reads
-use Rattle.rigrows.proofs.letter.Lts as lts
 
--- src/lib.rt:28:1
 returns : tie.Need-returns
 unfolding letterOf
 returns c = (rw (eq-eqb (c .before .args .a) 84 (omega arith)), omega arith)
 
--- src/lib.rt:28:1
 returns-2 : tie.Need-returns-2
 unfolding letterOf
 returns-2 c = (rw (ne-eqb (c .before .args .a) 84 (omega arith), eq-eqb (c .before .args .a) 67 (omega arith)), omega arith)
 
--- src/lib.rt:28:1
 returns-3 : tie.Need-returns-3
 unfolding letterOf
 returns-3 c = (rw (ne-eqb (c .before .args .a) 84 (omega arith), ne-eqb (c .before .args .a) 67 (omega arith), eq-eqb (c .before .args .a) 65 (omega arith)), omega arith)
 
--- src/lib.rt:28:1
 returns-4 : tie.Need-returns-4
 unfolding letterOf
 returns-4 c = (rw (ne-eqb (c .before .args .a) 84 (omega arith), ne-eqb (c .before .args .a) 67 (omega arith), ne-eqb (c .before .args .a) 65 (omega arith), eq-eqb (c .before .args .a) 77 (omega arith)), omega arith)
 
--- src/lib.rt:28:1
 returns-5 : tie.Need-returns-5
 unfolding letterOf
 returns-5 c = (rw (ne-eqb (c .before .args .a) 84 (omega arith), ne-eqb (c .before .args .a) 67 (omega arith), ne-eqb (c .before .args .a) 65 (omega arith), ne-eqb (c .before .args .a) 77 (omega arith), eq-eqb (c .before .args .a) 66 (omega arith)), omega arith)
 
--- src/lib.rt:28:1
 returns-6 : tie.Need-returns-6
 unfolding letterOf
 returns-6 c = (rw (ne-eqb (c .before .args .a) 84 (omega arith), ne-eqb (c .before .args .a) 67 (omega arith), ne-eqb (c .before .args .a) 65 (omega arith), ne-eqb (c .before .args .a) 77 (omega arith), ne-eqb (c .before .args .a) 66 (omega arith)), omega arith)

@@ -1,41 +1,29 @@
-use mathlib.Core.Path.{_≡_, sym, _∙_}
-use mathlib.Core.Bool.{true, false}
 use borrow.Author.Tests.{eq-eqb, ne-eqb}
 use Rattle.rigrows.specs.Kinds.{timed}
 use borrow.Author.Needs.{needs}
 use Rattle.rigrows.proofs.on_time.Statement.{statement}
 use Rattle.rigrows.proofs.on_time.Tie as tie
-use Rattle.rigrows.proofs.on_time.Reads as reads
-use Rattle.rigrows.proofs.on_time.Lts as lts
-use Rattle.rigrows.proofs.is_period.Reads as is-period-reads
 
--- src/lib.rt:97:22
 array-read-is-period : tie.Need-array-read-is-period
 array-read-is-period c = search needs
 
--- src/lib.rt:97:12
 is-period-requires : tie.Need-is-period-requires
 is-period-requires c κs = search needs
 
--- src/lib.rt:98:20
 array-read-result : tie.Need-array-read-result
 array-read-result c = search needs
 
--- src/lib.rt:98:27
 array-read-result-2 : tie.Need-array-read-result-2
 array-read-result-2 c = search needs
 
--- src/lib.rt:98:13
 returns : tie.Need-returns
 unfolding timed
 returns c = rw (eq-eqb _ _ (c .before .before .if1 .taken), ← c .before .is-period .ensures, c .if2 .taken)
 
--- src/lib.rt:100:9
 returns-2 : tie.Need-returns-2
 unfolding timed
 returns-2 c = rw (eq-eqb _ _ (c .before .before .if1 .taken), ← c .before .is-period .ensures, c .if2 .left)
 
--- src/lib.rt:93:1
 returns-3 : tie.Need-returns-3
 unfolding timed
 returns-3 c = rw (ne-eqb _ _ (c .if1 .left))

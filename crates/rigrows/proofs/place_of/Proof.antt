@@ -1,49 +1,35 @@
-use mathlib.Core.Path.{_≡_, ap, _∙_}
 use Rattle.rigrows.specs.Kinds.{rank}
 use borrow.Author.Needs.{needs}
 use Rattle.rigrows.proofs.place_of.Statement.{statement}
 use Rattle.rigrows.proofs.place_of.Tie as tie
-use Rattle.rigrows.proofs.place_of.Reads as reads
-use Rattle.rigrows.proofs.place_of.Lts as lts
-use Rattle.rigrows.proofs.key.Reads as key-reads
 
--- src/lib.rt:117:9
 key-requires : tie.Need-key-requires
 key-requires c κs = search needs
 
--- src/lib.rt:118:9
 key-requires-2 : tie.Need-key-requires-2
 key-requires-2 c κs = search needs
 
--- src/lib.rt:119:9
 key-requires-3 : tie.Need-key-requires-3
 key-requires-3 c κs = search needs
 
--- src/lib.rt:121:7
 mul-result : tie.Need-mul-result
 mul-result c = search needs
 
--- src/lib.rt:121:7
 add-result : tie.Need-add-result
 add-result c = search needs
 
--- src/lib.rt:121:6
 mul-result-2 : tie.Need-mul-result-2
 mul-result-2 c = search needs
 
--- src/lib.rt:121:6
 add-result-2 : tie.Need-add-result-2
 add-result-2 c = search needs
 
--- src/lib.rt:121:5
 mul-result-3 : tie.Need-mul-result-3
 mul-result-3 c = search needs
 
--- src/lib.rt:121:5
 add-result-3 : tie.Need-add-result-3
 add-result-3 c = search needs
 
--- src/lib.rt:113:1
 returns : tie.Need-returns
 unfolding rank
 returns c = rw (← c .before .before .key .ensures .0, ← c .before .key2 .ensures .0, ← c .key3 .ensures .0)

@@ -3,32 +3,24 @@ use Rattle.rigrows.specs.Kinds.{under, sortOf, sorts}
 use borrow.Author.Needs.{needs}
 use Rattle.rigrows.proofs.under.Statement.{statement}
 use Rattle.rigrows.proofs.under.Tie as tie
-use Rattle.rigrows.proofs.under.Reads as reads
-use Rattle.rigrows.proofs.under.Lts as lts
 
--- src/lib.rt:334:22
 mul-sort : tie.Need-mul-sort
 mul-sort c = search needs
 
--- src/lib.rt:334:22
 add-sort : tie.Need-add-sort
 add-sort c = search needs
 
--- src/lib.rt:334:16
 array-read-sort : tie.Need-array-read-sort
 array-read-sort c = search needs
 
--- src/lib.rt:336:9
 returns : tie.Need-returns
 unfolding under sortOf sorts
 returns c = rw (eq-eqb _ _ (c .if1 .taken))
 
--- src/lib.rt:339:9
 returns-2 : tie.Need-returns-2
 unfolding under sortOf sorts
 returns-2 c = rw (ne-eqb _ _ (c .before .if1 .left), eq-eqb _ _ (c .if2 .taken))
 
--- src/lib.rt:330:1
 returns-3 : tie.Need-returns-3
 unfolding under sortOf sorts
 returns-3 c = rw (ne-eqb _ _ (c .before .if1 .left), ne-eqb _ _ (c .if2 .left))

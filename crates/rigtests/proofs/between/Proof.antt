@@ -7,8 +7,6 @@ use Rattle.laws.specs.All.{Passed, passed-none, passed-next, passed-not}
 use Rattle.rigtests.specs.Passes.{betweenOne, within-yes, within-below, within-above}
 use Rattle.rigtests.proofs.between.Statement.{statement}
 use Rattle.rigtests.proofs.between.Tie as tie
-use Rattle.rigtests.proofs.between.Reads as reads
-use Rattle.rigtests.proofs.between.Lts as lts
 
 abbrev Inv-loop : tie.InvT-loop
 Inv-loop l n low high bad₀ k₀ bad k = Passed bad k (betweenOne low high l) × (k ≤ n)
@@ -16,23 +14,18 @@ Inv-loop l n low high bad₀ k₀ bad k = Passed bad k (betweenOne low high l) �
 abbrev μ-loop : tie.MeasureT-loop
 μ-loop l n low high bad₀ k₀ bad k = n - k
 
--- src/lib.rt:210:5
 loop-holds : tie.Need-loop-holds Inv-loop μ-loop
 loop-holds c = (passed-none _, search needs)
 
--- src/lib.rt:211:17
 element-copy-out-x : tie.Need-element-copy-out-x Inv-loop μ-loop
 element-copy-out-x c = search needs
 
--- src/lib.rt:218:13
 add-k : tie.Need-add-k Inv-loop μ-loop
 add-k c = search needs
 
--- src/lib.rt:210:5
 loop-less : tie.Need-loop-less Inv-loop μ-loop
 loop-less c = search needs
 
--- src/lib.rt:210:5
 loop-again : tie.Need-loop-again Inv-loop μ-loop
 loop-again c = (
   ⊎-elim (λ w. passed-not _ _ (within-above _ _ _ (w .0 .taken)) (w .1))
@@ -44,7 +37,6 @@ loop-again c = (
   search needs,
 )
 
--- src/lib.rt:204:1
 returns : tie.Need-returns Inv-loop μ-loop
 returns c =
     let e : c .before .loop .k ≡ c .before .before .args .n = omega arith in

@@ -6,9 +6,6 @@ use Rattle.rigtests.specs.Tests.{at, climb}
 use Rattle.rigtests.specs.Climb.{climb-turn, climb-stop}
 use Rattle.rigtests.proofs.climbed.Statement.{statement}
 use Rattle.rigtests.proofs.climbed.Tie as tie
-use Rattle.rigtests.proofs.climbed.Reads as reads
-use Rattle.rigtests.proofs.climbed.Lts as lts
-use Rattle.rigtests.proofs.wide.Reads as wide-reads
 
 abbrev Inv-loop : tie.InvT-loop
 Inv-loop controller c x y₀ y = (climb (at controller) c 64 y ≡ climb (at controller) c 64 x) × (y ≤ x)
@@ -16,30 +13,24 @@ Inv-loop controller c x y₀ y = (climb (at controller) c 64 y ≡ climb (at con
 abbrev μ-loop : tie.MeasureT-loop
 μ-loop controller c x y₀ y = y
 
--- src/lib.rt:269:5
 loop-holds : tie.Need-loop-holds Inv-loop μ-loop
 loop-holds c = (refl, search needs)
 
--- src/lib.rt:270:18
 element-copy-out-wide : tie.Need-element-copy-out-wide Inv-loop μ-loop
 element-copy-out-wide c = search needs
 
--- src/lib.rt:270:9
 wide-requires : tie.Need-wide-requires Inv-loop μ-loop
 wide-requires c κs = search needs
 
--- src/lib.rt:269:5
 loop-less : tie.Need-loop-less Inv-loop μ-loop
 loop-less c = omega (arith, c .wide .ensures, c .before .before .before .before .pre .1 (c .before .before .before .loop .y) (omega arith) (omega arith))
 
--- src/lib.rt:269:5
 loop-again : tie.Need-loop-again Inv-loop μ-loop
 loop-again c =
     let d = c .before .before .before in
     let a = d .before .args in
     (ap (climb (at (a .controller .now)) (a .c) 64) (c .wide .ensures) ∙ climb-turn (a .controller .now) (a .c) (d .loop .y) (c .before .before .loop-test .taken) (omega arith) (λ t i j. d .before .pre .1 t i (omega arith)) ∙ d .loop .inv .0, omega (arith, c .wide .ensures, c .before .before .before .before .pre .1 (c .before .before .before .loop .y) (omega arith) (omega arith)))
 
--- src/lib.rt:264:1
 returns : tie.Need-returns Inv-loop μ-loop
 returns c = sym (climb-stop (c .before .before .args .controller .now) (c .before .before .args .c) 64 (c .before .loop .y) (c .loop-test .left)) ∙ c .before .loop .inv .0
 

@@ -5,33 +5,24 @@ use Rattle.laws.specs.Cases.{and-go, and-stop}
 use Rattle.rigtests.specs.Passes.{condition-tasks-each}
 use Rattle.rigtests.proofs.condition_tasks.Statement.{statement}
 use Rattle.rigtests.proofs.condition_tasks.Tie as tie
-use Rattle.rigtests.proofs.condition_tasks.Reads as reads
-use Rattle.rigtests.proofs.condition_tasks.Lts as lts
-use Rattle.rigtests.proofs.zeros.Reads as zeros-reads
 
--- src/lib.rt:196:21
 add-top : tie.Need-add-top
 add-top c = search needs
 
--- src/lib.rt:196:15
 mul-top : tie.Need-mul-top
 mul-top c = search needs
 
--- src/lib.rt:197:9
 zeros-requires : tie.Need-zeros-requires
 zeros-requires c κs = search needs
 
--- src/lib.rt:198:9
 returns : tie.Need-returns
 returns c =
     let s = c .before .before .before .args in
     sym (condition-tasks-each (s .tasks) (s .present .now) ∙ and-stop _ (sym (c .before .zeros .ensures) ∙ not-true _ (c .if1 .taken)))
 
--- src/lib.rt:200:5
 zeros-requires-2 : tie.Need-zeros-requires-2
 zeros-requires-2 c κs = search needs
 
--- src/lib.rt:193:1
 returns-2 : tie.Need-returns-2
 returns-2 c =
     let s = c .before .before .before .before .before .args in

@@ -9,32 +9,22 @@ use Rattle.rigtests.specs.Tests.{at, climb}
 use borrow.Author.Needs.{needs}
 use Rattle.rigtests.proofs.controller_ok.Statement.{statement}
 use Rattle.rigtests.proofs.controller_ok.Tie as tie
-use Rattle.rigtests.proofs.controller_ok.Reads as reads
-use Rattle.rigtests.proofs.controller_ok.Lts as lts
-use Rattle.rigtests.proofs.climbed.Reads as climbed-reads
-use Rattle.rigtests.proofs.wide.Reads as wide-reads
 
--- src/lib.rt:284:18
 element-copy-out-wide : tie.Need-element-copy-out-wide
 element-copy-out-wide c = search needs
 
--- src/lib.rt:284:9
 wide-requires : tie.Need-wide-requires
 wide-requires c κs = search needs
 
--- src/lib.rt:286:9
 returns : tie.Need-returns
 returns c = sym (and-stop _ (ap not (eq-eqb _ _ (sym (c .before .wide .ensures) ∙ c .if1 .taken))))
 
--- src/lib.rt:288:28
 sub-climbed : tie.Need-sub-climbed
 sub-climbed c = search needs
 
--- src/lib.rt:288:5
 climbed-requires : tie.Need-climbed-requires
 climbed-requires c κs = (search needs, (λ t i j. c .before .before .before .pre .1 .1 t i (omega arith)))
 
--- src/lib.rt:275:1
 returns-2 : tie.Need-returns-2
 returns-2 c =
     let a = c .before .before .before .before .args in

@@ -10,9 +10,6 @@ use Rattle.rigtests.specs.Tests.{controllerOne, controllersB}
 use Rattle.rigtests.specs.Climb.{controllers-start, low-all}
 use Rattle.rigtests.proofs.controllers.Statement.{statement}
 use Rattle.rigtests.proofs.controllers.Tie as tie
-use Rattle.rigtests.proofs.controllers.Reads as reads
-use Rattle.rigtests.proofs.controllers.Lts as lts
-use Rattle.rigtests.proofs.controller_ok.Reads as controller-ok-reads
 
 abbrev Inv-loop : tie.InvT-loop
 Inv-loop tasks controller t₀ t = (all t (controllerOne controller) ≡ true) × ((2 ≤ t) × (t ≤ tasks + 1))
@@ -20,49 +17,39 @@ Inv-loop tasks controller t₀ t = (all t (controllerOne controller) ≡ true) �
 abbrev μ-loop : tie.MeasureT-loop
 μ-loop tasks controller t₀ t = tasks + 1 - t
 
--- src/lib.rt:296:8
 element-copy-out-if1 : tie.Need-element-copy-out-if1 Inv-loop μ-loop
 element-copy-out-if1 c = search needs
 
--- src/lib.rt:297:9
 returns : tie.Need-returns Inv-loop μ-loop
 unfolding controllersB
 returns c = sym (and-stop _ (ne-eqb _ _ (c .if1 .taken)))
 
--- src/lib.rt:300:5
 loop-holds : tie.Need-loop-holds Inv-loop μ-loop
 loop-holds c = (controllers-start (c .before .before .args .controller .now), search needs)
 
--- src/lib.rt:300:15
 add-loop : tie.Need-add-loop Inv-loop μ-loop
 add-loop c = search needs
 
--- src/lib.rt:301:13
 controller-ok-requires : tie.Need-controller-ok-requires Inv-loop μ-loop
 controller-ok-requires c κs = (search needs, (search needs, low-all (c .before .before .before .before .args .controller .now) (c .before .before .if1 .left) (c .before .loop .t) (c .before .loop .inv .0)))
 
--- src/lib.rt:302:13
 returns-2 : tie.Need-returns-2 Inv-loop μ-loop
 unfolding controllersB
 returns-2 c =
     let d = c .before .before .before in
     sym (and-go (eq-eqb _ _ (c .before .before .before .before .if1 .left)) (all-not (c .before .before .before .before .before .before .args .tasks + 1) (controllerOne (c .before .before .before .before .before .before .args .controller .now)) (d .loop .t) (c .before .before .loop-test .taken) (sym (or-skip _ _ (lt-leb (d .loop .t) 1 (d .loop .inv .1 .0))) ∙ sym (c .before .controller-ok .ensures) ∙ not-true _ (c .if2 .taken))))
 
--- src/lib.rt:304:13
 add-t : tie.Need-add-t Inv-loop μ-loop
 add-t c = search needs
 
--- src/lib.rt:300:5
 loop-less : tie.Need-loop-less Inv-loop μ-loop
 loop-less c = search needs
 
--- src/lib.rt:300:5
 loop-again : tie.Need-loop-again Inv-loop μ-loop
 loop-again c =
     let d = c .before .before .before in
     (all-next _ _ (d .loop .inv .0) (sym (or-skip _ _ (lt-leb (d .loop .t) 1 (d .loop .inv .1 .0))) ∙ sym (c .before .controller-ok .ensures) ∙ not-false _ (c .if2 .left)), search needs)
 
--- src/lib.rt:292:1
 returns-3 : tie.Need-returns-3 Inv-loop μ-loop
 unfolding controllersB
 returns-3 c =

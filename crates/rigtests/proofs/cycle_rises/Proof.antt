@@ -10,10 +10,6 @@ use Rattle.rigtests.specs.Tests.{flagRises, cycleRises}
 use Rattle.rigtests.specs.Cycles.{no-flags-law}
 use Rattle.rigtests.proofs.cycle_rises.Statement.{statement}
 use Rattle.rigtests.proofs.cycle_rises.Tie as tie
-use Rattle.rigtests.proofs.cycle_rises.Reads as reads
-use Rattle.rigtests.proofs.cycle_rises.Lts as lts
-use Rattle.rigtests.proofs.flag_rises.Reads as flag-rises-reads
-use Rattle.rigtests.proofs.no_flags.Reads as no-flags-reads
 
 abbrev Inv-loop : tie.InvT-loop
 Inv-loop flags i₀ i = (all i (flagRises flags) ≡ true) × (i ≤ 14)
@@ -21,58 +17,45 @@ Inv-loop flags i₀ i = (all i (flagRises flags) ≡ true) × (i ≤ 14)
 abbrev μ-loop : tie.MeasureT-loop
 μ-loop flags i₀ i = 14 - i
 
--- src/lib.rt:163:8
 element-copy-out-if1 : tie.Need-element-copy-out-if1 Inv-loop μ-loop
 element-copy-out-if1 c = search needs
 
--- src/lib.rt:164:9
 no-flags-requires : tie.Need-no-flags-requires Inv-loop μ-loop
 no-flags-requires c κs = search needs
 
--- src/lib.rt:164:9
 returns : tie.Need-returns Inv-loop μ-loop
 returns c = c .no-flags .ensures ∙ no-flags-law (c .before .before .before .args .flags .now) (c .before .before .before .pre) (c .before .if1 .taken)
 
--- src/lib.rt:167:5
 loop-holds : tie.Need-loop-holds Inv-loop μ-loop
 loop-holds c = (all-zero _, search needs)
 
--- src/lib.rt:168:24
 element-copy-out-flag-rises : tie.Need-element-copy-out-flag-rises Inv-loop μ-loop
 element-copy-out-flag-rises c = search needs
 
--- src/lib.rt:168:40
 add-flag-rises : tie.Need-add-flag-rises Inv-loop μ-loop
 add-flag-rises c = search needs
 
--- src/lib.rt:168:34
 element-copy-out-flag-rises-2 : tie.Need-element-copy-out-flag-rises-2 Inv-loop μ-loop
 element-copy-out-flag-rises-2 c = search needs
 
--- src/lib.rt:168:13
 flag-rises-requires : tie.Need-flag-rises-requires Inv-loop μ-loop
 flag-rises-requires c κs = search needs
 
--- src/lib.rt:169:13
 returns-2 : tie.Need-returns-2 Inv-loop μ-loop
 unfolding cycleRises
 returns-2 c =
     let s = c .before .before .before .before .before .before .before .before in
     sym (and-go (eq-eqb _ _ (s .pre)) (all-not 14 (flagRises (s .args .flags .now)) (c .before .before .before .before .before .loop .i) (c .before .before .before .before .loop-test .taken) (sym (c .before .flag-rises .ensures) ∙ not-true _ (c .if2 .taken))))
 
--- src/lib.rt:171:13
 add-i : tie.Need-add-i Inv-loop μ-loop
 add-i c = search needs
 
--- src/lib.rt:167:5
 loop-less : tie.Need-loop-less Inv-loop μ-loop
 loop-less c = search needs
 
--- src/lib.rt:167:5
 loop-again : tie.Need-loop-again Inv-loop μ-loop
 loop-again c = (all-next _ _ (c .before .before .before .before .before .loop .inv .0) (sym (c .before .flag-rises .ensures) ∙ not-false _ (c .if2 .left)), search needs)
 
--- src/lib.rt:159:1
 returns-3 : tie.Need-returns-3 Inv-loop μ-loop
 unfolding cycleRises
 returns-3 c =

@@ -8,9 +8,6 @@ use Rattle.laws.specs.Owners.{ownOne, owners}
 use Rattle.rigtests.specs.Tests.{at}
 use Rattle.rigtests.proofs.flag_owners.Statement.{statement}
 use Rattle.rigtests.proofs.flag_owners.Tie as tie
-use Rattle.rigtests.proofs.flag_owners.Reads as reads
-use Rattle.rigtests.proofs.flag_owners.Lts as lts
-use Rattle.rigtests.proofs.wide.Reads as wide-reads
 
 abbrev Inv-loop : tie.InvT-loop
 Inv-loop activation table₀ t₀ table t = (table ≡ iter t (ownOne (at activation)) (replicate 129 0)) × (t ≤ 65)
@@ -18,46 +15,36 @@ Inv-loop activation table₀ t₀ table t = (table ≡ iter t (ownOne (at activa
 abbrev μ-loop : tie.MeasureT-loop
 μ-loop activation table₀ t₀ table t = 65 - t
 
--- src/lib.rt:316:5
 loop-holds : tie.Need-loop-holds Inv-loop μ-loop
 loop-holds c = (sym (iter-zero _ _), search needs)
 
--- src/lib.rt:317:22
 element-copy-out-wide : tie.Need-element-copy-out-wide Inv-loop μ-loop
 element-copy-out-wide c = search needs
 
--- src/lib.rt:317:13
 wide-requires : tie.Need-wide-requires Inv-loop μ-loop
 wide-requires c κs = search needs
 
--- src/lib.rt:318:21
 add-table : tie.Need-add-table Inv-loop μ-loop
 add-table c = search needs
 
--- src/lib.rt:318:20
 cast-table : tie.Need-cast-table Inv-loop μ-loop
 cast-table c = search needs
 
--- src/lib.rt:318:9
 array-write-table : tie.Need-array-write-table Inv-loop μ-loop
 array-write-table c = omega (arith, c .wide .ensures, c .before .before .before .before .pre (c .before .before .before .loop .t) (c .before .before .loop-test .taken))
 
--- src/lib.rt:319:13
 add-t : tie.Need-add-t Inv-loop μ-loop
 add-t c = search needs
 
--- src/lib.rt:316:5
 loop-less : tie.Need-loop-less Inv-loop μ-loop
 loop-less c = search needs
 
--- src/lib.rt:316:5
 loop-again : tie.Need-loop-again Inv-loop μ-loop
 loop-again c =
     let d = c .before .before .before in
     let a = d .before .args in
     (ap (λ (p : ℕ). set (d .loop .table) p (d .loop .t + 1)) (c .wide .ensures) ∙ iter-step (d .loop .t) (ownOne (at (a .activation .now))) (replicate 129 0) (d .loop .table) (d .loop .inv .0), search needs)
 
--- src/lib.rt:310:1
 returns : tie.Need-returns Inv-loop μ-loop
 unfolding owners
 returns c =

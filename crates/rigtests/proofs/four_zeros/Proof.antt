@@ -1,22 +1,16 @@
 use borrow.Author.Tests.{eq-eqb, ne-eqb}
 use Rattle.rigtests.proofs.four_zeros.Statement.{statement}
 use Rattle.rigtests.proofs.four_zeros.Tie as tie
-use Rattle.rigtests.proofs.four_zeros.Reads as reads
-use Rattle.rigtests.proofs.four_zeros.Lts as lts
 
--- src/lib.rt:494:1
 returns : tie.Need-returns
 returns c = simp (eq-eqb _ _ (c .before .before .if1 .taken), eq-eqb _ _ (c .before .if2 .taken), eq-eqb _ _ (c .if3 .taken))
 
--- src/lib.rt:494:1
 returns-2 : tie.Need-returns-2
 returns-2 c = simp (eq-eqb _ _ (c .before .before .if1 .taken), eq-eqb _ _ (c .before .if2 .taken), ne-eqb _ _ (c .if3 .left))
 
--- src/lib.rt:494:1
 returns-3 : tie.Need-returns-3
 returns-3 c = simp (eq-eqb _ _ (c .before .if1 .taken), ne-eqb _ _ (c .if2 .left))
 
--- src/lib.rt:494:1
 returns-4 : tie.Need-returns-4
 returns-4 c = simp (ne-eqb _ _ (c .if1 .left))
 

@@ -1,14 +1,10 @@
 use borrow.Author.Tests.{le-leb, lt-leb}
 use Rattle.rigtests.proofs.in_range.Statement.{statement}
 use Rattle.rigtests.proofs.in_range.Tie as tie
-use Rattle.rigtests.proofs.in_range.Reads as reads
-use Rattle.rigtests.proofs.in_range.Lts as lts
 
--- src/lib.rt:33:1
 returns : tie.Need-returns
 returns c = simp (le-leb _ _ (c .if1 .taken))
 
--- src/lib.rt:33:1
 returns-2 : tie.Need-returns-2
 returns-2 c = simp (lt-leb _ _ (c .if1 .left))
 

@@ -5,35 +5,26 @@ use Rattle.laws.specs.Cases.{and-go, and-stop}
 use Rattle.rigtests.specs.Passes.{line-zeros-each}
 use Rattle.rigtests.proofs.line_zeros.Statement.{statement}
 use Rattle.rigtests.proofs.line_zeros.Tie as tie
-use Rattle.rigtests.proofs.line_zeros.Reads as reads
-use Rattle.rigtests.proofs.line_zeros.Lts as lts
-use Rattle.rigtests.proofs.zeros.Reads as zeros-reads
 
--- src/lib.rt:556:9
 zeros-requires : tie.Need-zeros-requires
 zeros-requires c κs = search needs
 
--- src/lib.rt:557:9
 returns : tie.Need-returns
 returns c =
     let s = c .before .before .before .args in
     sym (line-zeros-each (s .n) (s .atask .now) (s .apos .now) (s .aflag .now) ∙ and-stop _ (sym (c .before .zeros .ensures) ∙ not-true _ (c .if1 .taken)))
 
--- src/lib.rt:559:9
 zeros-requires-2 : tie.Need-zeros-requires-2
 zeros-requires-2 c κs = search needs
 
--- src/lib.rt:560:9
 returns-2 : tie.Need-returns-2
 returns-2 c =
     let s = c .before .before .before .before .before .before .args in
     sym (line-zeros-each (s .n) (s .atask .now) (s .apos .now) (s .aflag .now) ∙ and-go (sym (c .before .before .before .before .zeros .ensures) ∙ not-false _ (c .before .before .before .if1 .left)) (and-stop _ (sym (c .before .zeros2 .ensures) ∙ not-true _ (c .if2 .taken))))
 
--- src/lib.rt:562:5
 zeros-requires-3 : tie.Need-zeros-requires-3
 zeros-requires-3 c κs = search needs
 
--- src/lib.rt:547:1
 returns-3 : tie.Need-returns-3
 returns-3 c =
     let s = c .before .before .before .before .before .before .before .before .args in

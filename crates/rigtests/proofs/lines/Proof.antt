@@ -5,35 +5,26 @@ use Rattle.laws.specs.Cases.{and-go, and-stop}
 use Rattle.rigtests.specs.Passes.{lines-each}
 use Rattle.rigtests.proofs.lines.Statement.{statement}
 use Rattle.rigtests.proofs.lines.Tie as tie
-use Rattle.rigtests.proofs.lines.Reads as reads
-use Rattle.rigtests.proofs.lines.Lts as lts
-use Rattle.rigtests.proofs.between.Reads as between-reads
 
--- src/lib.rt:235:9
 between-requires : tie.Need-between-requires
 between-requires c κs = search needs
 
--- src/lib.rt:236:9
 returns : tie.Need-returns
 returns c =
     let s = c .before .before .args in
     sym (lines-each (s .n) (s .tasks) (s .flags) (s .atask .now) (s .apos .now) (s .aflag .now) ∙ and-stop _ (sym (c .before .between .ensures) ∙ not-true _ (c .if1 .taken)))
 
--- src/lib.rt:238:9
 between-requires-2 : tie.Need-between-requires-2
 between-requires-2 c κs = search needs
 
--- src/lib.rt:239:9
 returns-2 : tie.Need-returns-2
 returns-2 c =
     let s = c .before .before .before .before .args in
     sym (lines-each (s .n) (s .tasks) (s .flags) (s .atask .now) (s .apos .now) (s .aflag .now) ∙ and-go (sym (c .before .before .before .between .ensures) ∙ not-false _ (c .before .before .if1 .left)) (and-stop _ (sym (c .before .between2 .ensures) ∙ not-true _ (c .if2 .taken))))
 
--- src/lib.rt:241:5
 between-requires-3 : tie.Need-between-requires-3
 between-requires-3 c κs = search needs
 
--- src/lib.rt:224:1
 returns-3 : tie.Need-returns-3
 returns-3 c =
     let s = c .before .before .before .before .before .args in

@@ -8,9 +8,6 @@ use Rattle.rigtests.specs.Tests.{lineRises, linesRiseB}
 use Rattle.rigtests.specs.Passes.{lines-next, lines-not}
 use Rattle.rigtests.proofs.lines_rise.Statement.{statement}
 use Rattle.rigtests.proofs.lines_rise.Tie as tie
-use Rattle.rigtests.proofs.lines_rise.Reads as reads
-use Rattle.rigtests.proofs.lines_rise.Lts as lts
-use Rattle.rigtests.proofs.key.Reads as key-reads
 
 abbrev Inv-loop : tie.InvT-loop
 Inv-loop n atask apos aflag bad₀ k₀ bad k = Passed bad (k - 1) (lineRises atask apos aflag) × ((1 ≤ k) × (k - 1 ≤ n - 1))
@@ -18,63 +15,48 @@ Inv-loop n atask apos aflag bad₀ k₀ bad k = Passed bad (k - 1) (lineRises at
 abbrev μ-loop : tie.MeasureT-loop
 μ-loop n atask apos aflag bad₀ k₀ bad k = n - k
 
--- src/lib.rt:122:5
 loop-holds : tie.Need-loop-holds Inv-loop μ-loop
 loop-holds c = (passed-none _, search needs)
 
--- src/lib.rt:123:27
 sub-key : tie.Need-sub-key Inv-loop μ-loop
 sub-key c = search needs
 
--- src/lib.rt:123:21
 element-copy-out-key : tie.Need-element-copy-out-key Inv-loop μ-loop
 element-copy-out-key c = search needs
 
--- src/lib.rt:123:40
 sub-key-2 : tie.Need-sub-key-2 Inv-loop μ-loop
 sub-key-2 c = search needs
 
--- src/lib.rt:123:35
 element-copy-out-key-2 : tie.Need-element-copy-out-key-2 Inv-loop μ-loop
 element-copy-out-key-2 c = search needs
 
--- src/lib.rt:123:54
 sub-key-3 : tie.Need-sub-key-3 Inv-loop μ-loop
 sub-key-3 c = search needs
 
--- src/lib.rt:123:48
 element-copy-out-key-3 : tie.Need-element-copy-out-key-3 Inv-loop μ-loop
 element-copy-out-key-3 c = search needs
 
--- src/lib.rt:123:13
 key-requires : tie.Need-key-requires Inv-loop μ-loop
 key-requires c κs = search needs
 
--- src/lib.rt:124:21
 element-copy-out-key-4 : tie.Need-element-copy-out-key-4 Inv-loop μ-loop
 element-copy-out-key-4 c = search needs
 
--- src/lib.rt:124:31
 element-copy-out-key-5 : tie.Need-element-copy-out-key-5 Inv-loop μ-loop
 element-copy-out-key-5 c = search needs
 
--- src/lib.rt:124:40
 element-copy-out-key-6 : tie.Need-element-copy-out-key-6 Inv-loop μ-loop
 element-copy-out-key-6 c = search needs
 
--- src/lib.rt:124:13
 key-requires-2 : tie.Need-key-requires-2 Inv-loop μ-loop
 key-requires-2 c κs = search needs
 
--- src/lib.rt:128:13
 add-k : tie.Need-add-k Inv-loop μ-loop
 add-k c = search needs
 
--- src/lib.rt:122:5
 loop-less : tie.Need-loop-less Inv-loop μ-loop
 loop-less c = search needs
 
--- src/lib.rt:122:5
 loop-again : tie.Need-loop-again Inv-loop μ-loop
 loop-again c =
     let s = c .before .before .before .before .before .before .before .before .before .before .before .args in
@@ -88,7 +70,6 @@ loop-again c =
       search needs,
     )
 
--- src/lib.rt:111:1
 returns : tie.Need-returns Inv-loop μ-loop
 unfolding linesRiseB
 returns c =

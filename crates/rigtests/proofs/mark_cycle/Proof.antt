@@ -9,9 +9,6 @@ use Rattle.rigtests.specs.Tests.{at}
 use Rattle.rigtests.specs.Cycles.{flagsOnly, marks-up-to}
 use Rattle.rigtests.proofs.mark_cycle.Statement.{statement}
 use Rattle.rigtests.proofs.mark_cycle.Tie as tie
-use Rattle.rigtests.proofs.mark_cycle.Reads as reads
-use Rattle.rigtests.proofs.mark_cycle.Lts as lts
-use Rattle.rigtests.proofs.wide.Reads as wide-reads
 
 abbrev Inv-loop : tie.InvT-loop
 Inv-loop flags table₀ i₀ table i = (table ≡ iter i (markOne (at flags)) table₀) × (i ≤ 15)
@@ -19,45 +16,36 @@ Inv-loop flags table₀ i₀ table i = (table ≡ iter i (markOne (at flags)) ta
 abbrev μ-loop : tie.MeasureT-loop
 μ-loop flags table₀ i₀ table i = 15 - i
 
--- src/lib.rt:358:5
 loop-holds : tie.Need-loop-holds Inv-loop μ-loop
 loop-holds c = (sym (iter-zero _ _), search needs)
 
--- src/lib.rt:359:22
 element-copy-out-wide : tie.Need-element-copy-out-wide Inv-loop μ-loop
 element-copy-out-wide c = search needs
 
--- src/lib.rt:359:13
 wide-requires : tie.Need-wide-requires Inv-loop μ-loop
 wide-requires c κs = search needs
 
--- src/lib.rt:363:9
 element-write-table : tie.Need-element-write-table Inv-loop μ-loop
 element-write-table c = omega (arith, c .before .wide .ensures, c .before .before .before .before .before .pre .1 (c .before .before .before .before .loop .i) (c .before .before .before .loop-test .taken))
 
--- src/lib.rt:364:13
 add-i : tie.Need-add-i Inv-loop μ-loop
 add-i c = search needs
 
--- src/lib.rt:358:5
 loop-less : tie.Need-loop-less Inv-loop μ-loop
 loop-less c = search needs
 
--- src/lib.rt:358:5
 loop-again : tie.Need-loop-again Inv-loop μ-loop
 loop-again c =
     let d = c .before .before .before .before in
     let a = d .before .args in
     (ap (λ (p : ℕ). set (d .loop .table) p 1) (c .before .wide .ensures) ∙ iter-step (d .loop .i) (markOne (at (a .flags .now))) (a .table .now) (d .loop .table) (d .loop .inv .0), search needs)
 
--- src/lib.rt:353:1
 returns : tie.Need-returns Inv-loop μ-loop
 unfolding marks
 returns c =
     let e : c .before .loop .i ≡ 15 = omega arith in
     ap flagsOnly (rw e at (c .before .loop .inv .0))
 
--- src/lib.rt:353:1
 returns-2 : tie.Need-returns-2 Inv-loop μ-loop
 returns-2 c =
     let d = c .before .before .before .before in

@@ -12,8 +12,6 @@ use Rattle.rigtests.specs.Tables.{matchedOne}
 use Rattle.rigtests.specs.Laws.{matched-end}
 use Rattle.rigtests.proofs.matched.Statement.{statement}
 use Rattle.rigtests.proofs.matched.Tie as tie
-use Rattle.rigtests.proofs.matched.Reads as reads
-use Rattle.rigtests.proofs.matched.Lts as lts
 
 abbrev Inv-loop : tie.InvT-loop
 Inv-loop end present table bad₀ p₀ bad p = Passed bad p (matchedOne present table) × (p ≤ end)
@@ -21,31 +19,24 @@ Inv-loop end present table bad₀ p₀ bad p = Passed bad p (matchedOne present 
 abbrev μ-loop : tie.MeasureT-loop
 μ-loop end present table bad₀ p₀ bad p = end - p
 
--- src/lib.rt:425:5
 loop-holds : tie.Need-loop-holds Inv-loop μ-loop
 loop-holds c = (passed-none _, search needs)
 
--- src/lib.rt:426:19
 element-copy-out-has : tie.Need-element-copy-out-has Inv-loop μ-loop
 element-copy-out-has c = search needs
 
--- src/lib.rt:427:21
 mul-owner : tie.Need-mul-owner Inv-loop μ-loop
 mul-owner c = search needs
 
--- src/lib.rt:427:21
 element-copy-out-owner : tie.Need-element-copy-out-owner Inv-loop μ-loop
 element-copy-out-owner c = search needs
 
--- src/lib.rt:435:13
 add-p : tie.Need-add-p Inv-loop μ-loop
 add-p c = search needs
 
--- src/lib.rt:425:5
 loop-less : tie.Need-loop-less Inv-loop μ-loop
 loop-less c = search needs
 
--- src/lib.rt:425:5
 loop-again : tie.Need-loop-again Inv-loop μ-loop
 loop-again c =
     let s = c .before .before .before .before .before .before .args in
@@ -58,7 +49,6 @@ loop-again c =
       search needs,
     )
 
--- src/lib.rt:419:1
 returns : tie.Need-returns Inv-loop μ-loop
 returns c =
     let s = c .before .before in

@@ -10,12 +10,6 @@ use Rattle.rigtests.specs.Tables.{minorOwnerOne, minorOwnerB}
 use Rattle.rigtests.specs.Laws.{minor-read}
 use Rattle.rigtests.proofs.minor_conditions.Statement.{statement}
 use Rattle.rigtests.proofs.minor_conditions.Tie as tie
-use Rattle.rigtests.proofs.minor_conditions.Reads as reads
-use Rattle.rigtests.proofs.minor_conditions.Lts as lts
-use Rattle.rigtests.proofs.minor_ok.Reads as minor-ok-reads
-use Rattle.rigtests.proofs.place_of.Reads as place-of-reads
-use Rattle.rigtests.proofs.wide.Reads as wide-reads
-use Rattle.rigtests.proofs.wide16.Reads as wide16-reads
 
 abbrev Inv-loop : tie.InvT-loop
 Inv-loop n latched desired atask apos aflag flags table k₀ k = (all k (minorOwnerOne latched desired atask apos aflag flags table) ≡ true) × (k ≤ n)
@@ -23,96 +17,73 @@ Inv-loop n latched desired atask apos aflag flags table k₀ k = (all k (minorOw
 abbrev μ-loop : tie.MeasureT-loop
 μ-loop n latched desired atask apos aflag flags table k₀ k = n - k
 
--- src/lib.rt:475:5
 loop-holds : tie.Need-loop-holds Inv-loop μ-loop
 loop-holds c = (all-zero _, search needs)
 
--- src/lib.rt:476:26
 element-copy-out-place-of : tie.Need-element-copy-out-place-of Inv-loop μ-loop
 element-copy-out-place-of c = omega (arith, c .before .before .pre .fit .placed .few)
 
--- src/lib.rt:476:36
 element-copy-out-place-of-2 : tie.Need-element-copy-out-place-of-2 Inv-loop μ-loop
 element-copy-out-place-of-2 c = omega (arith, c .before .before .before .pre .fit .placed .few)
 
--- src/lib.rt:476:13
 place-of-requires : tie.Need-place-of-requires Inv-loop μ-loop
 place-of-requires c κs = search needs
 
--- src/lib.rt:477:28
 mul-wide16 : tie.Need-mul-wide16 Inv-loop μ-loop
 mul-wide16 c = omega (arith, c .place-of .ensures, c .before .before .before .before .before .pre .fit .placed .low (c .before .before .before .before .loop .k) (c .before .before .before .loop-test .taken))
 
--- src/lib.rt:477:28
 element-copy-out-wide16 : tie.Need-element-copy-out-wide16 Inv-loop μ-loop
 element-copy-out-wide16 c = omega (arith, c .place-of .ensures, c .before .before .before .before .before .pre .fit .placed .low (c .before .before .before .before .loop .k) (c .before .before .before .loop-test .taken))
 
--- src/lib.rt:477:13
 wide16-requires : tie.Need-wide16-requires Inv-loop μ-loop
 wide16-requires c κs = search needs
 
--- src/lib.rt:478:25
 element-copy-out-wide : tie.Need-element-copy-out-wide Inv-loop μ-loop
 element-copy-out-wide c = omega (arith, c .before .before .before .before .before .before .before .pre .fit .placed .few)
 
--- src/lib.rt:478:13
 wide-requires : tie.Need-wide-requires Inv-loop μ-loop
 wide-requires c κs = search needs
 
--- src/lib.rt:479:32
 sub-wide : tie.Need-sub-wide Inv-loop μ-loop
 sub-wide c = omega (arith, c .before .before .wide16 .ensures ∙ ap (at (c .before .before .before .before .before .before .before .before .before .args .table .now)) (c .before .before .before .before .place-of .ensures), c .before .before .before .before .before .before .before .before .before .pre .some (c .before .before .before .before .before .before .before .before .loop .k) (c .before .before .before .before .before .before .before .loop-test .taken))
 
--- src/lib.rt:479:26
 element-copy-out-wide-2 : tie.Need-element-copy-out-wide-2 Inv-loop μ-loop
 element-copy-out-wide-2 c = omega (arith, c .before .before .wide16 .ensures ∙ ap (at (c .before .before .before .before .before .before .before .before .before .args .table .now)) (c .before .before .before .before .place-of .ensures), c .before .before .before .before .before .before .before .before .before .pre .some (c .before .before .before .before .before .before .before .before .loop .k) (c .before .before .before .before .before .before .before .loop-test .taken), c .before .before .before .before .before .before .before .before .before .pre .few (c .before .before .before .before .before .before .before .before .loop .k) (c .before .before .before .before .before .before .before .loop-test .taken), c .before .before .before .before .before .before .before .before .before .pre .fit .placed .few)
 
--- src/lib.rt:479:13
 wide-requires-2 : tie.Need-wide-requires-2 Inv-loop μ-loop
 wide-requires-2 c κs = search needs
 
--- src/lib.rt:481:22
 add-minor-ok : tie.Need-add-minor-ok Inv-loop μ-loop
 add-minor-ok c = omega (arith, c .before .before .before .before .before .before .before .before .before .before .before .pre .fit .placed .few)
 
--- src/lib.rt:482:13
 element-copy-out-minor-ok : tie.Need-element-copy-out-minor-ok Inv-loop μ-loop
 element-copy-out-minor-ok c = omega (arith, c .before .before .wide .ensures, c .before .before .before .before .before .before .before .before .before .before .before .pre .fit .flags (c .before .before .before .before .before .before .before .before .before .before .loop .k) (c .before .before .before .before .before .before .before .before .before .loop-test .taken))
 
--- src/lib.rt:483:13
 element-copy-out-minor-ok-2 : tie.Need-element-copy-out-minor-ok-2 Inv-loop μ-loop
 element-copy-out-minor-ok-2 c = omega (arith, c .before .wide2 .ensures, c .before .before .before .before .before .before .before .before .before .before .before .before .pre .fit .flags (c .before .before .before .before .before .wide16 .result - 1) (omega (arith, c .before .before .before .before .before .wide16 .ensures ∙ ap (at (c .before .before .before .before .before .before .before .before .before .before .before .before .args .table .now)) (c .before .before .before .before .before .before .before .place-of .ensures), c .before .before .before .before .before .before .before .before .before .before .before .before .pre .some (c .before .before .before .before .before .before .before .before .before .before .before .loop .k) (c .before .before .before .before .before .before .before .before .before .before .loop-test .taken), c .before .before .before .before .before .before .before .before .before .before .before .before .pre .few (c .before .before .before .before .before .before .before .before .before .before .before .loop .k) (c .before .before .before .before .before .before .before .before .before .before .loop-test .taken))))
 
--- src/lib.rt:484:13
 element-copy-out-minor-ok-3 : tie.Need-element-copy-out-minor-ok-3 Inv-loop μ-loop
 element-copy-out-minor-ok-3 c = omega (arith, c .before .before .before .before .before .before .before .before .place-of .ensures, c .before .before .before .before .before .before .before .before .before .before .before .before .before .pre .fit .placed .low (c .before .before .before .before .before .before .before .before .before .before .before .before .loop .k) (c .before .before .before .before .before .before .before .before .before .before .before .loop-test .taken))
 
--- src/lib.rt:485:13
 element-copy-out-minor-ok-4 : tie.Need-element-copy-out-minor-ok-4 Inv-loop μ-loop
 element-copy-out-minor-ok-4 c = omega (arith, c .before .before .before .before .before .before .before .before .before .place-of .ensures, c .before .before .before .before .before .before .before .before .before .before .before .before .before .before .pre .fit .placed .low (c .before .before .before .before .before .before .before .before .before .before .before .before .before .loop .k) (c .before .before .before .before .before .before .before .before .before .before .before .before .loop-test .taken))
 
--- src/lib.rt:480:13
 minor-ok-requires : tie.Need-minor-ok-requires Inv-loop μ-loop
 minor-ok-requires c κs = search needs
 
--- src/lib.rt:487:13
 returns : tie.Need-returns Inv-loop μ-loop
 unfolding minorOwnerB
 returns c = sym (all-not _ _ (c .before .before .before .before .before .before .before .before .before .before .before .before .before .before .before .before .loop .k) (c .before .before .before .before .before .before .before .before .before .before .before .before .before .before .before .loop-test .taken) (minor-read (c .before .before .before .before .before .before .before .before .before .before .before .before .before .before .before .before .before .args .latched .now) (c .before .before .before .before .before .before .before .before .before .before .before .before .before .before .before .before .before .args .desired .now) (c .before .before .before .before .before .before .before .before .before .before .before .before .before .before .before .before .before .args .atask .now) (c .before .before .before .before .before .before .before .before .before .before .before .before .before .before .before .before .before .args .apos .now) (c .before .before .before .before .before .before .before .before .before .before .before .before .before .before .before .before .before .args .aflag .now) (c .before .before .before .before .before .before .before .before .before .before .before .before .before .before .before .before .before .args .flags .now) (c .before .before .before .before .before .before .before .before .before .before .before .before .before .before .before .before .before .args .table .now) (c .before .before .before .before .before .before .before .before .before .before .before .before .before .before .before .before .loop .k) (c .before .before .before .before .before .before .before .before .before .before .before .before .place-of .result) (c .before .before .before .before .before .before .before .before .before .before .wide16 .result) (c .before .before .before .before .before .before .before .before .wide .result) (c .before .before .before .before .before .before .wide2 .result) (c .before .before .before .before .before .before .before .before .before .before .before .before .place-of .ensures) (c .before .before .before .before .before .before .before .before .before .before .wide16 .ensures) (c .before .before .before .before .before .before .before .before .wide .ensures) (c .before .before .before .before .before .before .wide2 .ensures) ∙ sym (c .before .minor-ok .ensures) ∙ not-true _ (c .if1 .taken)))
 
--- src/lib.rt:489:13
 add-k : tie.Need-add-k Inv-loop μ-loop
 add-k c = omega (arith, c .before .before .before .before .before .before .before .before .before .before .before .before .before .before .before .before .before .pre .fit .placed .few)
 
--- src/lib.rt:475:5
 loop-less : tie.Need-loop-less Inv-loop μ-loop
 loop-less c = search needs
 
--- src/lib.rt:475:5
 loop-again : tie.Need-loop-again Inv-loop μ-loop
 loop-again c = (all-next _ _ (c .before .before .before .before .before .before .before .before .before .before .before .before .before .before .before .before .loop .inv .0) (minor-read (c .before .before .before .before .before .before .before .before .before .before .before .before .before .before .before .before .before .args .latched .now) (c .before .before .before .before .before .before .before .before .before .before .before .before .before .before .before .before .before .args .desired .now) (c .before .before .before .before .before .before .before .before .before .before .before .before .before .before .before .before .before .args .atask .now) (c .before .before .before .before .before .before .before .before .before .before .before .before .before .before .before .before .before .args .apos .now) (c .before .before .before .before .before .before .before .before .before .before .before .before .before .before .before .before .before .args .aflag .now) (c .before .before .before .before .before .before .before .before .before .before .before .before .before .before .before .before .before .args .flags .now) (c .before .before .before .before .before .before .before .before .before .before .before .before .before .before .before .before .before .args .table .now) (c .before .before .before .before .before .before .before .before .before .before .before .before .before .before .before .before .loop .k) (c .before .before .before .before .before .before .before .before .before .before .before .before .place-of .result) (c .before .before .before .before .before .before .before .before .before .before .wide16 .result) (c .before .before .before .before .before .before .before .before .wide .result) (c .before .before .before .before .before .before .wide2 .result) (c .before .before .before .before .before .before .before .before .before .before .before .before .place-of .ensures) (c .before .before .before .before .before .before .before .before .before .before .wide16 .ensures) (c .before .before .before .before .before .before .before .before .wide .ensures) (c .before .before .before .before .before .before .wide2 .ensures) ∙ sym (c .before .minor-ok .ensures) ∙ not-false _ (c .if1 .left)), search needs)
 
--- src/lib.rt:457:1
 returns-2 : tie.Need-returns-2 Inv-loop μ-loop
 unfolding minorOwnerB
 returns-2 c =

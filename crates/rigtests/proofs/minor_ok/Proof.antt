@@ -1,26 +1,19 @@
 use borrow.Author.Tests.{eq-eqb, ne-eqb}
 use Rattle.rigtests.proofs.minor_ok.Statement.{statement}
 use Rattle.rigtests.proofs.minor_ok.Tie as tie
-use Rattle.rigtests.proofs.minor_ok.Reads as reads
-use Rattle.rigtests.proofs.minor_ok.Lts as lts
 
--- src/lib.rt:441:1
 returns : tie.Need-returns
 returns c = simp (eq-eqb _ _ (c .before .if1 .taken), c .if2 .taken)
 
--- src/lib.rt:441:1
 returns-2 : tie.Need-returns-2
 returns-2 c = simp (eq-eqb _ _ (c .before .if1 .taken), c .if2 .left)
 
--- src/lib.rt:441:1
 returns-3 : tie.Need-returns-3
 returns-3 c = simp (ne-eqb _ _ (c .before .before .if1 .left), c .before .if3 .taken, eq-eqb _ _ (c .if4 .taken))
 
--- src/lib.rt:441:1
 returns-4 : tie.Need-returns-4
 returns-4 c = simp (ne-eqb _ _ (c .before .before .if1 .left), c .before .if3 .taken, ne-eqb _ _ (c .if4 .left))
 
--- src/lib.rt:441:1
 returns-5 : tie.Need-returns-5
 returns-5 c = simp (ne-eqb _ _ (c .before .if1 .left), c .if3 .left)
 

@@ -12,8 +12,6 @@ use Rattle.rigtests.specs.Tests.{at}
 use Rattle.rigtests.specs.Tables.{namedOwnerOne, namedOwnerB}
 use Rattle.rigtests.proofs.names_present.Statement.{statement}
 use Rattle.rigtests.proofs.names_present.Tie as tie
-use Rattle.rigtests.proofs.names_present.Reads as reads
-use Rattle.rigtests.proofs.names_present.Lts as lts
 
 abbrev Inv-loop : tie.InvT-loop
 Inv-loop present table bad₀ p₀ bad p = Passed bad p (namedOwnerOne present table) × (p ≤ 1040)
@@ -25,31 +23,24 @@ or-last : (a b : Bool) → b ≡ true → (a || b) ≡ true
 or-last true b e = refl
 or-last false b e = e
 
--- src/lib.rt:405:5
 loop-holds : tie.Need-loop-holds Inv-loop μ-loop
 loop-holds c = (passed-none _, search needs)
 
--- src/lib.rt:406:19
 element-copy-out-has : tie.Need-element-copy-out-has Inv-loop μ-loop
 element-copy-out-has c = search needs
 
--- src/lib.rt:407:21
 mul-owner : tie.Need-mul-owner Inv-loop μ-loop
 mul-owner c = search needs
 
--- src/lib.rt:407:21
 element-copy-out-owner : tie.Need-element-copy-out-owner Inv-loop μ-loop
 element-copy-out-owner c = search needs
 
--- src/lib.rt:413:13
 add-p : tie.Need-add-p Inv-loop μ-loop
 add-p c = search needs
 
--- src/lib.rt:405:5
 loop-less : tie.Need-loop-less Inv-loop μ-loop
 loop-less c = search needs
 
--- src/lib.rt:405:5
 loop-again : tie.Need-loop-again Inv-loop μ-loop
 loop-again c = (
   ⊎-elim (λ w. passed-not _ _ (sym (or-skip _ _ (ne-eqb _ 0 (w .1 .taken))) ∙ ne-eqb _ 1 (w .0 .taken)) (w .2))
@@ -59,7 +50,6 @@ loop-again c = (
   search needs,
 )
 
--- src/lib.rt:400:1
 returns : tie.Need-returns Inv-loop μ-loop
 unfolding namedOwnerB
 returns c =

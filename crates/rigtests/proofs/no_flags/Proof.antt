@@ -8,8 +8,6 @@ use Rattle.laws.specs.All.{all, all-zero, all-next, all-not}
 use Rattle.rigtests.specs.Passes.{zeroOne}
 use Rattle.rigtests.proofs.no_flags.Statement.{statement}
 use Rattle.rigtests.proofs.no_flags.Tie as tie
-use Rattle.rigtests.proofs.no_flags.Reads as reads
-use Rattle.rigtests.proofs.no_flags.Lts as lts
 
 abbrev Inv-loop : tie.InvT-loop
 Inv-loop flags k₀ k = (all k (zeroOne flags) ≡ true) × (k ≤ 15)
@@ -17,31 +15,24 @@ Inv-loop flags k₀ k = (all k (zeroOne flags) ≡ true) × (k ≤ 15)
 abbrev μ-loop : tie.MeasureT-loop
 μ-loop flags k₀ k = 15 - k
 
--- src/lib.rt:148:5
 loop-holds : tie.Need-loop-holds Inv-loop μ-loop
 loop-holds c = (all-zero _, search needs)
 
--- src/lib.rt:149:12
 element-copy-out-if1 : tie.Need-element-copy-out-if1 Inv-loop μ-loop
 element-copy-out-if1 c = search needs
 
--- src/lib.rt:150:13
 returns : tie.Need-returns Inv-loop μ-loop
 returns c = sym (all-not 15 _ (c .before .before .before .loop .k) (omega (arith, c .before .before .loop-test .taken)) (ne-eqb _ 0 (c .if1 .taken)))
 
--- src/lib.rt:152:13
 add-k : tie.Need-add-k Inv-loop μ-loop
 add-k c = search needs
 
--- src/lib.rt:148:5
 loop-less : tie.Need-loop-less Inv-loop μ-loop
 loop-less c = search needs
 
--- src/lib.rt:148:5
 loop-again : tie.Need-loop-again Inv-loop μ-loop
 loop-again c = (all-next _ _ (c .before .before .before .loop .inv .0) (eq-eqb _ 0 (c .if1 .left)), search needs)
 
--- src/lib.rt:144:1
 returns-2 : tie.Need-returns-2 Inv-loop μ-loop
 returns-2 c =
     let e : c .before .loop .k ≡ 15 = omega arith in

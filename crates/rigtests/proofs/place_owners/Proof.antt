@@ -8,9 +8,6 @@ use Rattle.laws.specs.Owners.{ownOne, owners}
 use Rattle.rigtests.specs.Tests.{placeOf}
 use Rattle.rigtests.proofs.place_owners.Statement.{statement}
 use Rattle.rigtests.proofs.place_owners.Tie as tie
-use Rattle.rigtests.proofs.place_owners.Reads as reads
-use Rattle.rigtests.proofs.place_owners.Lts as lts
-use Rattle.rigtests.proofs.place_of.Reads as place-of-reads
 
 abbrev Inv-loop : tie.InvT-loop
 Inv-loop n atask apos table₀ k₀ table k = (table ≡ iter k (ownOne (placeOf atask apos)) (replicate 1040 0)) × (k ≤ n)
@@ -18,54 +15,42 @@ Inv-loop n atask apos table₀ k₀ table k = (table ≡ iter k (ownOne (placeOf
 abbrev μ-loop : tie.MeasureT-loop
 μ-loop n atask apos table₀ k₀ table k = n - k
 
--- src/lib.rt:391:5
 loop-holds : tie.Need-loop-holds Inv-loop μ-loop
 loop-holds c = (sym (iter-zero _ _), search needs)
 
--- src/lib.rt:392:26
 element-copy-out-place-of : tie.Need-element-copy-out-place-of Inv-loop μ-loop
 element-copy-out-place-of c = omega (arith, c .before .before .pre .few)
 
--- src/lib.rt:392:36
 element-copy-out-place-of-2 : tie.Need-element-copy-out-place-of-2 Inv-loop μ-loop
 element-copy-out-place-of-2 c = omega (arith, c .before .before .before .pre .few)
 
--- src/lib.rt:392:13
 place-of-requires : tie.Need-place-of-requires Inv-loop μ-loop
 place-of-requires c κs = search needs
 
--- src/lib.rt:393:21
 add-table : tie.Need-add-table Inv-loop μ-loop
 add-table c = omega (arith, c .before .before .before .before .before .pre .few)
 
--- src/lib.rt:393:20
 cast-table : tie.Need-cast-table Inv-loop μ-loop
 cast-table c = omega (arith, c .before .before .before .before .before .pre .few)
 
--- src/lib.rt:393:9
 mul-table : tie.Need-mul-table Inv-loop μ-loop
 mul-table c = omega (arith, c .place-of .ensures, c .before .before .before .before .before .pre .low (c .before .before .before .before .loop .k) (c .before .before .before .loop-test .taken))
 
--- src/lib.rt:393:9
 array-write-table : tie.Need-array-write-table Inv-loop μ-loop
 array-write-table c = omega (arith, c .place-of .ensures, c .before .before .before .before .before .pre .low (c .before .before .before .before .loop .k) (c .before .before .before .loop-test .taken))
 
--- src/lib.rt:394:13
 add-k : tie.Need-add-k Inv-loop μ-loop
 add-k c = omega (arith, c .before .before .before .before .before .pre .few)
 
--- src/lib.rt:391:5
 loop-less : tie.Need-loop-less Inv-loop μ-loop
 loop-less c = search needs
 
--- src/lib.rt:391:5
 loop-again : tie.Need-loop-again Inv-loop μ-loop
 loop-again c =
     let d = c .before .before .before .before in
     let a = d .before .args in
     (ap (λ (p : ℕ). set (d .loop .table) p (d .loop .k + 1)) (c .place-of .ensures) ∙ iter-step (d .loop .k) (ownOne (placeOf (a .atask .now) (a .apos .now))) (replicate 1040 0) (d .loop .table) (d .loop .inv .0), search needs)
 
--- src/lib.rt:385:1
 returns : tie.Need-returns Inv-loop μ-loop
 unfolding owners
 returns c =

@@ -10,10 +10,6 @@ use Rattle.rigtests.specs.Tests.{at}
 use Rattle.rigtests.specs.Tables.{servedOne, servedB}
 use Rattle.rigtests.proofs.served.Statement.{statement}
 use Rattle.rigtests.proofs.served.Tie as tie
-use Rattle.rigtests.proofs.served.Reads as reads
-use Rattle.rigtests.proofs.served.Lts as lts
-use Rattle.rigtests.proofs.served_ok.Reads as served-ok-reads
-use Rattle.rigtests.proofs.wide.Reads as wide-reads
 
 abbrev Inv-loop : tie.InvT-loop
 Inv-loop activation table t₀ t = (all t (servedOne activation table) ≡ true) × (t ≤ 65)
@@ -21,52 +17,41 @@ Inv-loop activation table t₀ t = (all t (servedOne activation table) ≡ true)
 abbrev μ-loop : tie.MeasureT-loop
 μ-loop activation table t₀ t = 65 - t
 
--- src/lib.rt:341:5
 loop-holds : tie.Need-loop-holds Inv-loop μ-loop
 loop-holds c = (all-zero _, search needs)
 
--- src/lib.rt:342:22
 element-copy-out-wide : tie.Need-element-copy-out-wide Inv-loop μ-loop
 element-copy-out-wide c = search needs
 
--- src/lib.rt:342:13
 wide-requires : tie.Need-wide-requires Inv-loop μ-loop
 wide-requires c κs = search needs
 
--- src/lib.rt:343:23
 element-copy-out-served-ok : tie.Need-element-copy-out-served-ok Inv-loop μ-loop
 element-copy-out-served-ok c = search needs
 
--- src/lib.rt:343:38
 element-copy-out-served-ok-2 : tie.Need-element-copy-out-served-ok-2 Inv-loop μ-loop
 element-copy-out-served-ok-2 c = omega (arith, c .before .wide .ensures, c .before .before .before .before .before .pre (c .before .before .before .before .loop .t) (c .before .before .before .loop-test .taken))
 
--- src/lib.rt:343:13
 served-ok-requires : tie.Need-served-ok-requires Inv-loop μ-loop
 served-ok-requires c κs = search needs
 
--- src/lib.rt:344:13
 returns : tie.Need-returns Inv-loop μ-loop
 unfolding servedB
 returns c =
     let d = c .before .before .before .before .before .before .before in
     sym (all-not _ _ (d .loop .t) (c .before .before .before .before .before .before .loop-test .taken) (ap (λ (p : ℕ). eqb (at (d .before .args .activation .now) (d .loop .t)) 0 || eqb (at (d .before .args .table .now) p) (d .loop .t + 1)) (sym (c .before .before .before .before .wide .ensures)) ∙ sym (c .before .served-ok .ensures) ∙ not-true _ (c .if1 .taken)))
 
--- src/lib.rt:346:13
 add-t : tie.Need-add-t Inv-loop μ-loop
 add-t c = search needs
 
--- src/lib.rt:341:5
 loop-less : tie.Need-loop-less Inv-loop μ-loop
 loop-less c = search needs
 
--- src/lib.rt:341:5
 loop-again : tie.Need-loop-again Inv-loop μ-loop
 loop-again c =
     let d = c .before .before .before .before .before .before .before in
     (all-next _ _ (d .loop .inv .0) (ap (λ (p : ℕ). eqb (at (d .before .args .activation .now) (d .loop .t)) 0 || eqb (at (d .before .args .table .now) p) (d .loop .t + 1)) (sym (c .before .before .before .before .wide .ensures)) ∙ sym (c .before .served-ok .ensures) ∙ not-false _ (c .if1 .left)), search needs)
 
--- src/lib.rt:336:1
 returns-2 : tie.Need-returns-2 Inv-loop μ-loop
 unfolding servedB
 returns-2 c =

@@ -6,8 +6,6 @@ use Rattle.rigtests.specs.Tests.{smallB}
 use Rattle.rigtests.specs.Passes.{Topped, topped-none, topped-next}
 use Rattle.rigtests.proofs.small.Statement.{statement}
 use Rattle.rigtests.proofs.small.Tie as tie
-use Rattle.rigtests.proofs.small.Reads as reads
-use Rattle.rigtests.proofs.small.Lts as lts
 
 abbrev Inv-loop : tie.InvT-loop
 Inv-loop l top most₀ t₀ most t = Topped l top most t × (t ≤ 65)
@@ -15,27 +13,21 @@ Inv-loop l top most₀ t₀ most t = Topped l top most t × (t ≤ 65)
 abbrev μ-loop : tie.MeasureT-loop
 μ-loop l top most₀ t₀ most t = 65 - t
 
--- src/lib.rt:45:5
 loop-holds : tie.Need-loop-holds Inv-loop μ-loop
 loop-holds c = (topped-none (c .args .l .now) (c .args .top), search needs)
 
--- src/lib.rt:46:17
 element-copy-out-x : tie.Need-element-copy-out-x Inv-loop μ-loop
 element-copy-out-x c = search needs
 
--- src/lib.rt:50:13
 add-t : tie.Need-add-t Inv-loop μ-loop
 add-t c = search needs
 
--- src/lib.rt:45:5
 loop-less : tie.Need-loop-less Inv-loop μ-loop
 loop-less c = search needs
 
--- src/lib.rt:45:5
 loop-again : tie.Need-loop-again Inv-loop μ-loop
 loop-again c = (topped-next (c .before .before .before .before .args .l .now) _ _ _ (c .before .before .before .loop .inv .0) (c .if1 .came) (λ w. w .taken) (λ w. w .left), search needs)
 
--- src/lib.rt:40:1
 returns : tie.Need-returns Inv-loop μ-loop
 unfolding smallB
 returns c =

@@ -5,10 +5,6 @@ use native.Mathlib.Omega.{arith}
 use Rattle.rigtests.specs.Passes.{beyond-next, Largest, largest-start, largest-end}
 use Rattle.rigtests.proofs.task_zeros.Statement.{statement}
 use Rattle.rigtests.proofs.task_zeros.Tie as tie
-use Rattle.rigtests.proofs.task_zeros.Reads as reads
-use Rattle.rigtests.proofs.task_zeros.Lts as lts
-use Rattle.rigtests.proofs.four_zeros.Reads as four-zeros-reads
-use Rattle.rigtests.proofs.wide.Reads as wide-reads
 
 abbrev Inv-loop : tie.InvT-loop
 Inv-loop tasks controller priority privileged activation a₀ b₀ c₀ d₀ t₀ a b c d t = Largest tasks controller priority privileged activation a b c d t × ((tasks + 1 ≤ t) × (t - (tasks + 1) ≤ 65 - (tasks + 1)))
@@ -16,62 +12,48 @@ Inv-loop tasks controller priority privileged activation a₀ b₀ c₀ d₀ t�
 abbrev μ-loop : tie.MeasureT-loop
 μ-loop tasks controller priority privileged activation a₀ b₀ c₀ d₀ t₀ a b c d t = 65 - t
 
--- src/lib.rt:520:17
 element-copy-out-a : tie.Need-element-copy-out-a Inv-loop μ-loop
 element-copy-out-a c = search needs
 
--- src/lib.rt:521:17
 element-copy-out-b : tie.Need-element-copy-out-b Inv-loop μ-loop
 element-copy-out-b c = search needs
 
--- src/lib.rt:522:17
 element-copy-out-c : tie.Need-element-copy-out-c Inv-loop μ-loop
 element-copy-out-c c = search needs
 
--- src/lib.rt:523:17
 element-copy-out-d : tie.Need-element-copy-out-d Inv-loop μ-loop
 element-copy-out-d c = search needs
 
--- src/lib.rt:524:17
 wide-requires : tie.Need-wide-requires Inv-loop μ-loop
 wide-requires c κs = search needs
 
--- src/lib.rt:524:17
 add-t : tie.Need-add-t Inv-loop μ-loop
 add-t c = search needs
 
--- src/lib.rt:525:5
 loop-holds : tie.Need-loop-holds Inv-loop μ-loop
 loop-holds c =
     let s = c .before .before .before .before .before .args in
     let e : c .wide .result ≡ s .tasks = c .wide .ensures in
     (largest-start (s .tasks) (s .controller .now) (s .priority .now) (s .privileged .now) (s .activation .now) (c .wide .result + 1) (omega arith) (omega (arith, e)), (omega (arith, e), omega (arith, e)))
 
--- src/lib.rt:526:17
 element-copy-out-x : tie.Need-element-copy-out-x Inv-loop μ-loop
 element-copy-out-x c = search needs
 
--- src/lib.rt:530:17
 element-copy-out-y : tie.Need-element-copy-out-y Inv-loop μ-loop
 element-copy-out-y c = search needs
 
--- src/lib.rt:534:17
 element-copy-out-z : tie.Need-element-copy-out-z Inv-loop μ-loop
 element-copy-out-z c = search needs
 
--- src/lib.rt:538:17
 element-copy-out-w : tie.Need-element-copy-out-w Inv-loop μ-loop
 element-copy-out-w c = search needs
 
--- src/lib.rt:542:13
 add-t-2 : tie.Need-add-t-2 Inv-loop μ-loop
 add-t-2 c = search needs
 
--- src/lib.rt:525:5
 loop-less : tie.Need-loop-less Inv-loop μ-loop
 loop-less c = search needs
 
--- src/lib.rt:525:5
 loop-again : tie.Need-loop-again Inv-loop μ-loop
 loop-again c =
     let k = c .before .before .before .before .before .before .before .before .before .loop in
@@ -91,11 +73,9 @@ loop-again c =
       search needs,
     )
 
--- src/lib.rt:544:5
 four-zeros-requires : tie.Need-four-zeros-requires Inv-loop μ-loop
 four-zeros-requires c κs = search needs
 
--- src/lib.rt:510:1
 returns : tie.Need-returns Inv-loop μ-loop
 returns c =
     let k = c .before .before .loop in

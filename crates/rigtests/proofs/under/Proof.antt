@@ -8,8 +8,6 @@ use Rattle.laws.specs.All.{Passed, passed-none, passed-next, passed-not}
 use Rattle.rigtests.specs.Passes.{underOne}
 use Rattle.rigtests.proofs.under.Statement.{statement}
 use Rattle.rigtests.proofs.under.Tie as tie
-use Rattle.rigtests.proofs.under.Reads as reads
-use Rattle.rigtests.proofs.under.Lts as lts
 
 abbrev Inv-loop : tie.InvT-loop
 Inv-loop a b bad₀ i₀ bad i = Passed bad i (underOne a b) × (i ≤ 1040)
@@ -17,27 +15,21 @@ Inv-loop a b bad₀ i₀ bad i = Passed bad i (underOne a b) × (i ≤ 1040)
 abbrev μ-loop : tie.MeasureT-loop
 μ-loop a b bad₀ i₀ bad i = 1040 - i
 
--- src/lib.rt:77:5
 loop-holds : tie.Need-loop-holds Inv-loop μ-loop
 loop-holds c = (passed-none _, search needs)
 
--- src/lib.rt:78:12
 element-copy-out-if1 : tie.Need-element-copy-out-if1 Inv-loop μ-loop
 element-copy-out-if1 c = search needs
 
--- src/lib.rt:78:19
 element-copy-out-if1-2 : tie.Need-element-copy-out-if1-2 Inv-loop μ-loop
 element-copy-out-if1-2 c = search needs
 
--- src/lib.rt:81:13
 add-i : tie.Need-add-i Inv-loop μ-loop
 add-i c = search needs
 
--- src/lib.rt:77:5
 loop-less : tie.Need-loop-less Inv-loop μ-loop
 loop-less c = search needs
 
--- src/lib.rt:77:5
 loop-again : tie.Need-loop-again Inv-loop μ-loop
 loop-again c = (
   ⊎-elim (λ w. passed-not _ _ (lt-leb _ _ (w .0 .taken)) (w .1))
@@ -46,7 +38,6 @@ loop-again c = (
   search needs,
 )
 
--- src/lib.rt:72:1
 returns : tie.Need-returns Inv-loop μ-loop
 returns c =
     let e : c .before .loop .i ≡ 1040 = omega arith in

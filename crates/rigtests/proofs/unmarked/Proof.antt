@@ -10,9 +10,6 @@ use Rattle.rigtests.specs.Tests.{at, notMinorOne, notMinorB}
 use Rattle.rigtests.specs.Tables.{marked}
 use Rattle.rigtests.proofs.unmarked.Statement.{statement}
 use Rattle.rigtests.proofs.unmarked.Tie as tie
-use Rattle.rigtests.proofs.unmarked.Reads as reads
-use Rattle.rigtests.proofs.unmarked.Lts as lts
-use Rattle.rigtests.proofs.wide.Reads as wide-reads
 
 abbrev Inv-loop : tie.InvT-loop
 Inv-loop activation table t₀ t = (all t (notMinorOne activation (marked table)) ≡ true) × (t ≤ 65)
@@ -20,44 +17,35 @@ Inv-loop activation table t₀ t = (all t (notMinorOne activation (marked table)
 abbrev μ-loop : tie.MeasureT-loop
 μ-loop activation table t₀ t = 65 - t
 
--- src/lib.rt:374:5
 loop-holds : tie.Need-loop-holds Inv-loop μ-loop
 loop-holds c = (all-zero _, search needs)
 
--- src/lib.rt:375:22
 element-copy-out-wide : tie.Need-element-copy-out-wide Inv-loop μ-loop
 element-copy-out-wide c = search needs
 
--- src/lib.rt:375:13
 wide-requires : tie.Need-wide-requires Inv-loop μ-loop
 wide-requires c κs = search needs
 
--- src/lib.rt:376:12
 element-copy-out-if1 : tie.Need-element-copy-out-if1 Inv-loop μ-loop
 element-copy-out-if1 c = omega (arith, c .wide .ensures, c .before .before .before .before .pre (c .before .before .before .loop .t) (c .before .before .loop-test .taken))
 
--- src/lib.rt:377:13
 returns : tie.Need-returns Inv-loop μ-loop
 unfolding notMinorB
 returns c =
     let d = c .before .before .before .before .before in
     sym (all-not _ _ (d .loop .t) (c .before .before .before .before .loop-test .taken) (ap (λ (p : ℕ). not (not (eqb (at (d .before .args .table .now) p) 0))) (sym (c .before .before .wide .ensures)) ∙ simp (ne-eqb _ _ (c .if1 .taken))))
 
--- src/lib.rt:379:13
 add-t : tie.Need-add-t Inv-loop μ-loop
 add-t c = search needs
 
--- src/lib.rt:374:5
 loop-less : tie.Need-loop-less Inv-loop μ-loop
 loop-less c = search needs
 
--- src/lib.rt:374:5
 loop-again : tie.Need-loop-again Inv-loop μ-loop
 loop-again c =
     let d = c .before .before .before .before .before in
     (all-next _ _ (d .loop .inv .0) (ap (λ (p : ℕ). not (not (eqb (at (d .before .args .table .now) p) 0))) (sym (c .before .before .wide .ensures)) ∙ simp (eq-eqb _ _ (c .if1 .left))), search needs)
 
--- src/lib.rt:369:1
 returns-2 : tie.Need-returns-2 Inv-loop μ-loop
 unfolding notMinorB
 returns-2 c =

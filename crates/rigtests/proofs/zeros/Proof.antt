@@ -8,8 +8,6 @@ use Rattle.laws.specs.All.{Passed, passed-next, passed-not, since-start, since-
 use Rattle.rigtests.specs.Passes.{zeroOne, zeroFrom}
 use Rattle.rigtests.proofs.zeros.Statement.{statement}
 use Rattle.rigtests.proofs.zeros.Tie as tie
-use Rattle.rigtests.proofs.zeros.Reads as reads
-use Rattle.rigtests.proofs.zeros.Lts as lts
 
 abbrev Inv-loop : tie.InvT-loop
 Inv-loop l from to bad₀ i₀ bad i = Passed bad i (zeroFrom from l) × ((from ≤ i) × (i - from ≤ to - from))
@@ -17,23 +15,18 @@ Inv-loop l from to bad₀ i₀ bad i = Passed bad i (zeroFrom from l) × ((from 
 abbrev μ-loop : tie.MeasureT-loop
 μ-loop l from to bad₀ i₀ bad i = to - i
 
--- src/lib.rt:183:5
 loop-holds : tie.Need-loop-holds Inv-loop μ-loop
 loop-holds c = (sym (since-start (c .args .from) _ (c .args .from) (omega arith)), search needs)
 
--- src/lib.rt:184:12
 shared-slice-read-if1 : tie.Need-shared-slice-read-if1 Inv-loop μ-loop
 shared-slice-read-if1 c = search needs
 
--- src/lib.rt:187:13
 add-i : tie.Need-add-i Inv-loop μ-loop
 add-i c = search needs
 
--- src/lib.rt:183:5
 loop-less : tie.Need-loop-less Inv-loop μ-loop
 loop-less c = search needs
 
--- src/lib.rt:183:5
 loop-again : tie.Need-loop-again Inv-loop μ-loop
 loop-again c =
     let d = c .before .before .before .loop .inv in
@@ -45,7 +38,6 @@ loop-again c =
       search needs,
     )
 
--- src/lib.rt:177:1
 returns : tie.Need-returns Inv-loop μ-loop
 returns c =
     let a = c .before .before .args in

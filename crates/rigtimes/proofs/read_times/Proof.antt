@@ -4,9 +4,6 @@ use Prim.Native.Nat.{_≤_, _-_}
 use mathlib.Core.Logic.{⊎-elim}
 use Rattle.rigtimes.proofs.read_times.Statement.{statement}
 use Rattle.rigtimes.proofs.read_times.Tie as tie
-use Rattle.rigtimes.proofs.read_times.Reads as reads
-use Rattle.rigtimes.proofs.read_times.Lts as lts
-use Rattle.rigtimes.proofs.reads.Reads as reads-reads
 
 abbrev Inv-loop : tie.InvT-loop
 Inv-loop s turns n₀ i₀ n i = (i ≤ turns) × (n ≤ i)
@@ -14,31 +11,24 @@ Inv-loop s turns n₀ i₀ n i = (i ≤ turns) × (n ≤ i)
 abbrev μ-loop : tie.MeasureT-loop
 μ-loop s turns n₀ i₀ n i = turns - i
 
--- src/main.rt:43:5
 loop-holds : tie.Need-loop-holds Inv-loop μ-loop
 loop-holds c = omega arith
 
--- src/main.rt:44:12
 reads-requires : tie.Need-reads-requires Inv-loop μ-loop
 reads-requires c κs = search needs
 
--- src/main.rt:45:13
 add-n : tie.Need-add-n Inv-loop μ-loop
 add-n c = search needs
 
--- src/main.rt:47:9
 add-i : tie.Need-add-i Inv-loop μ-loop
 add-i c = search needs
 
--- src/main.rt:43:5
 loop-less : tie.Need-loop-less Inv-loop μ-loop
 loop-less c = search needs
 
--- src/main.rt:43:5
 loop-again : tie.Need-loop-again Inv-loop μ-loop
 loop-again c = ⊎-elim (λ w. omega arith) (λ w. omega arith) (c .if1 .came)
 
--- src/main.rt:40:1
 returns : tie.Need-returns Inv-loop μ-loop
 returns c = search needs
 

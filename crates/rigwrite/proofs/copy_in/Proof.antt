@@ -1,12 +1,9 @@
 use borrow.Author.Needs.{needs}
-use native.Mathlib.Omega.{arith}
 use Prim.Native.Nat.{_-_}
 use mathlib.Core.Path.{refl}
 use Rattle.rigwrite.specs.Chain.{Copied, copy-start, copy-place, copy-turn, copy-end}
 use Rattle.rigwrite.proofs.copy_in.Statement.{statement}
 use Rattle.rigwrite.proofs.copy_in.Tie as tie
-use Rattle.rigwrite.proofs.copy_in.Reads as reads
-use Rattle.rigwrite.proofs.copy_in.Lts as lts
 
 abbrev Inv-loop : tie.InvT-loop
 Inv-loop buf₀ from n i₀ buf i = Copied buf₀ buf from n i
@@ -14,35 +11,27 @@ Inv-loop buf₀ from n i₀ buf i = Copied buf₀ buf from n i
 abbrev μ-loop : tie.MeasureT-loop
 μ-loop buf₀ from n i₀ buf i = n - i
 
--- src/lib.rt:262:5
 loop-holds : tie.Need-loop-holds Inv-loop μ-loop
 loop-holds c = copy-start _ _ _ (c .pre .0) (c .pre .1)
 
--- src/lib.rt:263:18
 shared-slice-read-buf : tie.Need-shared-slice-read-buf Inv-loop μ-loop
 shared-slice-read-buf c = copy-place _ _ _ _ _ (c .before .before .loop .inv) (c .before .loop-test .taken) .1
 
--- src/lib.rt:263:9
 slice-write-buf : tie.Need-slice-write-buf Inv-loop μ-loop
 slice-write-buf c = copy-place _ _ _ _ _ (c .before .before .loop .inv) (c .before .loop-test .taken) .0
 
--- src/lib.rt:264:9
 add-i : tie.Need-add-i Inv-loop μ-loop
 add-i c = search needs
 
--- src/lib.rt:262:5
 loop-less : tie.Need-loop-less Inv-loop μ-loop
 loop-less c = search needs
 
--- src/lib.rt:262:5
 loop-again : tie.Need-loop-again Inv-loop μ-loop
 loop-again c = copy-turn _ _ _ _ _ (c .before .before .loop .inv) (c .before .loop-test .taken) _ refl
 
--- src/lib.rt:257:1
 same-length : tie.Need-same-length Inv-loop μ-loop
 same-length c = c .before .loop .inv .size
 
--- src/lib.rt:257:1
 returns : tie.Need-returns Inv-loop μ-loop
 returns c = copy-end _ _ _ _ _ (c .before .loop .inv) (c .loop-test .left)
 

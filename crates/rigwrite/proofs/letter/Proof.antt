@@ -1,33 +1,24 @@
-use borrow.Author.Needs.{needs}
-use mathlib.Core.Path.{_≡_, sym}
 use borrow.Author.Tests.{eq-eqb, ne-eqb}
 use Rattle.rigrows.specs.Kinds.{nameOf}
 use Rattle.rigwrite.proofs.letter.Statement.{statement}
 use Rattle.rigwrite.proofs.letter.Tie as tie
-use Rattle.rigwrite.proofs.letter.Reads as reads
-use Rattle.rigwrite.proofs.letter.Lts as lts
 
--- src/lib.rt:44:9
 returns : tie.Need-returns
 unfolding nameOf
 returns c = rw (ne-eqb _ _ (c .before .pre), eq-eqb _ _ (c .if1 .taken))
 
--- src/lib.rt:47:9
 returns-2 : tie.Need-returns-2
 unfolding nameOf
 returns-2 c = rw (ne-eqb _ _ (c .before .before .pre), ne-eqb _ _ (c .before .if1 .left), eq-eqb _ _ (c .if2 .taken))
 
--- src/lib.rt:50:9
 returns-3 : tie.Need-returns-3
 unfolding nameOf
 returns-3 c = rw (ne-eqb _ _ (c .before .before .before .pre), ne-eqb _ _ (c .before .before .if1 .left), ne-eqb _ _ (c .before .if2 .left), eq-eqb _ _ (c .if3 .taken))
 
--- src/lib.rt:53:9
 returns-4 : tie.Need-returns-4
 unfolding nameOf
 returns-4 c = rw (ne-eqb _ _ (c .before .before .before .before .pre), ne-eqb _ _ (c .before .before .before .if1 .left), ne-eqb _ _ (c .before .before .if2 .left), ne-eqb _ _ (c .before .if3 .left), eq-eqb _ _ (c .if4 .taken))
 
--- src/lib.rt:39:1
 returns-5 : tie.Need-returns-5
 unfolding nameOf
 returns-5 c = rw (ne-eqb _ _ (c .before .before .before .before .pre), ne-eqb _ _ (c .before .before .before .if1 .left), ne-eqb _ _ (c .before .before .if2 .left), ne-eqb _ _ (c .before .if3 .left), ne-eqb _ _ (c .if4 .left))

@@ -1,18 +1,11 @@
 use borrow.Author.Needs.{needs}
 use native.Mathlib.Omega.{arith}
 use Prim.Native.Nat.{_-_}
-use mathlib.Core.Path.{_≡_, refl, sym, _∙_}
-use borrow.Author.Tests.{eq-eqb, ne-eqb}
-use lib.ListN.{length}
 use Rattle.rigwrite.specs.Kept.{InKept, kept-start, kept-end, kept-skip, line-room, kept-turn, room-as, ended}
-use Rattle.rigwrite.specs.File.{isTask, taskLine, isCondition, conditionLine, isLine, flagLine, isFlag, cycleLine, isRow, rowLine}
-use Rattle.rigwrite.specs.Lines.{rig-text, five-text, four-text, three-text, two-text, seven-text, task-yes, task-low, task-high, below-yes, below-no, flag-no, flag-yes}
+use Rattle.rigwrite.specs.File.{isFlag, cycleLine}
+use Rattle.rigwrite.specs.Lines.{two-text, flag-no, flag-yes}
 use Rattle.rigwrite.proofs.put_cycles.Statement.{statement}
 use Rattle.rigwrite.proofs.put_cycles.Tie as tie
-use Rattle.rigwrite.proofs.put_cycles.Reads as reads
-use Rattle.rigwrite.proofs.put_cycles.Lts as lts
-use Rattle.rigwrite.proofs.byte.Reads as byte-reads
-use Rattle.rigwrite.proofs.put_line.Reads as put-line-reads
 
 abbrev Inv-loop : tie.InvT-loop
 Inv-loop buf₀ at table p₀ i₀ buf p i = InKept buf₀ buf at 960 (isFlag table) (cycleLine table) p i
@@ -20,55 +13,42 @@ Inv-loop buf₀ at table p₀ i₀ buf p i = InKept buf₀ buf at 960 (isFlag ta
 abbrev μ-loop : tie.MeasureT-loop
 μ-loop buf₀ at table p₀ i₀ buf p i = 960 - i
 
--- src/lib.rt:175:5
 loop-holds : tie.Need-loop-holds Inv-loop μ-loop
 loop-holds c = kept-start _ _ 960 _ _ (c .before .pre)
 
--- src/lib.rt:178:9
 add-i : tie.Need-add-i Inv-loop μ-loop
 add-i c = search needs
 
--- src/lib.rt:179:20
 mul-flag : tie.Need-mul-flag Inv-loop μ-loop
 mul-flag c = search needs
 
--- src/lib.rt:179:20
 index-1-flag : tie.Need-index-1-flag Inv-loop μ-loop
 index-1-flag c = omega (arith, c .loop-test .taken)
 
--- src/lib.rt:179:20
 index-2-flag : tie.Need-index-2-flag Inv-loop μ-loop
 index-2-flag c = omega arith
 
--- src/lib.rt:175:5
 loop-less : tie.Need-loop-less Inv-loop μ-loop
 loop-less c = search needs
 
--- src/lib.rt:175:5
 loop-again : tie.Need-loop-again Inv-loop μ-loop
 loop-again c = kept-skip _ _ _ _ _ _ _ _ (c .before .before .before .loop .inv) (c .before .before .loop-test .taken) (flag-no _ (c .if1 .taken))
 
--- src/lib.rt:183:40
 byte-requires : tie.Need-byte-requires Inv-loop μ-loop
 byte-requires c κs = omega (arith, c .before .before .before .loop-test .taken)
 
--- src/lib.rt:183:9
 put-line-requires : tie.Need-put-line-requires Inv-loop μ-loop
 put-line-requires c κs = (omega arith, room-as _ (ended (cycleLine (c .before .before .before .before .before .before .before .args .t3) (c .before .before .before .before .before .loop .i))) _ _ (two-text _ _ _ (c .byte .ensures)) (line-room _ _ _ _ _ _ _ _ (c .before .before .before .before .before .loop .inv) (c .before .before .before .before .loop-test .taken) (flag-yes _ (c .before .before .if1 .left))))
 
--- src/lib.rt:175:5
 loop-less-2 : tie.Need-loop-less-2 Inv-loop μ-loop
 loop-less-2 c = search needs
 
--- src/lib.rt:175:5
 loop-again-2 : tie.Need-loop-again-2 Inv-loop μ-loop
 loop-again-2 c = kept-turn _ _ _ _ _ _ _ _ (c .before .before .before .before .before .before .before .before .loop .inv) (c .before .before .before .before .before .before .before .loop-test .taken) (flag-yes _ (c .before .before .before .before .before .if1 .left)) _ _ _ (two-text _ _ _ (c .before .before .before .byte .ensures)) (c .before .before .put-line .ensures .0) (c .before .before .put-line .ensures .1)
 
--- src/lib.rt:169:1
 same-length : tie.Need-same-length Inv-loop μ-loop
 same-length c = c .before .loop .inv .size
 
--- src/lib.rt:169:1
 returns : tie.Need-returns Inv-loop μ-loop
 returns c = kept-end _ _ _ _ _ _ _ _ (c .before .loop .inv) (c .loop-test .left)
 

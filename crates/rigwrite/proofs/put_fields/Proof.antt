@@ -1,15 +1,11 @@
 use borrow.Author.Needs.{needs}
 use native.Mathlib.Omega.{arith}
-use Prim.Native.Nat.{_-_, _≤_}
+use Prim.Native.Nat.{_-_}
 use mathlib.Core.Path.{_≡_}
-use lib.ListN.{length, length-set}
+use lib.ListN.{length}
 use Rattle.rigwrite.specs.Line.{InFields, fields-start, fields-end, field-room, fields-turn}
 use Rattle.rigwrite.proofs.put_fields.Statement.{statement}
 use Rattle.rigwrite.proofs.put_fields.Tie as tie
-use Rattle.rigwrite.proofs.put_fields.Reads as reads
-use Rattle.rigwrite.proofs.put_fields.Lts as lts
-use Rattle.decimal.proofs.put_number.Reads as put-number-reads
-use Rattle.rigwrite.proofs.number.Reads as number-reads
 
 abbrev Inv-loop : tie.InvT-loop
 Inv-loop buf₀ at m v p₀ f₀ buf p f = InFields buf₀ buf at m v p f
@@ -17,47 +13,36 @@ Inv-loop buf₀ at m v p₀ f₀ buf p f = InFields buf₀ buf at m v p f
 abbrev μ-loop : tie.MeasureT-loop
 μ-loop buf₀ at m v p₀ f₀ buf p f = m - f
 
--- src/lib.rt:81:5
 loop-holds : tie.Need-loop-holds Inv-loop μ-loop
 loop-holds c = let l : length (c .before .args .t4) ≡ 9 = search needs in fields-start _ _ _ _ (omega (arith, c .before .pre .0)) (c .before .pre .1)
 
--- src/lib.rt:82:9
 slice-write-buf : tie.Need-slice-write-buf Inv-loop μ-loop
 slice-write-buf c = field-room _ _ _ _ _ _ _ (c .before .loop .inv) (c .loop-test .taken) .0
 
--- src/lib.rt:83:17
 add-a : tie.Need-add-a Inv-loop μ-loop
 add-a c = let w = field-room _ _ _ _ _ _ _ (c .before .loop .inv) (c .loop-test .taken) in omega arith
 
--- src/lib.rt:84:24
 array-read-number : tie.Need-array-read-number Inv-loop μ-loop
 array-read-number c = search needs
 
--- src/lib.rt:84:13
 number-requires : tie.Need-number-requires Inv-loop μ-loop
 number-requires c κs = search needs
 
--- src/lib.rt:85:9
 put-number-requires : tie.Need-put-number-requires Inv-loop μ-loop
 put-number-requires c κs = (omega (arith, c .before .number .ensures .1), rw (c .before .number .ensures .0) (field-room _ _ _ _ _ _ _ (c .before .before .before .loop .inv) (c .before .before .loop-test .taken) .1))
 
--- src/lib.rt:86:9
 add-f : tie.Need-add-f Inv-loop μ-loop
 add-f c = search needs
 
--- src/lib.rt:81:5
 loop-less : tie.Need-loop-less Inv-loop μ-loop
 loop-less c = search needs
 
--- src/lib.rt:81:5
 loop-again : tie.Need-loop-again Inv-loop μ-loop
 loop-again c = fields-turn _ _ _ _ _ _ _ (c .before .before .before .before .before .before .loop .inv) (c .before .before .before .before .before .loop-test .taken) _ _ _ (c .before .before .before .before .number .ensures .0) (c .before .before .put-number .ensures .0) (c .before .before .put-number .ensures .1) (c .before .before .put-number .kept .0)
 
--- src/lib.rt:75:1
 same-length : tie.Need-same-length Inv-loop μ-loop
 same-length c = c .before .loop .inv .size
 
--- src/lib.rt:75:1
 returns : tie.Need-returns Inv-loop μ-loop
 returns c = fields-end _ _ _ _ _ _ _ (c .before .loop .inv) (c .loop-test .left)
 

@@ -1,47 +1,30 @@
 use native.Mathlib.Omega.{arith}
-use Rattle.rigwrite.specs.Kept.{Wrote, part-first, part-room, part-on}
+use Rattle.rigwrite.specs.Kept.{part-first, part-room, part-on}
 use Rattle.rigwrite.specs.Chain.{room-1, room-2, room-3, room-4, room-5, room-6, file-written}
-use borrow.Author.Needs.{needs}
 use Rattle.rigwrite.proofs.put_file.Statement.{statement}
 use Rattle.rigwrite.proofs.put_file.Tie as tie
-use Rattle.rigwrite.proofs.put_file.Reads as reads
-use Rattle.rigwrite.proofs.put_file.Lts as lts
-use Rattle.rigwrite.proofs.put_alines.Reads as put-alines-reads
-use Rattle.rigwrite.proofs.put_conditions.Reads as put-conditions-reads
-use Rattle.rigwrite.proofs.put_cycles.Reads as put-cycles-reads
-use Rattle.rigwrite.proofs.put_rig.Reads as put-rig-reads
-use Rattle.rigwrite.proofs.put_rows.Reads as put-rows-reads
-use Rattle.rigwrite.proofs.put_tasks.Reads as put-tasks-reads
 
--- src/lib.rt:248:9
 put-rig-requires : tie.Need-put-rig-requires
 put-rig-requires c κs = let z = (room-1 _ (c .before .before .args .g) (c .before .before .args .table) (c .before .before .pre)) in omega arith
 
--- src/lib.rt:249:9
 put-tasks-requires : tie.Need-put-tasks-requires
 put-tasks-requires c κs = part-room _ _ _ _ (part-first _ _ _ _ (room-1 _ (c .before .before .before .before .before .before .args .g) (c .before .before .before .before .before .before .args .table) (c .before .before .before .before .before .before .pre)) (c .before .before .before .put-rig .ensures .0) (c .before .before .before .put-rig .ensures .1)) _ (room-2 _ (c .before .before .before .before .before .before .args .g) (c .before .before .before .before .before .before .args .table) (c .before .before .before .before .before .before .pre))
 
--- src/lib.rt:250:9
 put-conditions-requires : tie.Need-put-conditions-requires
 put-conditions-requires c κs = part-room _ _ _ _ (part-on _ _ _ _ (part-first _ _ _ _ (room-1 _ (c .before .before .before .before .before .before .before .before .before .before .args .g) (c .before .before .before .before .before .before .before .before .before .before .args .table) (c .before .before .before .before .before .before .before .before .before .before .pre)) (c .before .before .before .before .before .before .before .put-rig .ensures .0) (c .before .before .before .before .before .before .before .put-rig .ensures .1)) _ _ _ (room-2 _ (c .before .before .before .before .before .before .before .before .before .before .args .g) (c .before .before .before .before .before .before .before .before .before .before .args .table) (c .before .before .before .before .before .before .before .before .before .before .pre)) (c .before .before .before .put-tasks .ensures .0) (c .before .before .before .put-tasks .ensures .1)) _ (room-3 _ (c .before .before .before .before .before .before .before .before .before .before .args .g) (c .before .before .before .before .before .before .before .before .before .before .args .table) (c .before .before .before .before .before .before .before .before .before .before .pre))
 
--- src/lib.rt:251:9
 put-alines-requires : tie.Need-put-alines-requires
 put-alines-requires c κs = part-room _ _ _ _ (part-on _ _ _ _ (part-on _ _ _ _ (part-first _ _ _ _ (room-1 _ (c .before .before .before .before .before .before .before .before .before .before .before .before .before .before .args .g) (c .before .before .before .before .before .before .before .before .before .before .before .before .before .before .args .table) (c .before .before .before .before .before .before .before .before .before .before .before .before .before .before .pre)) (c .before .before .before .before .before .before .before .before .before .before .before .put-rig .ensures .0) (c .before .before .before .before .before .before .before .before .before .before .before .put-rig .ensures .1)) _ _ _ (room-2 _ (c .before .before .before .before .before .before .before .before .before .before .before .before .before .before .args .g) (c .before .before .before .before .before .before .before .before .before .before .before .before .before .before .args .table) (c .before .before .before .before .before .before .before .before .before .before .before .before .before .before .pre)) (c .before .before .before .before .before .before .before .put-tasks .ensures .0) (c .before .before .before .before .before .before .before .put-tasks .ensures .1)) _ _ _ (room-3 _ (c .before .before .before .before .before .before .before .before .before .before .before .before .before .before .args .g) (c .before .before .before .before .before .before .before .before .before .before .before .before .before .before .args .table) (c .before .before .before .before .before .before .before .before .before .before .before .before .before .before .pre)) (c .before .before .before .put-conditions .ensures .0) (c .before .before .before .put-conditions .ensures .1)) _ (room-4 _ (c .before .before .before .before .before .before .before .before .before .before .before .before .before .before .args .g) (c .before .before .before .before .before .before .before .before .before .before .before .before .before .before .args .table) (c .before .before .before .before .before .before .before .before .before .before .before .before .before .before .pre))
 
--- src/lib.rt:252:9
 put-cycles-requires : tie.Need-put-cycles-requires
 put-cycles-requires c κs = part-room _ _ _ _ (part-on _ _ _ _ (part-on _ _ _ _ (part-on _ _ _ _ (part-first _ _ _ _ (room-1 _ (c .before .before .before .before .before .before .before .before .before .before .before .before .before .before .before .before .before .before .args .g) (c .before .before .before .before .before .before .before .before .before .before .before .before .before .before .before .before .before .before .args .table) (c .before .before .before .before .before .before .before .before .before .before .before .before .before .before .before .before .before .before .pre)) (c .before .before .before .before .before .before .before .before .before .before .before .before .before .before .before .put-rig .ensures .0) (c .before .before .before .before .before .before .before .before .before .before .before .before .before .before .before .put-rig .ensures .1)) _ _ _ (room-2 _ (c .before .before .before .before .before .before .before .before .before .before .before .before .before .before .before .before .before .before .args .g) (c .before .before .before .before .before .before .before .before .before .before .before .before .before .before .before .before .before .before .args .table) (c .before .before .before .before .before .before .before .before .before .before .before .before .before .before .before .before .before .before .pre)) (c .before .before .before .before .before .before .before .before .before .before .before .put-tasks .ensures .0) (c .before .before .before .before .before .before .before .before .before .before .before .put-tasks .ensures .1)) _ _ _ (room-3 _ (c .before .before .before .before .before .before .before .before .before .before .before .before .before .before .before .before .before .before .args .g) (c .before .before .before .before .before .before .before .before .before .before .before .before .before .before .before .before .before .before .args .table) (c .before .before .before .before .before .before .before .before .before .before .before .before .before .before .before .before .before .before .pre)) (c .before .before .before .before .before .before .before .put-conditions .ensures .0) (c .before .before .before .before .before .before .before .put-conditions .ensures .1)) _ _ _ (room-4 _ (c .before .before .before .before .before .before .before .before .before .before .before .before .before .before .before .before .before .before .args .g) (c .before .before .before .before .before .before .before .before .before .before .before .before .before .before .before .before .before .before .args .table) (c .before .before .before .before .before .before .before .before .before .before .before .before .before .before .before .before .before .before .pre)) (c .before .before .before .put-alines .ensures .0) (c .before .before .before .put-alines .ensures .1)) _ (room-5 _ (c .before .before .before .before .before .before .before .before .before .before .before .before .before .before .before .before .before .before .args .g) (c .before .before .before .before .before .before .before .before .before .before .before .before .before .before .before .before .before .before .args .table) (c .before .before .before .before .before .before .before .before .before .before .before .before .before .before .before .before .before .before .pre))
 
--- src/lib.rt:253:5
 put-rows-requires : tie.Need-put-rows-requires
 put-rows-requires c κs = part-room _ _ _ _ (part-on _ _ _ _ (part-on _ _ _ _ (part-on _ _ _ _ (part-on _ _ _ _ (part-first _ _ _ _ (room-1 _ (c .before .before .before .before .before .before .before .before .before .before .before .before .before .before .before .before .before .before .before .before .before .before .args .g) (c .before .before .before .before .before .before .before .before .before .before .before .before .before .before .before .before .before .before .before .before .before .before .args .table) (c .before .before .before .before .before .before .before .before .before .before .before .before .before .before .before .before .before .before .before .before .before .before .pre)) (c .before .before .before .before .before .before .before .before .before .before .before .before .before .before .before .before .before .before .before .put-rig .ensures .0) (c .before .before .before .before .before .before .before .before .before .before .before .before .before .before .before .before .before .before .before .put-rig .ensures .1)) _ _ _ (room-2 _ (c .before .before .before .before .before .before .before .before .before .before .before .before .before .before .before .before .before .before .before .before .before .before .args .g) (c .before .before .before .before .before .before .before .before .before .before .before .before .before .before .before .before .before .before .before .before .before .before .args .table) (c .before .before .before .before .before .before .before .before .before .before .before .before .before .before .before .before .before .before .before .before .before .before .pre)) (c .before .before .before .before .before .before .before .before .before .before .before .before .before .before .before .put-tasks .ensures .0) (c .before .before .before .before .before .before .before .before .before .before .before .before .before .before .before .put-tasks .ensures .1)) _ _ _ (room-3 _ (c .before .before .before .before .before .before .before .before .before .before .before .before .before .before .before .before .before .before .before .before .before .before .args .g) (c .before .before .before .before .before .before .before .before .before .before .before .before .before .before .before .before .before .before .before .before .before .before .args .table) (c .before .before .before .before .before .before .before .before .before .before .before .before .before .before .before .before .before .before .before .before .before .before .pre)) (c .before .before .before .before .before .before .before .before .before .before .before .put-conditions .ensures .0) (c .before .before .before .before .before .before .before .before .before .before .before .put-conditions .ensures .1)) _ _ _ (room-4 _ (c .before .before .before .before .before .before .before .before .before .before .before .before .before .before .before .before .before .before .before .before .before .before .args .g) (c .before .before .before .before .before .before .before .before .before .before .before .before .before .before .before .before .before .before .before .before .before .before .args .table) (c .before .before .before .before .before .before .before .before .before .before .before .before .before .before .before .before .before .before .before .before .before .before .pre)) (c .before .before .before .before .before .before .before .put-alines .ensures .0) (c .before .before .before .before .before .before .before .put-alines .ensures .1)) _ _ _ (room-5 _ (c .before .before .before .before .before .before .before .before .before .before .before .before .before .before .before .before .before .before .before .before .before .before .args .g) (c .before .before .before .before .before .before .before .before .before .before .before .before .before .before .before .before .before .before .before .before .before .before .args .table) (c .before .before .before .before .before .before .before .before .before .before .before .before .before .before .before .before .before .before .before .before .before .before .pre)) (c .before .before .before .put-cycles .ensures .0) (c .before .before .before .put-cycles .ensures .1)) _ (room-6 _ (c .before .before .before .before .before .before .before .before .before .before .before .before .before .before .before .before .before .before .before .before .before .before .args .g) (c .before .before .before .before .before .before .before .before .before .before .before .before .before .before .before .before .before .before .before .before .before .before .args .table) (c .before .before .before .before .before .before .before .before .before .before .before .before .before .before .before .before .before .before .before .before .before .before .pre))
 
--- src/lib.rt:244:1
 same-length : tie.Need-same-length
 same-length c = (part-on _ _ _ _ (part-on _ _ _ _ (part-on _ _ _ _ (part-on _ _ _ _ (part-on _ _ _ _ (part-first _ _ _ _ (room-1 _ (c .before .before .before .before .before .before .before .before .before .before .before .before .before .before .before .before .before .before .before .before .before .before .before .before .before .args .g) (c .before .before .before .before .before .before .before .before .before .before .before .before .before .before .before .before .before .before .before .before .before .before .before .before .before .args .table) (c .before .before .before .before .before .before .before .before .before .before .before .before .before .before .before .before .before .before .before .before .before .before .before .before .before .pre)) (c .before .before .before .before .before .before .before .before .before .before .before .before .before .before .before .before .before .before .before .before .before .before .put-rig .ensures .0) (c .before .before .before .before .before .before .before .before .before .before .before .before .before .before .before .before .before .before .before .before .before .before .put-rig .ensures .1)) _ _ _ (room-2 _ (c .before .before .before .before .before .before .before .before .before .before .before .before .before .before .before .before .before .before .before .before .before .before .before .before .before .args .g) (c .before .before .before .before .before .before .before .before .before .before .before .before .before .before .before .before .before .before .before .before .before .before .before .before .before .args .table) (c .before .before .before .before .before .before .before .before .before .before .before .before .before .before .before .before .before .before .before .before .before .before .before .before .before .pre)) (c .before .before .before .before .before .before .before .before .before .before .before .before .before .before .before .before .before .before .put-tasks .ensures .0) (c .before .before .before .before .before .before .before .before .before .before .before .before .before .before .before .before .before .before .put-tasks .ensures .1)) _ _ _ (room-3 _ (c .before .before .before .before .before .before .before .before .before .before .before .before .before .before .before .before .before .before .before .before .before .before .before .before .before .args .g) (c .before .before .before .before .before .before .before .before .before .before .before .before .before .before .before .before .before .before .before .before .before .before .before .before .before .args .table) (c .before .before .before .before .before .before .before .before .before .before .before .before .before .before .before .before .before .before .before .before .before .before .before .before .before .pre)) (c .before .before .before .before .before .before .before .before .before .before .before .before .before .before .put-conditions .ensures .0) (c .before .before .before .before .before .before .before .before .before .before .before .before .before .before .put-conditions .ensures .1)) _ _ _ (room-4 _ (c .before .before .before .before .before .before .before .before .before .before .before .before .before .before .before .before .before .before .before .before .before .before .before .before .before .args .g) (c .before .before .before .before .before .before .before .before .before .before .before .before .before .before .before .before .before .before .before .before .before .before .before .before .before .args .table) (c .before .before .before .before .before .before .before .before .before .before .before .before .before .before .before .before .before .before .before .before .before .before .before .before .before .pre)) (c .before .before .before .before .before .before .before .before .before .before .put-alines .ensures .0) (c .before .before .before .before .before .before .before .before .before .before .put-alines .ensures .1)) _ _ _ (room-5 _ (c .before .before .before .before .before .before .before .before .before .before .before .before .before .before .before .before .before .before .before .before .before .before .before .before .before .args .g) (c .before .before .before .before .before .before .before .before .before .before .before .before .before .before .before .before .before .before .before .before .before .before .before .before .before .args .table) (c .before .before .before .before .before .before .before .before .before .before .before .before .before .before .before .before .before .before .before .before .before .before .before .before .before .pre)) (c .before .before .before .before .before .before .put-cycles .ensures .0) (c .before .before .before .before .before .before .put-cycles .ensures .1)) _ _ _ (room-6 _ (c .before .before .before .before .before .before .before .before .before .before .before .before .before .before .before .before .before .before .before .before .before .before .before .before .before .args .g) (c .before .before .before .before .before .before .before .before .before .before .before .before .before .before .before .before .before .before .before .before .before .before .before .before .before .args .table) (c .before .before .before .before .before .before .before .before .before .before .before .before .before .before .before .before .before .before .before .before .before .before .before .before .before .pre)) (c .before .before .put-rows .ensures .0) (c .before .before .put-rows .ensures .1)) .size
 
--- src/lib.rt:244:1
 returns : tie.Need-returns
 returns c = file-written _ _ (c .before .before .before .before .before .before .before .before .before .before .before .before .before .before .before .before .before .before .before .before .before .before .before .before .before .args .g) (c .before .before .before .before .before .before .before .before .before .before .before .before .before .before .before .before .before .before .before .before .before .before .before .before .before .args .table) _ (part-on _ _ _ _ (part-on _ _ _ _ (part-on _ _ _ _ (part-on _ _ _ _ (part-on _ _ _ _ (part-first _ _ _ _ (room-1 _ (c .before .before .before .before .before .before .before .before .before .before .before .before .before .before .before .before .before .before .before .before .before .before .before .before .before .args .g) (c .before .before .before .before .before .before .before .before .before .before .before .before .before .before .before .before .before .before .before .before .before .before .before .before .before .args .table) (c .before .before .before .before .before .before .before .before .before .before .before .before .before .before .before .before .before .before .before .before .before .before .before .before .before .pre)) (c .before .before .before .before .before .before .before .before .before .before .before .before .before .before .before .before .before .before .before .before .before .before .put-rig .ensures .0) (c .before .before .before .before .before .before .before .before .before .before .before .before .before .before .before .before .before .before .before .before .before .before .put-rig .ensures .1)) _ _ _ (room-2 _ (c .before .before .before .before .before .before .before .before .before .before .before .before .before .before .before .before .before .before .before .before .before .before .before .before .before .args .g) (c .before .before .before .before .before .before .before .before .before .before .before .before .before .before .before .before .before .before .before .before .before .before .before .before .before .args .table) (c .before .before .before .before .before .before .before .before .before .before .before .before .before .before .before .before .before .before .before .before .before .before .before .before .before .pre)) (c .before .before .before .before .before .before .before .before .before .before .before .before .before .before .before .before .before .before .put-tasks .ensures .0) (c .before .before .before .before .before .before .before .before .before .before .before .before .before .before .before .before .before .before .put-tasks .ensures .1)) _ _ _ (room-3 _ (c .before .before .before .before .before .before .before .before .before .before .before .before .before .before .before .before .before .before .before .before .before .before .before .before .before .args .g) (c .before .before .before .before .before .before .before .before .before .before .before .before .before .before .before .before .before .before .before .before .before .before .before .before .before .args .table) (c .before .before .before .before .before .before .before .before .before .before .before .before .before .before .before .before .before .before .before .before .before .before .before .before .before .pre)) (c .before .before .before .before .before .before .before .before .before .before .before .before .before .before .put-conditions .ensures .0) (c .before .before .before .before .before .before .before .before .before .before .before .before .before .before .put-conditions .ensures .1)) _ _ _ (room-4 _ (c .before .before .before .before .before .before .before .before .before .before .before .before .before .before .before .before .before .before .before .before .before .before .before .before .before .args .g) (c .before .before .before .before .before .before .before .before .before .before .before .before .before .before .before .before .before .before .before .before .before .before .before .before .before .args .table) (c .before .before .before .before .before .before .before .before .before .before .before .before .before .before .before .before .before .before .before .before .before .before .before .before .before .pre)) (c .before .before .before .before .before .before .before .before .before .before .put-alines .ensures .0) (c .before .before .before .before .before .before .before .before .before .before .put-alines .ensures .1)) _ _ _ (room-5 _ (c .before .before .before .before .before .before .before .before .before .before .before .before .before .before .before .before .before .before .before .before .before .before .before .before .before .args .g) (c .before .before .before .before .before .before .before .before .before .before .before .before .before .before .before .before .before .before .before .before .before .before .before .before .before .args .table) (c .before .before .before .before .before .before .before .before .before .before .before .before .before .before .before .before .before .before .before .before .before .before .before .before .before .pre)) (c .before .before .before .before .before .before .put-cycles .ensures .0) (c .before .before .before .before .before .before .put-cycles .ensures .1)) _ _ _ (room-6 _ (c .before .before .before .before .before .before .before .before .before .before .before .before .before .before .before .before .before .before .before .before .before .before .before .before .before .args .g) (c .before .before .before .before .before .before .before .before .before .before .before .before .before .before .before .before .before .before .before .before .before .before .before .before .before .args .table) (c .before .before .before .before .before .before .before .before .before .before .before .before .before .before .before .before .before .before .before .before .before .before .before .before .before .pre)) (c .before .before .put-rows .ensures .0) (c .before .before .put-rows .ensures .1))
 

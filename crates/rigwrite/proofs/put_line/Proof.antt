@@ -1,40 +1,28 @@
 use native.Mathlib.Omega.{arith}
-use lib.ListN.{length, length-set}
+use lib.ListN.{length-set}
 use Rattle.rigwrite.specs.Line.{name-room, fields-room, line-ends}
 use borrow.Author.Needs.{needs}
 use Rattle.rigwrite.proofs.put_line.Statement.{statement}
 use Rattle.rigwrite.proofs.put_line.Tie as tie
-use Rattle.rigwrite.proofs.put_line.Reads as reads
-use Rattle.rigwrite.proofs.put_line.Lts as lts
-use Rattle.rigrows.proofs.count.Reads as count-reads
-use Rattle.rigwrite.proofs.put_fields.Reads as put-fields-reads
-use Rattle.rigwrite.proofs.put_name.Reads as put-name-reads
 
--- src/lib.rt:96:9
 count-requires : tie.Need-count-requires
 count-requires c κs = search needs
 
--- src/lib.rt:97:9
 put-name-requires : tie.Need-put-name-requires
 put-name-requires c κs = name-room (c .before .before .before .args .buf .now) (c .before .before .before .args .at) (c .before .before .before .args .k) (c .before .before .before .args .v) (c .before .before .before .pre .1)
 
--- src/lib.rt:98:9
 put-fields-requires : tie.Need-put-fields-requires
 put-fields-requires c κs = (c .before .before .before .before .before .count .ensures .1, rw (c .before .before .before .before .before .count .ensures .0) (fields-room (c .before .before .before .before .before .before .before .args .buf .now) (c .before .before .before .before .before .before .before .args .at) (c .before .before .before .before .before .before .before .args .k) (c .before .before .before .before .before .before .before .args .v) (c .before .before .before .before .before .before .before .pre .1) (c .before .before .before .put-name .result) (c .before .before .before .put-name .last .0) (c .before .before .before .put-name .ensures .0) (c .before .before .before .put-name .ensures .1)))
 
--- src/lib.rt:99:5
 slice-write-buf : tie.Need-slice-write-buf
 slice-write-buf c = let w = line-ends (c .before .before .before .before .before .before .before .before .before .before .args .buf .now) (c .before .before .before .before .before .before .before .before .before .before .args .at) (c .before .before .before .before .before .before .before .before .before .before .args .k) (c .before .before .before .before .before .before .before .before .before .before .args .v) (c .before .before .before .before .before .before .before .before .before .before .pre .1) (c .before .before .before .before .before .before .put-name .result) (c .before .before .before .before .before .before .put-name .last .0) (c .before .before .before .before .before .before .put-name .ensures .0) (c .before .before .before .before .before .before .put-name .ensures .1) (c .before .before .put-fields .result) (c .before .before .put-fields .last .0) (rw (c .before .before .before .before .before .before .before .before .count .ensures .0) at (c .before .before .put-fields .ensures .0)) (rw (c .before .before .before .before .before .before .before .before .count .ensures .0) at (c .before .before .put-fields .ensures .1)) in w .0
 
--- src/lib.rt:100:5
 add-result : tie.Need-add-result
 add-result c = let w = line-ends (c .before .before .before .before .before .before .before .before .before .before .args .buf .now) (c .before .before .before .before .before .before .before .before .before .before .args .at) (c .before .before .before .before .before .before .before .before .before .before .args .k) (c .before .before .before .before .before .before .before .before .before .before .args .v) (c .before .before .before .before .before .before .before .before .before .before .pre .1) (c .before .before .before .before .before .before .put-name .result) (c .before .before .before .before .before .before .put-name .last .0) (c .before .before .before .before .before .before .put-name .ensures .0) (c .before .before .before .before .before .before .put-name .ensures .1) (c .before .before .put-fields .result) (c .before .before .put-fields .last .0) (rw (c .before .before .before .before .before .before .before .before .count .ensures .0) at (c .before .before .put-fields .ensures .0)) (rw (c .before .before .before .before .before .before .before .before .count .ensures .0) at (c .before .before .put-fields .ensures .1)) in omega arith
 
--- src/lib.rt:92:1
 same-length : tie.Need-same-length
 same-length c = let w = line-ends (c .before .before .before .before .before .before .before .before .before .before .args .buf .now) (c .before .before .before .before .before .before .before .before .before .before .args .at) (c .before .before .before .before .before .before .before .before .before .before .args .k) (c .before .before .before .before .before .before .before .before .before .before .args .v) (c .before .before .before .before .before .before .before .before .before .before .pre .1) (c .before .before .before .before .before .before .put-name .result) (c .before .before .before .before .before .before .put-name .last .0) (c .before .before .before .before .before .before .put-name .ensures .0) (c .before .before .before .before .before .before .put-name .ensures .1) (c .before .before .put-fields .result) (c .before .before .put-fields .last .0) (rw (c .before .before .before .before .before .before .before .before .count .ensures .0) at (c .before .before .put-fields .ensures .0)) (rw (c .before .before .before .before .before .before .before .before .count .ensures .0) at (c .before .before .put-fields .ensures .1)) in simp length-set (w .3)
 
--- src/lib.rt:92:1
 returns : tie.Need-returns
 returns c = let w = line-ends (c .before .before .before .before .before .before .before .before .before .before .args .buf .now) (c .before .before .before .before .before .before .before .before .before .before .args .at) (c .before .before .before .before .before .before .before .before .before .before .args .k) (c .before .before .before .before .before .before .before .before .before .before .args .v) (c .before .before .before .before .before .before .before .before .before .before .pre .1) (c .before .before .before .before .before .before .put-name .result) (c .before .before .before .before .before .before .put-name .last .0) (c .before .before .before .before .before .before .put-name .ensures .0) (c .before .before .before .before .before .before .put-name .ensures .1) (c .before .before .put-fields .result) (c .before .before .put-fields .last .0) (rw (c .before .before .before .before .before .before .before .before .count .ensures .0) at (c .before .before .put-fields .ensures .0)) (rw (c .before .before .before .before .before .before .before .before .count .ensures .0) at (c .before .before .put-fields .ensures .1)) in (w .1, w .2)
 

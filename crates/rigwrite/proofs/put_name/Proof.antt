@@ -4,59 +4,43 @@ use Rattle.rigwrite.specs.Line.{name-letter, name-three}
 use borrow.Author.Needs.{needs}
 use Rattle.rigwrite.proofs.put_name.Statement.{statement}
 use Rattle.rigwrite.proofs.put_name.Tie as tie
-use Rattle.rigwrite.proofs.put_name.Reads as reads
-use Rattle.rigwrite.proofs.put_name.Lts as lts
-use Rattle.rigwrite.proofs.letter.Reads as letter-reads
 
--- src/lib.rt:63:17
 add-b : tie.Need-add-b
 add-b c = search needs
 
--- src/lib.rt:64:17
 add-c : tie.Need-add-c
 add-c c = search needs
 
--- src/lib.rt:65:9
 slice-write-buf : tie.Need-slice-write-buf
 slice-write-buf c = let w = name-three (c .before .before .args .buf .now) (c .before .before .args .at) (c .before .before .args .k) (c .if1 .taken) (c .before .before .pre) in omega arith
 
--- src/lib.rt:66:9
 slice-write-buf-2 : tie.Need-slice-write-buf-2
 slice-write-buf-2 c = let w = name-three (c .before .before .args .buf .now) (c .before .before .args .at) (c .before .before .args .k) (c .if1 .taken) (c .before .before .pre) in simp length-set (omega arith)
 
--- src/lib.rt:67:9
 slice-write-buf-3 : tie.Need-slice-write-buf-3
 slice-write-buf-3 c = let w = name-three (c .before .before .args .buf .now) (c .before .before .args .at) (c .before .before .args .k) (c .if1 .taken) (c .before .before .pre) in simp length-set (omega arith)
 
--- src/lib.rt:68:16
 add-result : tie.Need-add-result
 add-result c = search needs
 
--- src/lib.rt:68:9
 same-length : tie.Need-same-length
 same-length c = search needs
 
--- src/lib.rt:68:9
 returns : tie.Need-returns
 returns c = let w = name-three (c .before .before .args .buf .now) (c .before .before .args .at) (c .before .before .args .k) (c .if1 .taken) (c .before .before .pre) in (w .1, w .2)
 
--- src/lib.rt:70:15
 letter-requires : tie.Need-letter-requires
 letter-requires c κs = search needs
 
--- src/lib.rt:70:5
 slice-write-buf-4 : tie.Need-slice-write-buf-4
 slice-write-buf-4 c = name-letter (c .before .before .before .args .buf .now) (c .before .before .before .args .at) (c .before .before .before .args .k) _ (c .letter .ensures) (c .before .before .before .pre) .0
 
--- src/lib.rt:71:5
 add-result-2 : tie.Need-add-result-2
 add-result-2 c = search needs
 
--- src/lib.rt:58:1
 same-length-2 : tie.Need-same-length-2
 same-length-2 c = search needs
 
--- src/lib.rt:58:1
 returns-2 : tie.Need-returns-2
 returns-2 c = let w = name-letter (c .before .before .before .args .buf .now) (c .before .before .before .args .at) (c .before .before .before .args .k) _ (c .letter .ensures) (c .before .before .before .pre) in (w .1, w .2)
 

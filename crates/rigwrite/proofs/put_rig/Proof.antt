@@ -1,23 +1,16 @@
 use native.Mathlib.Omega.{arith}
-use mathlib.Core.Path.{_≡_, refl, sym, _∙_}
 use Rattle.rigwrite.specs.Kept.{room-as}
 use Rattle.rigwrite.specs.Lines.{rig-text}
 use borrow.Author.Needs.{needs}
 use Rattle.rigwrite.proofs.put_rig.Statement.{statement}
 use Rattle.rigwrite.proofs.put_rig.Tie as tie
-use Rattle.rigwrite.proofs.put_rig.Reads as reads
-use Rattle.rigwrite.proofs.put_rig.Lts as lts
-use Rattle.rigwrite.proofs.put_line.Reads as put-line-reads
 
--- src/lib.rt:107:5
 put-line-requires : tie.Need-put-line-requires
 put-line-requires c κs = (omega arith, room-as _ _ _ _ (rig-text (c .before .before .args .g)) (c .before .before .pre))
 
--- src/lib.rt:103:1
 same-length : tie.Need-same-length
 same-length c = search needs
 
--- src/lib.rt:103:1
 returns : tie.Need-returns
 returns c = rw (← rig-text (c .before .before .before .before .before .args .g)) (c .before .before .put-line .ensures)
 

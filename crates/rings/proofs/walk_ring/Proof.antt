@@ -4,17 +4,12 @@ use mathlib.Core.Bool.{true}
 use native.Mathlib.Omega.{arith}
 use Prim.Native.Nat.{_≤_, _<_}
 use mathlib.Core.Path.{_≡_, sym, _∙_}
-use lib.ListN.{length}
 use Rattle.chains.specs.Held.{at}
 use Rattle.chains.specs.Check.{stepb, step-out}
 use Rattle.rings.specs.Post.{linksOf}
 use Rattle.rings.specs.Laws.{RingAt, ring-start, ring-turn, ring-over, ring-spent, ring-wrong}
 use Rattle.rings.proofs.walk_ring.Statement.{statement}
 use Rattle.rings.proofs.walk_ring.Tie as tie
-use Rattle.rings.proofs.walk_ring.Reads as reads
-use Rattle.rings.proofs.walk_ring.Lts as lts
-use Rattle.rings.proofs.step_ok.Reads as step-ok-reads
-use Rattle.rings.proofs.wide.Reads as wide-reads
 
 abbrev Inv-loop : tie.InvT-loop
 Inv-loop next prev on s seen₀ left₀ u₀ v₀ seen left u v = RingAt (linksOf next prev on) s seen₀ seen left u v
@@ -33,67 +28,53 @@ task c =
     let k = step-out (at (s .args .next .now)) (at (s .args .prev .now)) (at (s .args .on .now)) 64 (s .args .s) (s .pre .0) (d .loop .u) (d .loop .v) (right c) in
     (k .0, k .1)
 
--- src/lib.rt:47:22
 mul-wide : tie.Need-mul-wide Inv-loop μ-loop
 mul-wide c = search needs
 
--- src/lib.rt:47:22
 element-copy-out-wide : tie.Need-element-copy-out-wide Inv-loop μ-loop
 element-copy-out-wide c = search needs
 
--- src/lib.rt:47:9
 wide-requires : tie.Need-wide-requires Inv-loop μ-loop
 wide-requires c κs = search needs
 
--- src/lib.rt:48:5
 loop-holds : tie.Need-loop-holds Inv-loop μ-loop
 loop-holds c =
     let s = c .before .before in
     rw (c .wide .ensures) (ring-start (linksOf (s .args .next .now) (s .args .prev .now) (s .args .on .now)) (s .args .s) (s .args .seen .now) (s .pre .0) (s .pre .2))
 
--- src/lib.rt:50:13
 returns : tie.Need-returns Inv-loop μ-loop
 returns c =
     let d = c .before .before in
     let s = c .before .before .before .before .before in
     ring-spent (linksOf (s .args .next .now) (s .args .prev .now) (s .args .on .now)) (s .args .s) (s .args .seen .now) (s .pre .0) (d .loop .seen) (d .loop .left) (d .loop .u) (d .loop .v) (d .loop .inv) (c .before .loop-test .taken) (c .if1 .taken)
 
--- src/lib.rt:52:13
 step-ok-requires : tie.Need-step-ok-requires Inv-loop μ-loop
 step-ok-requires c κs = search needs
 
--- src/lib.rt:53:13
 returns-2 : tie.Need-returns-2 Inv-loop μ-loop
 returns-2 c =
     let d = c .before .before .before .before in
     let s = c .before .before .before .before .before .before .before in
     ring-wrong (linksOf (s .args .next .now) (s .args .prev .now) (s .args .on .now)) (s .args .s) (s .args .seen .now) (s .pre .0) (d .loop .seen) (d .loop .left) (d .loop .u) (d .loop .v) (d .loop .inv) (c .before .before .before .loop-test .taken) (sym (c .before .step-ok .ensures) ∙ not-true (c .before .step-ok .result) (c .if2 .taken))
 
--- src/lib.rt:55:9
 element-write-seen : tie.Need-element-write-seen Inv-loop μ-loop
 element-write-seen c = omega (arith, task c)
 
--- src/lib.rt:56:9
 sub-left : tie.Need-sub-left Inv-loop μ-loop
 sub-left c = search needs
 
--- src/lib.rt:58:18
 mul-wide-2 : tie.Need-mul-wide-2 Inv-loop μ-loop
 mul-wide-2 c = omega (arith, task c)
 
--- src/lib.rt:58:18
 element-copy-out-wide-2 : tie.Need-element-copy-out-wide-2 Inv-loop μ-loop
 element-copy-out-wide-2 c = omega (arith, task c)
 
--- src/lib.rt:58:9
 wide-requires-2 : tie.Need-wide-requires-2 Inv-loop μ-loop
 wide-requires-2 c κs = search needs
 
--- src/lib.rt:48:5
 loop-less : tie.Need-loop-less Inv-loop μ-loop
 loop-less c = search needs
 
--- src/lib.rt:48:5
 loop-again : tie.Need-loop-again Inv-loop μ-loop
 loop-again c =
     let e = c .before .before in
@@ -103,19 +84,15 @@ loop-again c =
     (ring-turn (linksOf (s .args .next .now) (s .args .prev .now) (s .args .on .now)) (s .args .s) (s .args .seen .now) (s .pre .0) (d .loop .seen) (d .loop .left) (d .loop .u) (d .loop .v) (d .loop .inv)
     (c .before .before .before .before .before .loop-test .taken) (c .before .before .before .before .if1 .left) (right e))
 
--- src/lib.rt:60:18
 mul-wide-3 : tie.Need-mul-wide-3 Inv-loop μ-loop
 mul-wide-3 c = search needs
 
--- src/lib.rt:60:18
 element-copy-out-wide-3 : tie.Need-element-copy-out-wide-3 Inv-loop μ-loop
 element-copy-out-wide-3 c = search needs
 
--- src/lib.rt:60:9
 wide-requires-3 : tie.Need-wide-requires-3 Inv-loop μ-loop
 wide-requires-3 c κs = search needs
 
--- src/lib.rt:40:1
 returns-3 : tie.Need-returns-3 Inv-loop μ-loop
 returns-3 c =
     let d = c .before .before .before in

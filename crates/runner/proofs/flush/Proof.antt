@@ -1,28 +1,21 @@
 use native.Mathlib.Omega.{arith}
-use lib.ListN.{length, take, length-take}
+use lib.ListN.{length-take}
 use borrow.Author.Needs.{needs}
 use Rattle.runner.proofs.flush.Statement.{statement}
 use Rattle.runner.proofs.flush.Tie as tie
-use Rattle.runner.proofs.flush.Reads as reads
-use Rattle.runner.proofs.flush.Lts as lts
-use Rattle.io.proofs.write_all.Reads as write-all-reads
 
--- src/main.rt:22:26
 slice-aggregate-write-all : tie.Need-slice-aggregate-write-all
 slice-aggregate-write-all c =
     let l = length-take (c .before .before .before .args .n) (c .before .before .before .args .out .now) in
     let h = c .before .if1 .taken in
     omega arith
 
--- src/main.rt:22:9
 write-all-requires : tie.Need-write-all-requires
 write-all-requires c κs = search needs
 
--- src/main.rt:20:1
 returns : tie.Need-returns
 returns c = search needs
 
--- src/main.rt:20:1
 returns-2 : tie.Need-returns-2
 returns-2 c = search needs
 

@@ -1,15 +1,8 @@
 use borrow.Author.Needs.{needs}
-use mathlib.Core.Path.{_≡_, refl, sym, _∙_}
-use native.Mathlib.Omega.{arith}
+use mathlib.Core.Path.{_≡_, refl}
 use lib.ListN.{length}
 use Rattle.runner.proofs.run_script.Statement.{statement}
 use Rattle.runner.proofs.run_script.Tie as tie
-use Rattle.runner.proofs.run_script.Reads as reads
-use Rattle.runner.proofs.run_script.Lts as lts
-use Rattle.runner.proofs.passed_over.Reads as passed-over-reads
-use Rattle.runner.proofs.read_more.Reads as read-more-reads
-use Rattle.runner.proofs.shifted.Reads as shifted-reads
-use Rattle.runner.proofs.take_lines.Reads as take-lines-reads
 
 abbrev Inv-loop : tie.InvT-loop
 Inv-loop input₀ out₀ start end d₀ from₀ to₀ left₀ turns₀ input out d from to left turns = (length input ≡ length input₀) × (length out ≡ length out₀)
@@ -17,59 +10,45 @@ Inv-loop input₀ out₀ start end d₀ from₀ to₀ left₀ turns₀ input out
 abbrev μ-loop : tie.MeasureT-loop
 μ-loop input₀ out₀ start end d₀ from₀ to₀ left₀ turns₀ input out d from to left turns = turns
 
--- src/main.rt:122:5
 loop-holds : tie.Need-loop-holds Inv-loop μ-loop
 loop-holds c = (refl, refl)
 
--- src/main.rt:123:9
 sub-turns : tie.Need-sub-turns Inv-loop μ-loop
 sub-turns c = search needs
 
--- src/main.rt:124:13
 take-lines-requires : tie.Need-take-lines-requires Inv-loop μ-loop
 take-lines-requires c κs = search needs
 
--- src/main.rt:125:13
 shifted-requires : tie.Need-shifted-requires Inv-loop μ-loop
 shifted-requires c κs = search needs
 
--- src/main.rt:127:9
 passed-over-requires : tie.Need-passed-over-requires Inv-loop μ-loop
 passed-over-requires c κs = search needs
 
--- src/main.rt:129:9
 read-more-requires : tie.Need-read-more-requires Inv-loop μ-loop
 read-more-requires c κs = search needs
 
--- src/main.rt:122:5
 loop-less : tie.Need-loop-less Inv-loop μ-loop
 loop-less c = search needs
 
--- src/main.rt:122:5
 loop-again : tie.Need-loop-again Inv-loop μ-loop
 loop-again c = search needs
 
--- src/main.rt:116:1
 same-length : tie.Need-same-length Inv-loop μ-loop
 same-length c = search needs
 
--- src/main.rt:116:1
 same-length-2 : tie.Need-same-length-2 Inv-loop μ-loop
 same-length-2 c = search needs
 
--- src/main.rt:116:1
 returns : tie.Need-returns Inv-loop μ-loop
 returns c = search needs
 
--- src/main.rt:116:1
 same-length-3 : tie.Need-same-length-3 Inv-loop μ-loop
 same-length-3 c = search needs
 
--- src/main.rt:116:1
 same-length-4 : tie.Need-same-length-4 Inv-loop μ-loop
 same-length-4 c = search needs
 
--- src/main.rt:116:1
 returns-2 : tie.Need-returns-2 Inv-loop μ-loop
 returns-2 c = search needs
 

@@ -1,12 +1,10 @@
 use borrow.Author.Needs.{needs}
-use mathlib.Core.Path.{_≡_, refl, sym, _∙_}
-use Prim.Native.Nat.{ℕ, _+_, _-_, _≤_}
+use mathlib.Core.Path.{_≡_, refl, _∙_}
+use Prim.Native.Nat.{_+_, _-_, _≤_}
 use native.Mathlib.Omega.{arith}
 use lib.ListN.{length, getD, length-set}
 use Rattle.runner.proofs.shifted.Statement.{statement}
 use Rattle.runner.proofs.shifted.Tie as tie
-use Rattle.runner.proofs.shifted.Reads as reads
-use Rattle.runner.proofs.shifted.Lts as lts
 
 abbrev Inv-loop : tie.InvT-loop
 Inv-loop input₀ from to n i₀ input i = (length input ≡ length input₀) × (i ≤ n)
@@ -14,19 +12,15 @@ Inv-loop input₀ from to n i₀ input i = (length input ≡ length input₀) ×
 abbrev μ-loop : tie.MeasureT-loop
 μ-loop input₀ from to n i₀ input i = n - i
 
--- src/main.rt:79:9
 returns : tie.Need-returns Inv-loop μ-loop
 returns c = search needs
 
--- src/main.rt:82:9
 returns-2 : tie.Need-returns-2 Inv-loop μ-loop
 returns-2 c = search needs
 
--- src/main.rt:86:5
 loop-holds : tie.Need-loop-holds Inv-loop μ-loop
 loop-holds c = (refl, omega arith)
 
--- src/main.rt:87:26
 add-input : tie.Need-add-input Inv-loop μ-loop
 add-input c =
     let a = c .before .loop .inv .0 in
@@ -35,7 +29,6 @@ add-input c =
     let t = c .loop-test .taken in
     search needs
 
--- src/main.rt:87:20
 slice-read-input : tie.Need-slice-read-input Inv-loop μ-loop
 slice-read-input c =
     let a = c .before .before .loop .inv .0 in
@@ -44,7 +37,6 @@ slice-read-input c =
     let t = c .before .loop-test .taken in
     omega arith
 
--- src/main.rt:87:9
 slice-write-input : tie.Need-slice-write-input Inv-loop μ-loop
 slice-write-input c =
     let a = c .before .before .loop .inv .0 in
@@ -53,25 +45,20 @@ slice-write-input c =
     let t = c .before .loop-test .taken in
     omega arith
 
--- src/main.rt:88:9
 add-i : tie.Need-add-i Inv-loop μ-loop
 add-i c = search needs
 
--- src/main.rt:86:5
 loop-less : tie.Need-loop-less Inv-loop μ-loop
 loop-less c = search needs
 
--- src/main.rt:86:5
 loop-again : tie.Need-loop-again Inv-loop μ-loop
 loop-again c =
     let t = c .before .loop-test .taken in
     (length-set (c .before .before .loop .input) (c .before .before .loop .i) (getD (c .before .before .loop .input) (c .before .before .before .before .before .args .from + c .before .before .loop .i) 0) ∙ c .before .before .loop .inv .0, omega arith)
 
--- src/main.rt:77:1
 same-length : tie.Need-same-length Inv-loop μ-loop
 same-length c = c .before .loop .inv .0
 
--- src/main.rt:77:1
 returns-3 : tie.Need-returns-3 Inv-loop μ-loop
 returns-3 c = search needs
 

@@ -1,27 +1,17 @@
-use mathlib.Core.Path.{_≡_, sym, ap, _∙_}
-use mathlib.Core.List.{List, [], _∷_}
-use Prim.Native.Nat.{ℕ}
-use native.Mathlib.Omega.{arith}
 use Rattle.script.specs.Written.{second-room, third-room, three-wrote}
 use borrow.Author.Needs.{needs}
 use Rattle.script.proofs.put_answer.Statement.{statement}
 use Rattle.script.proofs.put_answer.Tie as tie
-use Rattle.script.proofs.put_answer.Reads as reads
-use Rattle.script.proofs.put_answer.Lts as lts
-use Rattle.script.proofs.put_field.Reads as put-field-reads
 
--- src/lib.rt:153:9
 put-field-requires : tie.Need-put-field-requires
 put-field-requires c κs = search needs
 
--- src/lib.rt:154:9
 put-field-requires-2 : tie.Need-put-field-requires-2
 put-field-requires-2 c κs =
     let s = c .before .before .before .before .before .before in
     let a = c .before .before .before .put-field in
     second-room (s .args .out .now) (s .args .at) (s .args .code) (s .pre) (a .last .0) (a .result) (a .ensures)
 
--- src/lib.rt:155:5
 put-field-requires-3 : tie.Need-put-field-requires-3
 put-field-requires-3 c κs =
     let s = c .before .before .before .before .before .before .before .before .before .before in
@@ -29,11 +19,9 @@ put-field-requires-3 c κs =
     let b = c .before .before .before .put-field2 in
     third-room (s .args .out .now) (s .args .at) (s .args .code) (s .pre) (a .last .0) (a .result) (a .ensures) (s .args .count) (b .last .0) (b .result) (b .ensures)
 
--- src/lib.rt:149:1
 same-length : tie.Need-same-length
 same-length c = search needs
 
--- src/lib.rt:149:1
 returns : tie.Need-returns
 returns c =
     let s = c .before .before .before .before .before .before .before .before .before .before .before .before .before in

@@ -1,37 +1,27 @@
 use native.Mathlib.Omega.{arith}
-use lib.ListN.{length, set, length-set}
+use lib.ListN.{length-set}
 use Rattle.script.specs.Written.{name-wrote, set-lengths}
-use borrow.Author.Needs.{needs}
 use Rattle.script.proofs.put_name.Statement.{statement}
 use Rattle.script.proofs.put_name.Tie as tie
-use Rattle.script.proofs.put_name.Reads as reads
-use Rattle.script.proofs.put_name.Lts as lts
 
--- src/lib.rt:198:5
 slice-write-out : tie.Need-slice-write-out
 slice-write-out c = let p = c .pre in omega arith
 
--- src/lib.rt:199:5
 slice-write-out-2 : tie.Need-slice-write-out-2
 slice-write-out-2 c = let l = c .args .out .now in let p = c .pre in let a = length-set l 0 83 in omega arith
 
--- src/lib.rt:200:5
 slice-write-out-3 : tie.Need-slice-write-out-3
 slice-write-out-3 c = let l = c .args .out .now in let p = c .pre in let a = set-lengths l .0 in omega arith
 
--- src/lib.rt:201:5
 slice-write-out-4 : tie.Need-slice-write-out-4
 slice-write-out-4 c = let l = c .args .out .now in let p = c .pre in let a = set-lengths l .1 in omega arith
 
--- src/lib.rt:202:5
 slice-write-out-5 : tie.Need-slice-write-out-5
 slice-write-out-5 c = let l = c .args .out .now in let p = c .pre in let a = set-lengths l .2 in omega arith
 
--- src/lib.rt:194:1
 same-length : tie.Need-same-length
 same-length c = name-wrote (c .args .out .now) (c .pre) .size
 
--- src/lib.rt:194:1
 returns : tie.Need-returns
 returns c = name-wrote (c .args .out .now) (c .pre)
 

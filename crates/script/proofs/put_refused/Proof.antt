@@ -1,18 +1,14 @@
-use mathlib.Core.Path.{_≡_, refl, sym, _∙_}
-use mathlib.Core.Logic.{inl, inr}
+use mathlib.Core.Path.{refl, _∙_}
+use mathlib.Core.Logic.{inr}
 use mathlib.Core.List.{List, [], _∷_}
-use Prim.Native.Nat.{ℕ, _<_, _≤_}
+use Prim.Native.Nat.{ℕ, _<_}
 use native.Mathlib.Omega.{arith}
-use lib.ListN.{length, set, length-set}
+use lib.ListN.{length, length-set}
 use Rattle.script.specs.Output.{fieldsText}
-use Rattle.script.specs.Written.{Wrote, Begun, begun-room, begun-done, two-fields-wrote, fields-length}
+use Rattle.script.specs.Written.{Wrote, begun-room, begun-done, two-fields-wrote, fields-length}
 use borrow.Author.Needs.{needs}
 use Rattle.script.proofs.put_refused.Statement.{statement}
 use Rattle.script.proofs.put_refused.Tie as tie
-use Rattle.script.proofs.put_refused.Reads as reads
-use Rattle.script.proofs.put_refused.Lts as lts
-use Rattle.script.proofs.put_field.Reads as put-field-reads
-use Rattle.script.proofs.put_name.Reads as put-name-reads
 
 abbrev numbers : (c : tie.After-put-field2) → List ℕ
 numbers c = c .before .before .before .before .before .before .before .before .before .before .before .before .args .number ∷ c .before .before .before .before .before .before .before .before .before .before .before .before .args .line ∷ []
@@ -32,19 +28,15 @@ behind c =
     let n = c .before .before .before .before .before .before .before .before .put-name in
     begun-room (s .args .out .now) (numbers c) (n .last .0) (c .put-field2 .last .0) (c .put-field2 .result) (c .before .before .before .before .before .before .before .before .before .before .if1 .left) (omega arith) (n .ensures) (both c)
 
--- src/lib.rt:223:9
 returns : tie.Need-returns
 returns c = record { is = inr (c .if1 .taken, refl, refl) }
 
--- src/lib.rt:225:5
 put-name-requires : tie.Need-put-name-requires
 put-name-requires c κs = search needs
 
--- src/lib.rt:226:9
 put-field-requires : tie.Need-put-field-requires
 put-field-requires c κs = search needs
 
--- src/lib.rt:227:9
 put-field-requires-2 : tie.Need-put-field-requires-2
 put-field-requires-2 c κs =
     let s = c .before .before .before .before .before .before .before .before .before .before .before in
@@ -56,11 +48,9 @@ put-field-requires-2 c κs =
     let h = c .before .before .before .before .before .before .before .before .before .if1 .left in
     omega arith
 
--- src/lib.rt:228:5
 slice-write-out : tie.Need-slice-write-out
 slice-write-out c = behind (c .before .before)
 
--- src/lib.rt:229:5
 add-result : tie.Need-add-result
 add-result c =
     let s = c .before .before .before .before .before .before .before .before .before .before .before .before .before .before in
@@ -70,14 +60,12 @@ add-result c =
     let k : c .before .before .put-field2 .result < length (s .args .out .now) = omega arith in
     search needs
 
--- src/lib.rt:219:1
 same-length : tie.Need-same-length
 same-length c =
     let a = c .before .before .before .before .before .before .before .before .before .before .put-name .ensures .size in
     let b = both (c .before .before) .size in
     length-set (c .before .before .put-field2 .last .0) (c .before .before .put-field2 .result) 10 ∙ b ∙ a
 
--- src/lib.rt:219:1
 returns-2 : tie.Need-returns-2
 returns-2 c =
     let s = c .before .before .before .before .before .before .before .before .before .before .before .before .before .before in

@@ -1,17 +1,13 @@
-use mathlib.Core.Path.{_≡_, refl, sym, _∙_}
-use mathlib.Core.Logic.{inl, inr}
+use mathlib.Core.Path.{refl, _∙_}
+use mathlib.Core.Logic.{inr}
 use mathlib.Core.List.{List, [], _∷_}
-use Prim.Native.Nat.{ℕ, _<_, _≤_}
+use Prim.Native.Nat.{ℕ, _<_}
 use native.Mathlib.Omega.{arith}
-use lib.ListN.{length, set, length-set}
-use Rattle.script.specs.Written.{Wrote, Begun, begun-room, begun-done}
+use lib.ListN.{length, length-set}
+use Rattle.script.specs.Written.{begun-room, begun-done}
 use borrow.Author.Needs.{needs}
 use Rattle.script.proofs.put_started.Statement.{statement}
 use Rattle.script.proofs.put_started.Tie as tie
-use Rattle.script.proofs.put_started.Reads as reads
-use Rattle.script.proofs.put_started.Lts as lts
-use Rattle.script.proofs.put_answer.Reads as put-answer-reads
-use Rattle.script.proofs.put_name.Reads as put-name-reads
 
 abbrev numbers : (c : tie.After-put-answer) → List ℕ
 numbers c = 0 ∷ c .before .before .before .before .before .before .before .before .args .count ∷ c .before .before .before .before .before .before .before .before .args .running ∷ []
@@ -21,23 +17,18 @@ behind c =
     let s = c .before .before .before .before .before .before .before .before in
     begun-room (s .args .out .now) (numbers c) (c .before .before .before .before .put-name .last .0) (c .put-answer .last .0) (c .put-answer .result) (c .before .before .before .before .before .before .if1 .left) (omega arith) (c .before .before .before .before .put-name .ensures) (c .put-answer .ensures)
 
--- src/lib.rt:210:9
 returns : tie.Need-returns
 returns c = record { is = inr (c .if1 .taken, refl, refl) }
 
--- src/lib.rt:212:5
 put-name-requires : tie.Need-put-name-requires
 put-name-requires c κs = search needs
 
--- src/lib.rt:213:9
 put-answer-requires : tie.Need-put-answer-requires
 put-answer-requires c κs = search needs
 
--- src/lib.rt:214:5
 slice-write-out : tie.Need-slice-write-out
 slice-write-out c = behind (c .before .before)
 
--- src/lib.rt:215:5
 add-result : tie.Need-add-result
 add-result c =
     let s = c .before .before .before .before .before .before .before .before .before .before in
@@ -47,14 +38,12 @@ add-result c =
     let k : c .before .before .put-answer .result < length (s .args .out .now) = omega arith in
     search needs
 
--- src/lib.rt:206:1
 same-length : tie.Need-same-length
 same-length c =
     let a = c .before .before .before .before .before .before .put-name .ensures .size in
     let b = c .before .before .put-answer .ensures .size in
     length-set (c .before .before .put-answer .last .0) (c .before .before .put-answer .result) 10 ∙ b ∙ a
 
--- src/lib.rt:206:1
 returns-2 : tie.Need-returns-2
 returns-2 c =
     let s = c .before .before .before .before .before .before .before .before .before .before in

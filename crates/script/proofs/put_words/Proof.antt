@@ -1,17 +1,13 @@
 use borrow.Author.Needs.{needs}
-use mathlib.Core.Path.{_≡_, sym, ap, _∙_, subst}
-use mathlib.Core.List.{List, [], _∷_}
+use mathlib.Core.Path.{subst}
+use mathlib.Core.List.{[], _∷_}
 use Prim.Native.Nat.{ℕ, _-_, _≤_}
 use native.Mathlib.Omega.{arith}
-use lib.ListN.{length, getD}
+use lib.ListN.{length}
 use Rattle.script.specs.Output.{fieldsText}
 use Rattle.script.specs.Written.{Wrote, Listing, listing-start, listing-room, listing-step, listing-end}
 use Rattle.script.proofs.put_words.Statement.{statement}
 use Rattle.script.proofs.put_words.Tie as tie
-use Rattle.script.proofs.put_words.Reads as reads
-use Rattle.script.proofs.put_words.Lts as lts
-use Rattle.script.proofs.put_field.Reads as put-field-reads
-use Rattle.script.proofs.wide.Reads as wide-reads
 
 abbrev Inv-loop : tie.InvT-loop
 Inv-loop out₀ at words p₀ i₀ out p i = Listing out₀ at words out p i × (i ≤ length words)
@@ -19,38 +15,30 @@ Inv-loop out₀ at words p₀ i₀ out p i = Listing out₀ at words out p i × 
 abbrev μ-loop : tie.MeasureT-loop
 μ-loop out₀ at words p₀ i₀ out p i = length words - i
 
--- src/lib.rt:140:5
 loop-holds : tie.Need-loop-holds Inv-loop μ-loop
 loop-holds c = (listing-start (c .before .before .args .out .now) (c .before .before .args .at) (c .before .before .args .words .now) (c .before .before .pre), omega arith)
 
--- src/lib.rt:141:22
 mul-wide : tie.Need-mul-wide Inv-loop μ-loop
 mul-wide c = search needs
 
--- src/lib.rt:141:22
 shared-slice-read-wide : tie.Need-shared-slice-read-wide Inv-loop μ-loop
 shared-slice-read-wide c = search needs
 
--- src/lib.rt:141:13
 wide-requires : tie.Need-wide-requires Inv-loop μ-loop
 wide-requires c κs = search needs
 
--- src/lib.rt:142:9
 put-field-requires : tie.Need-put-field-requires Inv-loop μ-loop
 put-field-requires c κs =
     let s = c .before .before .before .before .before .before .before in
     let l = c .before .before .before .before .loop in
     listing-room (s .args .out .now) (s .args .at) (s .args .words .now) (l .out) (l .p) (l .i) (l .inv .0) (c .before .before .before .loop-test .taken)
 
--- src/lib.rt:143:9
 add-i : tie.Need-add-i Inv-loop μ-loop
 add-i c = search needs
 
--- src/lib.rt:140:5
 loop-less : tie.Need-loop-less Inv-loop μ-loop
 loop-less c = search needs
 
--- src/lib.rt:140:5
 loop-again : tie.Need-loop-again Inv-loop μ-loop
 loop-again c =
     let s = c .before .before .before .before .before .before .before .before .before .before in
@@ -62,11 +50,9 @@ loop-again c =
       omega arith,
     )
 
--- src/lib.rt:134:1
 same-length : tie.Need-same-length Inv-loop μ-loop
 same-length c = c .before .loop .inv .0 .wrote .size
 
--- src/lib.rt:134:1
 returns : tie.Need-returns Inv-loop μ-loop
 returns c =
     let s = c .before .before .before .before in

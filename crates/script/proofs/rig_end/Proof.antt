@@ -1,17 +1,12 @@
 use borrow.Author.Needs.{needs}
-use mathlib.Core.Path.{_≡_, refl, sym, _∙_}
-use Prim.Native.Nat.{ℕ, _-_, _≤_, _<_}
+use mathlib.Core.Path.{sym, _∙_}
+use Prim.Native.Nat.{_-_, _≤_, _<_}
 use native.Mathlib.Omega.{arith}
 use lib.ListN.{length}
 use Rattle.text.specs.Split.{part}
-use Rattle.text.specs.Parts.{Found}
 use Rattle.script.specs.InputLaws.{Left, left-start, left-last, left-run, left-next, left-none}
 use Rattle.script.proofs.rig_end.Statement.{statement}
 use Rattle.script.proofs.rig_end.Tie as tie
-use Rattle.script.proofs.rig_end.Reads as reads
-use Rattle.script.proofs.rig_end.Lts as lts
-use Rattle.lines.proofs.line_of.Reads as line-of-reads
-use Rattle.script.proofs.is_run.Reads as is-run-reads
 
 abbrev Inv-loop : tie.InvT-loop
 Inv-loop input n i₀ i = Left input i × (i ≤ length input)
@@ -19,47 +14,39 @@ Inv-loop input n i₀ i = Left input i × (i ≤ length input)
 abbrev μ-loop : tie.MeasureT-loop
 μ-loop input n i₀ i = length input - i
 
--- src/lib.rt:180:5
 loop-holds : tie.Need-loop-holds Inv-loop μ-loop
 loop-holds c = (left-start (c .before .args .input .now), omega arith)
 
--- src/lib.rt:181:13
 line-of-requires : tie.Need-line-of-requires Inv-loop μ-loop
 line-of-requires c κs = search needs
 
--- src/lib.rt:183:13
 returns : tie.Need-returns Inv-loop μ-loop
 returns c =
     let s = c .before .before .before .before .before .args .input .now in
     let l = c .before .before .before .loop in
     left-last s (l .i) (l .inv .1) (l .inv .0) (c .before .line-of .result) (c .before .line-of .ensures .0 (l .inv .1)) (c .if1 .taken)
 
--- src/lib.rt:185:19
 sub-is-run : tie.Need-sub-is-run Inv-loop μ-loop
 sub-is-run c =
     let f = c .before .line-of .ensures .0 (c .before .before .before .loop .inv .1) in
     let a = f .low in
     omega arith
 
--- src/lib.rt:185:19
 part-is-run-start : tie.Need-part-is-run-start Inv-loop μ-loop
 part-is-run-start c =
     let f = c .before .line-of .ensures .0 (c .before .before .before .loop .inv .1) in
     let a = f .low in
     omega arith
 
--- src/lib.rt:185:19
 part-is-run-end : tie.Need-part-is-run-end Inv-loop μ-loop
 part-is-run-end c =
     let f = c .before .line-of .ensures .0 (c .before .before .before .loop .inv .1) in
     let a = f .high in
     omega arith
 
--- src/lib.rt:185:12
 is-run-requires : tie.Need-is-run-requires Inv-loop μ-loop
 is-run-requires c κs = search needs
 
--- src/lib.rt:186:13
 returns-2 : tie.Need-returns-2 Inv-loop μ-loop
 unfolding part
 returns-2 c =
@@ -71,7 +58,6 @@ returns-2 c =
     let n = c .before .before .before .if1 .left in
     left-run s (l .i) (l .inv .1) (l .inv .0) (e .result) f (omega (arith, h, n)) (sym (c .before .is-run .ensures) ∙ c .if2 .taken)
 
--- src/lib.rt:188:13
 add-i : tie.Need-add-i Inv-loop μ-loop
 add-i c =
     let f = c .before .before .before .before .line-of .ensures .0 (c .before .before .before .before .before .before .loop .inv .1) in
@@ -80,7 +66,6 @@ add-i c =
     let k : c .before .before .before .before .line-of .result < length (c .before .before .before .before .before .before .before .before .args .input .now) = omega (arith, a, n) in
     search needs
 
--- src/lib.rt:180:5
 loop-less : tie.Need-loop-less Inv-loop μ-loop
 loop-less c =
     let f = c .before .before .before .before .line-of .ensures .0 (c .before .before .before .before .before .before .loop .inv .1) in
@@ -88,7 +73,6 @@ loop-less c =
     let b = f .high in
     omega (arith, a, b, c .before .before .before .if1 .left, c .before .before .before .before .before .loop-test .taken)
 
--- src/lib.rt:180:5
 loop-again : tie.Need-loop-again Inv-loop μ-loop
 unfolding part
 loop-again c =
@@ -100,7 +84,6 @@ loop-again c =
     let n = c .before .before .before .if1 .left in
     (left-next s (l .i) (l .inv .1) (l .inv .0) (e .result) f (omega (arith, h, n)) (sym (c .before .is-run .ensures) ∙ c .if2 .left), omega (arith, h, n))
 
--- src/lib.rt:175:1
 returns-3 : tie.Need-returns-3 Inv-loop μ-loop
 returns-3 c =
     let l = c .before .loop in

@@ -1,5 +1,4 @@
 use borrow.Author.Needs.{needs}
-use mathlib.Core.Path.{_∙_}
 use Rattle.script.specs.Fields.{verb-one, verb-none}
 use Rattle.script.proofs.verb_of.Statement.{statement}
 use Rattle.script.proofs.verb_of.Tie as tie

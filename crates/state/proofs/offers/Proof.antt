@@ -10,11 +10,6 @@ use Rattle.state.specs.Offers.{Turned, turned-start, turned-room, turned
 use Rattle.state.specs.declared.State.{State}
 use Rattle.state.proofs.offers.Statement.{statement}
 use Rattle.state.proofs.offers.Tie as tie
-use Rattle.state.proofs.offers.Reads as reads
-use Rattle.state.proofs.offers.Lts as lts
-use Rattle.steps.proofs.Queue.push.Reads as push-reads
-use Rattle.steps.proofs.ready.Reads as ready-reads
-use Rattle.steps.proofs.relax.Reads as relax-reads
 
 abbrev Inv-loop : tie.InvT-loop
 Inv-loop present latched desired atask aflag activation n f cond₀ state₀ q₀ i₀ cond state q i = ((g : Rig) (s : State) → Turned (withTables present latched desired atask aflag activation n g) f (putCond (putState s state₀) cond₀) q₀ (putCond (putState s state) cond) q i) × (i ≤ 64)
@@ -32,52 +27,41 @@ before b s = putCond (putState s (b .args .state .now)) (b .args .cond .now)
 abbrev within : tie.At-loop Inv-loop μ-loop → State → State
 within d s = putCond (putState s (d .loop .state)) (d .loop .cond)
 
--- src/lib.rt:212:5
 loop-holds : tie.Need-loop-holds Inv-loop μ-loop
 loop-holds c =
     let b = c in
     (λ g s. turned-start (rig b g) (b .args .f) (before b s) (b .args .queue), search needs)
 
--- src/lib.rt:213:17
 add-t : tie.Need-add-t Inv-loop μ-loop
 add-t c = search needs
 
--- src/lib.rt:214:17
 element-copy-out-a : tie.Need-element-copy-out-a Inv-loop μ-loop
 element-copy-out-a c = search needs
 
--- src/lib.rt:215:12
 ready-requires : tie.Need-ready-requires Inv-loop μ-loop
 ready-requires c κs = search needs
 
--- src/lib.rt:216:13
 element-write-state : tie.Need-element-write-state Inv-loop μ-loop
 element-write-state c = search needs
 
--- src/lib.rt:217:13
 relax-requires : tie.Need-relax-requires Inv-loop μ-loop
 relax-requires c κs = search needs
 
--- src/lib.rt:218:21
 element-copy-out-g : tie.Need-element-copy-out-g Inv-loop μ-loop
 element-copy-out-g c = search needs
 
--- src/lib.rt:219:13
 push-requires : tie.Need-push-requires Inv-loop μ-loop
 push-requires c κs =
     let d = c .before .before .before .before .before .before .before .before in
     let b = c .before .before .before .before .before .before .before .before .before in
     omega (arith, turned-room (rig b noRig) (b .args .f) (before b someState) (b .args .queue) (within d someState) (d .loop .q) (d .loop .i) (d .loop .inv .0 noRig someState) (b .pre .1))
 
--- src/lib.rt:221:13
 add-i : tie.Need-add-i Inv-loop μ-loop
 add-i c = search needs
 
--- src/lib.rt:212:5
 loop-less : tie.Need-loop-less Inv-loop μ-loop
 loop-less c = search needs
 
--- src/lib.rt:212:5
 loop-again : tie.Need-loop-again Inv-loop μ-loop
 loop-again c =
     let d = c .before .before .before .before .before in
@@ -96,7 +80,6 @@ loop-again c =
       omega (arith, c .before .before .before .before .loop-test .taken),
     )
 
--- src/lib.rt:193:1
 returns : tie.Need-returns Inv-loop μ-loop
 returns c =
     let d = c .before in

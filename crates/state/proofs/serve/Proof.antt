@@ -102,65 +102,50 @@ served-so c g =
     let b = start e in
     served-is (whole (e .before)) (popped e) (rig b g) (flag e) (value e) (driven j) (j .before .before .drive .ensures) (woken j) (awoken j (taken j)) (served c) (c .offers .ensures (withPlaces (b .args .apos .now) g) (woken j))
 
--- src/lib.rt:264:5
 loop-holds : tie.Need-loop-holds Inv-loop μ-loop
 loop-holds c =
     let b = c .before .before in
     λ g. turned-start (rig b g) (b .args .t1) (b .args .queue) (b .pre .sound) (b .pre .room) (b .pre .entries)
 
--- src/lib.rt:265:17
 sub-j : tie.Need-sub-j Inv-loop μ-loop
 sub-j c = omega (arith, c .loop-test .taken)
 
--- src/lib.rt:266:17
 element-copy-out-f : tie.Need-element-copy-out-f Inv-loop μ-loop
 element-copy-out-f c = omega (arith, few (c .before))
 
--- src/lib.rt:267:17
 element-copy-out-v : tie.Need-element-copy-out-v Inv-loop μ-loop
 element-copy-out-v c = omega (arith, few (c .before .before))
 
--- src/lib.rt:269:18
 cast-st : tie.Need-cast-st Inv-loop μ-loop
 cast-st c = let o = ok (c .before .before) in omega (arith, o .flag, o .value)
 
--- src/lib.rt:269:9
 element-write-st : tie.Need-element-write-st Inv-loop μ-loop
 element-write-st c = let o = ok (c .before .before) in omega (arith, o .flag, o .value)
 
--- src/lib.rt:270:9
 drive-requires : tie.Need-drive-requires Inv-loop μ-loop
 drive-requires c κs = c .before .before .before .before .before .before .before .pre .fits .lines
 
--- src/lib.rt:271:27
 cast-c : tie.Need-cast-c Inv-loop μ-loop
 cast-c c = let o = ok (c .before .before .before .before) in omega (arith, o .flag, o .value)
 
--- src/lib.rt:271:22
 mul-c : tie.Need-mul-c Inv-loop μ-loop
 mul-c c = let o = ok (c .before .before .before .before) in omega (arith, o .flag, o .value)
 
--- src/lib.rt:271:17
 add-c : tie.Need-add-c Inv-loop μ-loop
 add-c c = let o = ok (c .before .before .before .before) in omega (arith, o .flag, o .value)
 
--- src/lib.rt:271:42
 cast-c-2 : tie.Need-cast-c-2 Inv-loop μ-loop
 cast-c-2 c = let o = ok (c .before .before .before .before) in omega (arith, o .flag, o .value)
 
--- src/lib.rt:271:17
 add-c-2 : tie.Need-add-c-2 Inv-loop μ-loop
 add-c-2 c = let o = ok (c .before .before .before .before) in omega (arith, o .flag, o .value)
 
--- src/lib.rt:272:12
 mul-if1 : tie.Need-mul-if1 Inv-loop μ-loop
 mul-if1 c = let o = ok (c .before .before .before .before) in omega (arith, o .flag, o .value)
 
--- src/lib.rt:272:12
 element-copy-out-if1 : tie.Need-element-copy-out-if1 Inv-loop μ-loop
 element-copy-out-if1 c = let o = ok (c .before .before .before .before) in omega (arith, o .flag, o .value)
 
--- src/lib.rt:272:12
 cast-if1 : tie.Need-cast-if1 Inv-loop μ-loop
 cast-if1 c =
     let e = c .before .before .before .before .before in
@@ -168,13 +153,11 @@ cast-if1 c =
     let o = ok e in
     omega (arith, waking-next (64 + 2 * flag e + value e) (omega (arith, o .some)) (omega (arith, o .flag, o .value)) (d .loop .links) (d .loop .state) (d .loop .inv noRig .sound))
 
--- src/lib.rt:273:21
 wake-requires : tie.Need-wake-requires Inv-loop μ-loop
 wake-requires c κs =
     let o = ok (c .before .before .before .before .before .before .before) in
     (c .before .before .before .before .before .before .before .before .loop .inv noRig .sound, (omega (arith, o .some), omega (arith, o .flag, o .value)))
 
--- src/lib.rt:275:13
 offers-requires : tie.Need-offers-requires Inv-loop μ-loop
 offers-requires c κs =
     let j = c .before .before in
@@ -184,11 +167,9 @@ offers-requires c κs =
     let p = rest-room (rig b noRig) (b .args .t1) (b .args .queue) (whole d) (d .loop .q) (d .loop .k) (d .loop .inv noRig) (d .loop .q .n - 1) (low (d .loop .q .n) (e .loop-test .taken)) in
     (b .pre .fits .lines .few, served-room (whole d) (popped e) (rig b noRig) (flag e) (value e) (driven j) (c .before .before .before .before .drive .ensures) (woken j) (awoken j (taken j)) p)
 
--- src/lib.rt:288:13
 add-k : tie.Need-add-k Inv-loop μ-loop
 add-k c = omega (arith, c .before .before .before .before .before .before .before .before .before .before .loop .inv noRig .room)
 
--- src/lib.rt:264:5
 loop-less : tie.Need-loop-less Inv-loop μ-loop
 loop-less c =
     let e = c .before .before .before .before .before .before .before .before .before in
@@ -196,7 +177,6 @@ loop-less c =
     let b = c .before .before .before .before .before .before .before .before .before .before .before .before .before in
     turned-falls (rig b noRig) (b .args .t1) (b .args .queue) (whole d) (d .loop .q) (d .loop .k) (d .loop .inv noRig) (d .loop .q .n - 1) (low (d .loop .q .n) (e .loop-test .taken)) (b .pre .fits .flags) (served c) (served-so c noRig)
 
--- src/lib.rt:264:5
 loop-again : tie.Need-loop-again Inv-loop μ-loop
 loop-again c =
     let e = c .before .before .before .before .before .before .before .before .before in
@@ -205,7 +185,6 @@ loop-again c =
     λ g.
     turned-step (rig b g) (b .args .t1) (b .args .queue) (whole d) (d .loop .q) (d .loop .k) (d .loop .inv g) (d .loop .q .n - 1) (low (d .loop .q .n) (e .loop-test .taken)) (b .pre .fits .flags) (served c) (served-so c g)
 
--- src/lib.rt:245:1
 returns : tie.Need-returns Inv-loop μ-loop
 returns c =
     let d = c .before in

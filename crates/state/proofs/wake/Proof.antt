@@ -11,9 +11,6 @@ use Rattle.chains.specs.Read.{chainsOf}
 use Rattle.state.specs.Waking.{Waking, waking-start, waking-step, waking-done}
 use Rattle.state.proofs.wake.Statement.{statement}
 use Rattle.state.proofs.wake.Tie as tie
-use Rattle.state.proofs.wake.Reads as reads
-use Rattle.state.proofs.wake.Lts as lts
-use Rattle.chains.proofs.unlink.Reads as unlink-reads
 
 abbrev Inv-loop : tie.InvT-loop
 Inv-loop state₀ s k₀ v₀ state k v = Waking k₀ state₀ s state k v
@@ -28,25 +25,20 @@ in-own c =
     let s = d .before .before in
     leaving-own (s .args .s) (s .pre .1 .0) (s .pre .1 .1) (chainsOf (s .args .links)) (d .loop .k) (d .loop .v) (d .loop .inv .leaving) (c .loop-test .taken)
 
--- src/lib.rt:233:17
 mul-v : tie.Need-mul-v Inv-loop μ-loop
 mul-v c = search needs
 
--- src/lib.rt:233:17
 element-copy-out-v : tie.Need-element-copy-out-v Inv-loop μ-loop
 element-copy-out-v c = search needs
 
--- src/lib.rt:233:17
 cast-v : tie.Need-cast-v Inv-loop μ-loop
 cast-v c = search needs
 
--- src/lib.rt:234:5
 loop-holds : tie.Need-loop-holds Inv-loop μ-loop
 loop-holds c =
     let s = c .before in
     waking-start (s .args .s) (s .pre .1 .0) (s .pre .1 .1) (s .args .links) (s .args .state .now) (s .pre .0)
 
--- src/lib.rt:235:13
 unlink-requires : tie.Need-unlink-requires Inv-loop μ-loop
 unlink-requires c κs =
     let d = c .before in
@@ -56,23 +48,18 @@ unlink-requires c κs =
     let o = in-own c in
     ((upd X (s .args .s) (w .leaving .left), w .leaving .held), (o .0, o .1, omega (arith, o .2)))
 
--- src/lib.rt:236:9
 element-write-state : tie.Need-element-write-state Inv-loop μ-loop
 element-write-state c = omega (arith, in-own (c .before))
 
--- src/lib.rt:237:13
 mul-v-2 : tie.Need-mul-v-2 Inv-loop μ-loop
 mul-v-2 c = search needs
 
--- src/lib.rt:237:13
 element-copy-out-v-2 : tie.Need-element-copy-out-v-2 Inv-loop μ-loop
 element-copy-out-v-2 c = search needs
 
--- src/lib.rt:237:13
 cast-v-2 : tie.Need-cast-v-2 Inv-loop μ-loop
 cast-v-2 c = search needs
 
--- src/lib.rt:234:5
 loop-less : tie.Need-loop-less Inv-loop μ-loop
 loop-less c =
     let u = c .before in
@@ -81,7 +68,6 @@ loop-less c =
     leaving-falls (s .args .s) (s .pre .1 .0) (s .pre .1 .1) (chainsOf (s .args .links)) (d .loop .k) (d .loop .v) (d .loop .inv .leaving) (u .before .loop-test .taken)
     (u .unlink .result) (u .unlink .ensures)
 
--- src/lib.rt:234:5
 loop-again : tie.Need-loop-again Inv-loop μ-loop
 loop-again c =
     let u = c .before in
@@ -90,7 +76,6 @@ loop-again c =
     waking-step (s .args .s) (s .pre .1 .0) (s .pre .1 .1) (s .args .links) (s .args .state .now) (d .loop .state) (d .loop .k) (d .loop .v) (d .loop .inv) (u .before .loop-test .taken)
     (u .unlink .result) (u .unlink .ensures)
 
--- src/lib.rt:227:1
 returns : tie.Need-returns Inv-loop μ-loop
 returns c =
     let d = c .before in

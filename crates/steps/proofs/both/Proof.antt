@@ -1,14 +1,10 @@
 use borrow.Author.Tests.{eq-eqb, ne-eqb}
 use Rattle.steps.proofs.both.Statement.{statement}
 use Rattle.steps.proofs.both.Tie as tie
-use Rattle.steps.proofs.both.Reads as reads
-use Rattle.steps.proofs.both.Lts as lts
 
--- src/lib.rt:31:1
 returns : tie.Need-returns
 returns c = simp (eq-eqb _ _ (c .if1 .taken))
 
--- src/lib.rt:31:1
 returns-2 : tie.Need-returns-2
 returns-2 c = simp (ne-eqb _ _ (c .if1 .left))
 

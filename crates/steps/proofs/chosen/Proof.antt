@@ -7,11 +7,6 @@ use Rattle.steps.specs.Tests.{choice}
 use borrow.Author.Needs.{needs}
 use Rattle.steps.proofs.chosen.Statement.{statement}
 use Rattle.steps.proofs.chosen.Tie as tie
-use Rattle.steps.proofs.chosen.Reads as reads
-use Rattle.steps.proofs.chosen.Lts as lts
-use Rattle.steps.proofs.best.Reads as best-reads
-use Rattle.steps.proofs.rank.Reads as rank-reads
-use Rattle.steps.proofs.stays.Reads as stays-reads
 
 picked : (c : tie.After-stays) → cond (c .stays .result) (c .before .before .before .before .before .before .before .before .before .args .n) (c .before .before .before .before .before .before .before .before .best .result) ≡ chosen (at (c .before .before .before .before .before .before .before .before .before .args .privileged .now)) (at (c .before .before .before .before .before .before .before .before .before .args .priority .now)) (c .before .before .before .before .before .before .before .before .before .args .state .now) (c .before .before .before .before .before .before .before .before .before .args .n)
 picked c =
@@ -21,47 +16,36 @@ picked c =
     (c .before .before .before .before .before .rank .result) (c .before .before .rank2 .result) (c .stays .result)
     (d .best .ensures .0) (c .before .before .before .before .before .rank .ensures) (c .before .before .rank2 .ensures) (c .stays .ensures)
 
--- src/lib.rt:211:9
 best-requires : tie.Need-best-requires
 best-requires c κs = search needs
 
--- src/lib.rt:212:19
 element-copy-out-rank : tie.Need-element-copy-out-rank
 element-copy-out-rank c = search needs
 
--- src/lib.rt:212:34
 element-copy-out-rank-2 : tie.Need-element-copy-out-rank-2
 element-copy-out-rank-2 c = search needs
 
--- src/lib.rt:212:9
 rank-requires : tie.Need-rank-requires
 rank-requires c κs = search needs
 
--- src/lib.rt:213:19
 element-copy-out-rank-3 : tie.Need-element-copy-out-rank-3
 element-copy-out-rank-3 c = search needs
 
--- src/lib.rt:213:34
 element-copy-out-rank-4 : tie.Need-element-copy-out-rank-4
 element-copy-out-rank-4 c = search needs
 
--- src/lib.rt:213:9
 rank-requires-2 : tie.Need-rank-requires-2
 rank-requires-2 c κs = search needs
 
--- src/lib.rt:214:17
 element-copy-out-stays : tie.Need-element-copy-out-stays
 element-copy-out-stays c = search needs
 
--- src/lib.rt:214:8
 stays-requires : tie.Need-stays-requires
 stays-requires c κs = search needs
 
--- src/lib.rt:202:1
 returns : tie.Need-returns
 returns c = (sym (if-yes _ (c .if1 .taken) refl) ∙ picked (c .before), search needs)
 
--- src/lib.rt:202:1
 returns-2 : tie.Need-returns-2
 returns-2 c = (sym (if-no _ (c .if1 .left) refl) ∙ picked (c .before), search needs)
 

@@ -5,9 +5,6 @@ use native.Mathlib.Omega.{arith}
 use Rattle.steps.specs.Leaving.{Turned, turned-start, turned-yes, turned-no, turned-done}
 use Rattle.steps.proofs.desert.Statement.{statement}
 use Rattle.steps.proofs.desert.Tie as tie
-use Rattle.steps.proofs.desert.Reads as reads
-use Rattle.steps.proofs.desert.Lts as lts
-use Rattle.steps.proofs.leave.Reads as leave-reads
 
 abbrev Inv-loop : tie.InvT-loop
 Inv-loop marks k₀ i₀ k i = Turned k₀ marks k i × (i ≤ 64)
@@ -15,31 +12,24 @@ Inv-loop marks k₀ i₀ k i = Turned k₀ marks k i × (i ≤ 64)
 abbrev μ-loop : tie.MeasureT-loop
 μ-loop marks k₀ i₀ k i = 64 - i
 
--- src/lib.rt:310:5
 loop-holds : tie.Need-loop-holds Inv-loop μ-loop
 loop-holds c = (turned-start _ _ (c .pre), search needs)
 
--- src/lib.rt:311:17
 add-t : tie.Need-add-t Inv-loop μ-loop
 add-t c = search needs
 
--- src/lib.rt:312:12
 array-read-if1 : tie.Need-array-read-if1 Inv-loop μ-loop
 array-read-if1 c = search needs
 
--- src/lib.rt:313:13
 leave-requires : tie.Need-leave-requires Inv-loop μ-loop
 leave-requires c κs = (c .before .before .loop .inv .0 .sound, (search needs, search needs))
 
--- src/lib.rt:315:13
 add-i : tie.Need-add-i Inv-loop μ-loop
 add-i c = search needs
 
--- src/lib.rt:310:5
 loop-less : tie.Need-loop-less Inv-loop μ-loop
 loop-less c = search needs
 
--- src/lib.rt:310:5
 loop-again : tie.Need-loop-again Inv-loop μ-loop
 loop-again c =
     let d = c .before .before in
@@ -51,7 +41,6 @@ loop-again c =
       omega (arith, c .before .loop-test .taken),
     )
 
--- src/lib.rt:304:1
 returns : tie.Need-returns Inv-loop μ-loop
 returns c =
     let d = c .before in

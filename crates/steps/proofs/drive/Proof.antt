@@ -9,10 +9,6 @@ use Rattle.laws.specs.Iter.{iter-zero}
 use Rattle.steps.specs.Driving.{lines-fewer, drive-more, drive-pass}
 use Rattle.steps.proofs.drive.Statement.{statement}
 use Rattle.steps.proofs.drive.Tie as tie
-use Rattle.steps.proofs.drive.Reads as reads
-use Rattle.steps.proofs.drive.Lts as lts
-use Rattle.steps.proofs.drive_from.Reads as drive-from-reads
-use Rattle.steps.proofs.named_from.Reads as named-from-reads
 
 abbrev Inv-loop : tie.InvT-loop
 Inv-loop atask apos aflag n f v cond₀ k₀ cond k = (cond ≡ drive k (at atask) (at apos) (at aflag) f v cond₀) × (k ≤ n)
@@ -20,34 +16,27 @@ Inv-loop atask apos aflag n f v cond₀ k₀ cond k = (cond ≡ drive k (at atas
 abbrev μ-loop : tie.MeasureT-loop
 μ-loop atask apos aflag n f v cond₀ k₀ cond k = n - k
 
--- src/lib.rt:127:5
 loop-holds : tie.Need-loop-holds Inv-loop μ-loop
 unfolding drive
 loop-holds c = (sym (iter-zero _ _), search needs)
 
--- src/lib.rt:127:11
 add-loop : tie.Need-add-loop Inv-loop μ-loop
 add-loop c = search needs
 
--- src/lib.rt:128:12
 named-from-requires : tie.Need-named-from-requires Inv-loop μ-loop
 named-from-requires c κs = search needs
 
--- src/lib.rt:129:13
 drive-from-requires : tie.Need-drive-from-requires Inv-loop μ-loop
 drive-from-requires c κs =
     let b = c .before .before .before .before .before in
     lines-fewer (b .args .n) (c .before .before .before .before .loop .k + 16) (b .args .atask .now) (b .args .apos .now) (omega arith) (b .pre)
 
--- src/lib.rt:131:13
 add-k : tie.Need-add-k Inv-loop μ-loop
 add-k c = search needs
 
--- src/lib.rt:127:5
 loop-less : tie.Need-loop-less Inv-loop μ-loop
 loop-less c = search needs
 
--- src/lib.rt:127:5
 loop-again : tie.Need-loop-again Inv-loop μ-loop
 loop-again c =
     let d = c .before .before .before in
@@ -62,18 +51,15 @@ loop-again c =
       search needs,
     )
 
--- src/lib.rt:133:39
 sub-drive-from : tie.Need-sub-drive-from Inv-loop μ-loop
 sub-drive-from c = search needs
 
--- src/lib.rt:133:5
 drive-from-requires-2 : tie.Need-drive-from-requires-2 Inv-loop μ-loop
 drive-from-requires-2 c κs =
     let b = c .before .before .before in
     let k = c .before .before .loop .k in
     lines-fewer (b .args .n) (k + (b .args .n - k)) (b .args .atask .now) (b .args .apos .now) (omega arith) (b .pre)
 
--- src/lib.rt:114:1
 returns : tie.Need-returns Inv-loop μ-loop
 returns c =
     let d = c .before .before .before in

@@ -11,8 +11,6 @@ use Rattle.chains.specs.Held.{at}
 use Rattle.steps.specs.View.{past}
 use Rattle.steps.proofs.drive_from.Statement.{statement}
 use Rattle.steps.proofs.drive_from.Tie as tie
-use Rattle.steps.proofs.drive_from.Reads as reads
-use Rattle.steps.proofs.drive_from.Lts as lts
 
 abbrev Inv-loop : tie.InvT-loop
 Inv-loop atask apos aflag k m f v cond₀ i₀ cond i = (cond ≡ iter i (driveOne (past k atask) (past k apos) (past k aflag) f v) cond₀) × (i ≤ m)
@@ -27,55 +25,42 @@ line c =
     let l = s .args .k + c .before .loop .i in
     (s .pre .task l (omega (arith, c .loop-test .taken)), s .pre .pos l (omega (arith, c .loop-test .taken)))
 
--- src/lib.rt:151:5
 loop-holds : tie.Need-loop-holds Inv-loop μ-loop
 loop-holds c = (sym (iter-zero _ _), search needs)
 
--- src/lib.rt:152:17
 add-l : tie.Need-add-l Inv-loop μ-loop
 add-l c = search needs
 
--- src/lib.rt:153:12
 element-copy-out-if1 : tie.Need-element-copy-out-if1 Inv-loop μ-loop
 element-copy-out-if1 c = search needs
 
--- src/lib.rt:154:21
 element-copy-out-t : tie.Need-element-copy-out-t Inv-loop μ-loop
 element-copy-out-t c = search needs
 
--- src/lib.rt:154:21
 cast-t : tie.Need-cast-t Inv-loop μ-loop
 cast-t c = omega (arith, line (c .before .before .before) .0)
 
--- src/lib.rt:155:21
 element-copy-out-p : tie.Need-element-copy-out-p Inv-loop μ-loop
 element-copy-out-p c = search needs
 
--- src/lib.rt:155:21
 cast-p : tie.Need-cast-p Inv-loop μ-loop
 cast-p c = omega (arith, line (c .before .before .before .before) .1)
 
--- src/lib.rt:156:18
 mul-cond : tie.Need-mul-cond Inv-loop μ-loop
 mul-cond c = omega (arith, line (c .before .before .before .before) .0)
 
--- src/lib.rt:156:18
 add-cond : tie.Need-add-cond Inv-loop μ-loop
 add-cond c = omega (arith, line (c .before .before .before .before) .0, line (c .before .before .before .before) .1)
 
--- src/lib.rt:156:13
 element-write-cond : tie.Need-element-write-cond Inv-loop μ-loop
 element-write-cond c = omega (arith, line (c .before .before .before .before) .0, line (c .before .before .before .before) .1)
 
--- src/lib.rt:158:13
 add-i : tie.Need-add-i Inv-loop μ-loop
 add-i c = search needs
 
--- src/lib.rt:151:5
 loop-less : tie.Need-loop-less Inv-loop μ-loop
 loop-less c = search needs
 
--- src/lib.rt:151:5
 loop-again : tie.Need-loop-again Inv-loop μ-loop
 loop-again c =
     let d = c .before .before .before in
@@ -88,7 +73,6 @@ loop-again c =
       search needs,
     )
 
--- src/lib.rt:137:1
 returns : tie.Need-returns Inv-loop μ-loop
 unfolding drive
 returns c =

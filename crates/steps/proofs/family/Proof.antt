@@ -8,9 +8,6 @@ use Rattle.chains.specs.Held.{at}
 use Rattle.rules.specs.Family.{family, markOne}
 use Rattle.steps.proofs.family.Statement.{statement}
 use Rattle.steps.proofs.family.Tie as tie
-use Rattle.steps.proofs.family.Reads as reads
-use Rattle.steps.proofs.family.Lts as lts
-use Rattle.steps.proofs.mark.Reads as mark-reads
 
 abbrev Inv-loop : tie.InvT-loop
 Inv-loop controller t marks₀ i₀ marks i = (marks ≡ iter i (markOne (at controller) t) (replicate 65 0)) × (length marks ≡ 65) × (i ≤ 64)
@@ -18,43 +15,33 @@ Inv-loop controller t marks₀ i₀ marks i = (marks ≡ iter i (markOne (at con
 abbrev μ-loop : tie.MeasureT-loop
 μ-loop controller t marks₀ i₀ marks i = 64 - i
 
--- src/lib.rt:270:5
 loop-holds : tie.Need-loop-holds Inv-loop μ-loop
 loop-holds c = (sym (iter-zero _ _), search needs, search needs)
 
--- src/lib.rt:271:17
 add-u : tie.Need-add-u Inv-loop μ-loop
 add-u c = search needs
 
--- src/lib.rt:272:17
 element-copy-out-c : tie.Need-element-copy-out-c Inv-loop μ-loop
 element-copy-out-c c = search needs
 
--- src/lib.rt:272:17
 cast-c : tie.Need-cast-c Inv-loop μ-loop
 cast-c c = omega (arith, c .before .before .before .pre (c .before .before .loop .i + 1))
 
--- src/lib.rt:273:21
 array-read-above : tie.Need-array-read-above Inv-loop μ-loop
 array-read-above c = omega (arith, c .before .before .before .pre (c .before .before .loop .i + 1), c .before .before .loop .inv .1)
 
--- src/lib.rt:274:20
 mark-requires : tie.Need-mark-requires Inv-loop μ-loop
 mark-requires c κs = search needs
 
--- src/lib.rt:274:9
 array-write-marks : tie.Need-array-write-marks Inv-loop μ-loop
 array-write-marks c = search needs
 
--- src/lib.rt:275:13
 add-i : tie.Need-add-i Inv-loop μ-loop
 add-i c = search needs
 
--- src/lib.rt:270:5
 loop-less : tie.Need-loop-less Inv-loop μ-loop
 loop-less c = search needs
 
--- src/lib.rt:270:5
 loop-again : tie.Need-loop-again Inv-loop μ-loop
 loop-again c =
     let d = c .before .before .before in
@@ -66,7 +53,6 @@ loop-again c =
       omega (arith, c .before .before .loop-test .taken),
     )
 
--- src/lib.rt:264:1
 returns : tie.Need-returns Inv-loop μ-loop
 unfolding family
 returns c =

@@ -9,8 +9,6 @@ use Rattle.chains.specs.Held.{at}
 use Rattle.rules.specs.Calls.{inCycle, inCycleOne}
 use Rattle.steps.proofs.in_cycle.Statement.{statement}
 use Rattle.steps.proofs.in_cycle.Tie as tie
-use Rattle.steps.proofs.in_cycle.Reads as reads
-use Rattle.steps.proofs.in_cycle.Lts as lts
 
 abbrev Inv-loop : tie.InvT-loop
 Inv-loop f cycle i₀ i = (any i (inCycleOne (at (cycle .flags)) f) ≡ false) × (i ≤ 15)
@@ -18,32 +16,25 @@ Inv-loop f cycle i₀ i = (any i (inCycleOne (at (cycle .flags)) f) ≡ false) �
 abbrev μ-loop : tie.MeasureT-loop
 μ-loop f cycle i₀ i = 15 - i
 
--- src/lib.rt:228:5
 loop-holds : tie.Need-loop-holds Inv-loop μ-loop
 loop-holds c = (any-zero _, search needs)
 
--- src/lib.rt:229:12
 element-copy-out-if1 : tie.Need-element-copy-out-if1 Inv-loop μ-loop
 element-copy-out-if1 c = search needs
 
--- src/lib.rt:230:13
 returns : tie.Need-returns Inv-loop μ-loop
 unfolding inCycle
 returns c = sym (any-at 15 _ (c .before .before .before .loop .i) (c .before .before .loop-test .taken) (eq-eqb _ _ (c .if1 .taken)))
 
--- src/lib.rt:232:13
 add-i : tie.Need-add-i Inv-loop μ-loop
 add-i c = search needs
 
--- src/lib.rt:228:5
 loop-less : tie.Need-loop-less Inv-loop μ-loop
 loop-less c = search needs
 
--- src/lib.rt:228:5
 loop-again : tie.Need-loop-again Inv-loop μ-loop
 loop-again c = (any-next _ _ (c .before .before .before .loop .inv .0) (ne-eqb _ _ (c .if1 .left)), search needs)
 
--- src/lib.rt:224:1
 returns-2 : tie.Need-returns-2 Inv-loop μ-loop
 unfolding inCycle
 returns-2 c =

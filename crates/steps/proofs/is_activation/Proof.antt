@@ -9,8 +9,6 @@ use Rattle.chains.specs.Held.{at}
 use Rattle.rules.specs.Calls.{isActivation, activationOne}
 use Rattle.steps.proofs.is_activation.Statement.{statement}
 use Rattle.steps.proofs.is_activation.Tie as tie
-use Rattle.steps.proofs.is_activation.Reads as reads
-use Rattle.steps.proofs.is_activation.Lts as lts
 
 abbrev Inv-loop : tie.InvT-loop
 Inv-loop activation f i₀ i = (any i (activationOne (at activation) f) ≡ false) × (i ≤ 64)
@@ -18,36 +16,28 @@ Inv-loop activation f i₀ i = (any i (activationOne (at activation) f) ≡ fals
 abbrev μ-loop : tie.MeasureT-loop
 μ-loop activation f i₀ i = 64 - i
 
--- src/lib.rt:167:5
 loop-holds : tie.Need-loop-holds Inv-loop μ-loop
 loop-holds c = (any-zero _, search needs)
 
--- src/lib.rt:168:17
 add-t : tie.Need-add-t Inv-loop μ-loop
 add-t c = search needs
 
--- src/lib.rt:169:12
 element-copy-out-if1 : tie.Need-element-copy-out-if1 Inv-loop μ-loop
 element-copy-out-if1 c = search needs
 
--- src/lib.rt:170:13
 returns : tie.Need-returns Inv-loop μ-loop
 unfolding isActivation
 returns c = sym (any-at 64 _ (c .before .before .before .loop .i) (search needs) (eq-eqb _ _ (c .if1 .taken)))
 
--- src/lib.rt:172:13
 add-i : tie.Need-add-i Inv-loop μ-loop
 add-i c = search needs
 
--- src/lib.rt:167:5
 loop-less : tie.Need-loop-less Inv-loop μ-loop
 loop-less c = search needs
 
--- src/lib.rt:167:5
 loop-again : tie.Need-loop-again Inv-loop μ-loop
 loop-again c = (any-next _ _ (c .before .before .before .loop .inv .0) (ne-eqb _ _ (c .if1 .left)), search needs)
 
--- src/lib.rt:163:1
 returns-2 : tie.Need-returns-2 Inv-loop μ-loop
 unfolding isActivation
 returns-2 c =

@@ -8,9 +8,6 @@ use Rattle.rules.specs.Calls.{isMinor, minorOne}
 use Rattle.steps.specs.View.{minorOf}
 use Rattle.steps.proofs.is_minor.Statement.{statement}
 use Rattle.steps.proofs.is_minor.Tie as tie
-use Rattle.steps.proofs.is_minor.Reads as reads
-use Rattle.steps.proofs.is_minor.Lts as lts
-use Rattle.steps.proofs.in_cycle.Reads as in-cycle-reads
 
 abbrev Inv-loop : tie.InvT-loop
 Inv-loop f cycles c₀ c = (any c (minorOne (minorOf cycles) f) ≡ false) × (c ≤ 64)
@@ -18,40 +15,31 @@ Inv-loop f cycles c₀ c = (any c (minorOne (minorOf cycles) f) ≡ false) × (c
 abbrev μ-loop : tie.MeasureT-loop
 μ-loop f cycles c₀ c = 64 - c
 
--- src/lib.rt:242:5
 loop-holds : tie.Need-loop-holds Inv-loop μ-loop
 loop-holds c = (any-zero _, search needs)
 
--- src/lib.rt:243:21
 mul-cycle : tie.Need-mul-cycle Inv-loop μ-loop
 mul-cycle c = search needs
 
--- src/lib.rt:243:21
 array-copy-out-cycle : tie.Need-array-copy-out-cycle Inv-loop μ-loop
 array-copy-out-cycle c = search needs
 
--- src/lib.rt:244:12
 in-cycle-requires : tie.Need-in-cycle-requires Inv-loop μ-loop
 in-cycle-requires c κs = search needs
 
--- src/lib.rt:245:13
 returns : tie.Need-returns Inv-loop μ-loop
 unfolding isMinor
 returns c = sym (any-at 64 _ (c .before .before .before .before .loop .c) (c .before .before .before .loop-test .taken) (sym (c .before .in-cycle .ensures) ∙ c .if1 .taken))
 
--- src/lib.rt:247:13
 add-c : tie.Need-add-c Inv-loop μ-loop
 add-c c = search needs
 
--- src/lib.rt:242:5
 loop-less : tie.Need-loop-less Inv-loop μ-loop
 loop-less c = search needs
 
--- src/lib.rt:242:5
 loop-again : tie.Need-loop-again Inv-loop μ-loop
 loop-again c = (any-next _ _ (c .before .before .before .before .loop .inv .0) (sym (c .before .in-cycle .ensures) ∙ c .if1 .left), search needs)
 
--- src/lib.rt:238:1
 returns-2 : tie.Need-returns-2 Inv-loop μ-loop
 unfolding isMinor
 returns-2 c =

@@ -9,9 +9,6 @@ use Rattle.chains.specs.Held.{at}
 use Rattle.rules.specs.Conditions.{met, metOne}
 use Rattle.steps.proofs.met.Statement.{statement}
 use Rattle.steps.proofs.met.Tie as tie
-use Rattle.steps.proofs.met.Reads as reads
-use Rattle.steps.proofs.met.Lts as lts
-use Rattle.steps.proofs.stands.Reads as stands-reads
 
 abbrev Inv-loop : tie.InvT-loop
 Inv-loop present desired t cond p₀ p = (all p (metOne (at present) (at desired) t cond) ≡ true) × (p ≤ 16)
@@ -19,56 +16,44 @@ Inv-loop present desired t cond p₀ p = (all p (metOne (at present) (at desired
 abbrev μ-loop : tie.MeasureT-loop
 μ-loop present desired t cond p₀ p = 16 - p
 
--- src/lib.rt:95:5
 loop-holds : tie.Need-loop-holds Inv-loop μ-loop
 loop-holds c = (all-zero _, search needs)
 
--- src/lib.rt:96:17
 mul-i : tie.Need-mul-i Inv-loop μ-loop
 mul-i c = search needs
 
--- src/lib.rt:96:17
 add-i : tie.Need-add-i Inv-loop μ-loop
 add-i c = search needs
 
--- src/lib.rt:97:20
 element-copy-out-stands : tie.Need-element-copy-out-stands Inv-loop μ-loop
 element-copy-out-stands c = search needs
 
--- src/lib.rt:97:32
 element-copy-out-stands-2 : tie.Need-element-copy-out-stands-2 Inv-loop μ-loop
 element-copy-out-stands-2 c = search needs
 
--- src/lib.rt:97:41
 element-copy-out-stands-3 : tie.Need-element-copy-out-stands-3 Inv-loop μ-loop
 element-copy-out-stands-3 c = search needs
 
--- src/lib.rt:97:13
 stands-requires : tie.Need-stands-requires Inv-loop μ-loop
 stands-requires c κs = search needs
 
--- src/lib.rt:98:13
 returns : tie.Need-returns Inv-loop μ-loop
 unfolding met
 returns c =
     let d = c .before .before .before .before .before .before in
     sym (all-not 16 _ (d .loop .p) (c .before .before .before .before .before .loop-test .taken) (sym (c .before .stands .ensures) ∙ not-true _ (c .if1 .taken)))
 
--- src/lib.rt:100:13
 add-p : tie.Need-add-p Inv-loop μ-loop
 add-p c = search needs
 
--- src/lib.rt:95:5
 loop-less : tie.Need-loop-less Inv-loop μ-loop
 loop-less c = search needs
 
--- src/lib.rt:95:5
 loop-again : tie.Need-loop-again Inv-loop μ-loop
 loop-again c =
     let d = c .before .before .before .before .before .before in
     (all-next _ _ (d .loop .inv .0) (sym (c .before .stands .ensures) ∙ not-false _ (c .if1 .left)), search needs)
 
--- src/lib.rt:85:1
 returns-2 : tie.Need-returns-2 Inv-loop μ-loop
 unfolding met
 returns-2 c =

@@ -9,8 +9,6 @@ use Rattle.laws.specs.Any.{any, any-zero, any-at, any-skip}
 use Rattle.steps.specs.View.{past}
 use Rattle.steps.proofs.named_from.Statement.{statement}
 use Rattle.steps.proofs.named_from.Tie as tie
-use Rattle.steps.proofs.named_from.Reads as reads
-use Rattle.steps.proofs.named_from.Lts as lts
 
 abbrev Inv-loop : tie.InvT-loop
 Inv-loop aflag k f found₀ i₀ found i = (eqb found 1 ≡ any i (λ l. eqb (past k aflag l) f)) × (i ≤ 16)
@@ -18,27 +16,21 @@ Inv-loop aflag k f found₀ i₀ found i = (eqb found 1 ≡ any i (λ l. eqb (pa
 abbrev μ-loop : tie.MeasureT-loop
 μ-loop aflag k f found₀ i₀ found i = 16 - i
 
--- src/lib.rt:169:5
 loop-holds : tie.Need-loop-holds Inv-loop μ-loop
 loop-holds c = (sym (any-zero _), search needs)
 
--- src/lib.rt:170:18
 add-if1 : tie.Need-add-if1 Inv-loop μ-loop
 add-if1 c = search needs
 
--- src/lib.rt:170:12
 element-copy-out-if1 : tie.Need-element-copy-out-if1 Inv-loop μ-loop
 element-copy-out-if1 c = search needs
 
--- src/lib.rt:173:13
 add-i : tie.Need-add-i Inv-loop μ-loop
 add-i c = search needs
 
--- src/lib.rt:169:5
 loop-less : tie.Need-loop-less Inv-loop μ-loop
 loop-less c = search needs
 
--- src/lib.rt:169:5
 loop-again : tie.Need-loop-again Inv-loop μ-loop
 loop-again c =
     let d = c .before .before .before in
@@ -50,7 +42,6 @@ loop-again c =
       search needs,
     )
 
--- src/lib.rt:163:1
 returns : tie.Need-returns Inv-loop μ-loop
 returns c =
     let e : c .before .loop .i ≡ 16 = omega arith in

@@ -8,9 +8,6 @@ use Rattle.chains.specs.Held.{at}
 use Rattle.rules.specs.Conditions.{names, namesOne}
 use Rattle.steps.proofs.names.Statement.{statement}
 use Rattle.steps.proofs.names.Tie as tie
-use Rattle.steps.proofs.names.Reads as reads
-use Rattle.steps.proofs.names.Lts as lts
-use Rattle.steps.proofs.both.Reads as both-reads
 
 abbrev Inv-loop : tie.InvT-loop
 Inv-loop atask aflag n t f k₀ k = (any k (namesOne (at atask) (at aflag) t f) ≡ false) × (k ≤ n)
@@ -18,44 +15,35 @@ Inv-loop atask aflag n t f k₀ k = (any k (namesOne (at atask) (at aflag) t f) 
 abbrev μ-loop : tie.MeasureT-loop
 μ-loop atask aflag n t f k₀ k = n - k
 
--- src/lib.rt:135:5
 loop-holds : tie.Need-loop-holds Inv-loop μ-loop
 loop-holds c = (any-zero _, search needs)
 
--- src/lib.rt:136:17
 element-copy-out-both : tie.Need-element-copy-out-both Inv-loop μ-loop
 element-copy-out-both c = search needs
 
--- src/lib.rt:136:30
 element-copy-out-both-2 : tie.Need-element-copy-out-both-2 Inv-loop μ-loop
 element-copy-out-both-2 c = search needs
 
--- src/lib.rt:136:12
 both-requires : tie.Need-both-requires Inv-loop μ-loop
 both-requires c κs = search needs
 
--- src/lib.rt:137:13
 returns : tie.Need-returns Inv-loop μ-loop
 unfolding names
 returns c =
     let d = c .before .before .before .before .before in
     sym (any-at _ _ (d .loop .k) (c .before .before .before .before .loop-test .taken) (sym (c .before .both .ensures) ∙ c .if1 .taken))
 
--- src/lib.rt:139:13
 add-k : tie.Need-add-k Inv-loop μ-loop
 add-k c = search needs
 
--- src/lib.rt:135:5
 loop-less : tie.Need-loop-less Inv-loop μ-loop
 loop-less c = search needs
 
--- src/lib.rt:135:5
 loop-again : tie.Need-loop-again Inv-loop μ-loop
 loop-again c =
     let d = c .before .before .before .before .before in
     (any-next _ _ (d .loop .inv .0) (sym (c .before .both .ensures) ∙ c .if1 .left), search needs)
 
--- src/lib.rt:130:1
 returns-2 : tie.Need-returns-2 Inv-loop μ-loop
 unfolding names
 returns-2 c =

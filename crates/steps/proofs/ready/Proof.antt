@@ -7,34 +7,24 @@ use Rattle.rules.specs.Conditions.{names}
 use borrow.Author.Needs.{needs}
 use Rattle.steps.proofs.ready.Statement.{statement}
 use Rattle.steps.proofs.ready.Tie as tie
-use Rattle.steps.proofs.ready.Reads as reads
-use Rattle.steps.proofs.ready.Lts as lts
-use Rattle.steps.proofs.met.Reads as met-reads
-use Rattle.steps.proofs.names.Reads as names-reads
 
--- src/lib.rt:193:9
 returns : tie.Need-returns
 returns c = and-one _ _ (ne-eqb _ _ (c .if1 .taken))
 
--- src/lib.rt:195:9
 met-requires : tie.Need-met-requires
 met-requires c κs = search needs
 
--- src/lib.rt:196:9
 returns-2 : tie.Need-returns-2
 returns-2 c =
     let a = c .before .before .before .args in
     and-three (eqb (a .s) 1) (names (a .n) (at (a .atask .now)) (at (a .aflag .now)) (a .t) (a .f)) _ (sym (c .before .met .ensures) ∙ not-true _ (c .if2 .taken))
 
--- src/lib.rt:198:28
 cast-names : tie.Need-cast-names
 cast-names c = search needs
 
--- src/lib.rt:198:5
 names-requires : tie.Need-names-requires
 names-requires c κs = search needs
 
--- src/lib.rt:178:1
 returns-3 : tie.Need-returns-3
 returns-3 c = c .names .ensures ∙ and-two _ _ _ (eq-eqb _ _ (c .before .before .before .if1 .left)) (sym (c .before .before .met .ensures) ∙ not-false _ (c .before .if2 .left))
 

@@ -11,10 +11,6 @@ use lib.ListN.{set}
 use Prim.Native.Nat.{ℕ, _+_, _*_}
 use Rattle.steps.proofs.relax.Statement.{statement}
 use Rattle.steps.proofs.relax.Tie as tie
-use Rattle.steps.proofs.relax.Reads as reads
-use Rattle.steps.proofs.relax.Lts as lts
-use Rattle.steps.proofs.loose.Reads as loose-reads
-use Rattle.steps.proofs.undesired.Reads as undesired-reads
 
 abbrev Inv-loop : tie.InvT-loop
 Inv-loop present latched desired t cond₀ p₀ cond p = (cond ≡ iter p (relaxOne (at present) (at latched) (at desired) t) cond₀) × (p ≤ 16)
@@ -22,51 +18,39 @@ Inv-loop present latched desired t cond₀ p₀ cond p = (cond ≡ iter p (relax
 abbrev μ-loop : tie.MeasureT-loop
 μ-loop present latched desired t cond₀ p₀ cond p = 16 - p
 
--- src/lib.rt:75:5
 loop-holds : tie.Need-loop-holds Inv-loop μ-loop
 loop-holds c = (sym (iter-zero _ _), search needs)
 
--- src/lib.rt:76:17
 mul-i : tie.Need-mul-i Inv-loop μ-loop
 mul-i c = search needs
 
--- src/lib.rt:76:17
 add-i : tie.Need-add-i Inv-loop μ-loop
 add-i c = search needs
 
--- src/lib.rt:77:18
 element-copy-out-loose : tie.Need-element-copy-out-loose Inv-loop μ-loop
 element-copy-out-loose c = search needs
 
--- src/lib.rt:77:30
 element-copy-out-loose-2 : tie.Need-element-copy-out-loose-2 Inv-loop μ-loop
 element-copy-out-loose-2 c = search needs
 
--- src/lib.rt:77:12
 loose-requires : tie.Need-loose-requires Inv-loop μ-loop
 loose-requires c κs = search needs
 
--- src/lib.rt:78:33
 element-copy-out-undesired : tie.Need-element-copy-out-undesired Inv-loop μ-loop
 element-copy-out-undesired c = search needs
 
--- src/lib.rt:78:23
 undesired-requires : tie.Need-undesired-requires Inv-loop μ-loop
 undesired-requires c κs = search needs
 
--- src/lib.rt:78:13
 element-write-cond : tie.Need-element-write-cond Inv-loop μ-loop
 element-write-cond c = search needs
 
--- src/lib.rt:80:13
 add-p : tie.Need-add-p Inv-loop μ-loop
 add-p c = search needs
 
--- src/lib.rt:75:5
 loop-less : tie.Need-loop-less Inv-loop μ-loop
 loop-less c = search needs
 
--- src/lib.rt:75:5
 loop-again : tie.Need-loop-again Inv-loop μ-loop
 loop-again c =
     let d = c .before .before .before .before .before in
@@ -80,7 +64,6 @@ loop-again c =
       search needs,
     )
 
--- src/lib.rt:64:1
 returns : tie.Need-returns Inv-loop μ-loop
 unfolding relax
 returns c =

@@ -2,14 +2,10 @@ use borrow.Author.Tests.{eq-eqb, ne-eqb}
 use Rattle.steps.specs.Tests.{active-is}
 use Rattle.steps.proofs.struck.Statement.{statement}
 use Rattle.steps.proofs.struck.Tie as tie
-use Rattle.steps.proofs.struck.Reads as reads
-use Rattle.steps.proofs.struck.Lts as lts
 
--- src/lib.rt:386:1
 returns : tie.Need-returns
 returns c = simp (eq-eqb _ _ (c .if1 .taken)) (active-is (c .before .args .state))
 
--- src/lib.rt:386:1
 returns-2 : tie.Need-returns-2
 returns-2 c = simp (ne-eqb _ _ (c .if1 .left))
 

@@ -9,8 +9,6 @@ use borrow.Author.Tests.{eq-eqb, ne-eqb}
 use Rattle.rules.specs.Family.{cleared, clearOne}
 use Rattle.steps.proofs.uninvoke.Statement.{statement}
 use Rattle.steps.proofs.uninvoke.Tie as tie
-use Rattle.steps.proofs.uninvoke.Reads as reads
-use Rattle.steps.proofs.uninvoke.Lts as lts
 
 abbrev Inv-loop : tie.InvT-loop
 Inv-loop marks state₀ i₀ state i = (state ≡ iter i (clearOne marks) state₀) × (i ≤ 64)
@@ -18,31 +16,24 @@ Inv-loop marks state₀ i₀ state i = (state ≡ iter i (clearOne marks) state�
 abbrev μ-loop : tie.MeasureT-loop
 μ-loop marks state₀ i₀ state i = 64 - i
 
--- src/lib.rt:285:5
 loop-holds : tie.Need-loop-holds Inv-loop μ-loop
 loop-holds c = (sym (iter-zero _ _), search needs)
 
--- src/lib.rt:286:17
 add-t : tie.Need-add-t Inv-loop μ-loop
 add-t c = search needs
 
--- src/lib.rt:287:12
 element-copy-out-if1 : tie.Need-element-copy-out-if1 Inv-loop μ-loop
 element-copy-out-if1 c = search needs
 
--- src/lib.rt:288:13
 element-write-state : tie.Need-element-write-state Inv-loop μ-loop
 element-write-state c = search needs
 
--- src/lib.rt:290:13
 add-i : tie.Need-add-i Inv-loop μ-loop
 add-i c = search needs
 
--- src/lib.rt:285:5
 loop-less : tie.Need-loop-less Inv-loop μ-loop
 loop-less c = search needs
 
--- src/lib.rt:285:5
 loop-again : tie.Need-loop-again Inv-loop μ-loop
 loop-again c =
     let d = c .before .before .before in
@@ -55,7 +46,6 @@ loop-again c =
       search needs,
     )
 
--- src/lib.rt:281:1
 returns : tie.Need-returns Inv-loop μ-loop
 unfolding cleared
 returns c =

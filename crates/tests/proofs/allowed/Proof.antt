@@ -1,11 +1,8 @@
-use borrow.Author.Needs.{needs}
 use mathlib.Core.Path.{refl, sym}
 use borrow.Author.Tests.{eq-eqb, ne-eqb}
 use Rattle.laws.specs.Cases.{if-yes, if-no}
 use Rattle.tests.proofs.allowed.Statement.{statement}
 use Rattle.tests.proofs.allowed.Tie as tie
-use Rattle.tests.proofs.allowed.Reads as reads
-use Rattle.tests.proofs.allowed.Lts as lts
 
 returns : tie.Need-returns
 returns c = sym (if-yes _ (eq-eqb _ 1 (c .if1 .taken)) refl)

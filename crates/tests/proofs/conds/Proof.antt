@@ -8,9 +8,6 @@ use Rattle.laws.specs.All.{Passed, passed-none, passed-next, passed-not}
 use Rattle.tests.specs.Tests.{condOne}
 use Rattle.tests.proofs.conds.Statement.{statement}
 use Rattle.tests.proofs.conds.Tie as tie
-use Rattle.tests.proofs.conds.Reads as reads
-use Rattle.tests.proofs.conds.Lts as lts
-use Rattle.tests.proofs.allowed.Reads as allowed-reads
 
 abbrev Inv-loop : tie.InvT-loop
 Inv-loop present conds bad₀ i₀ bad i = Passed bad i (condOne present conds) × (i ≤ 1040)

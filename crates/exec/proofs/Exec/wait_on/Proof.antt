@@ -14,27 +14,13 @@ use Rattle.exec.specs.Waits.{flagWait, wait-silent, wait-proper, wait-ta
 use borrow.Author.Needs.{needs}
 use Rattle.exec.proofs.Exec.wait_on.Statement.{statement}
 use Rattle.exec.proofs.Exec.wait_on.Tie as tie
-use Rattle.exec.proofs.Exec.wait_on.Reads as reads
-use Rattle.exec.proofs.Exec.wait_on.Lts as lts
-use Rattle.exec.proofs.Exec.flag_refusal.Reads as flag-refusal-reads
-use Rattle.exec.proofs.Exec.refuse.Reads as refuse-reads
-use Rattle.exec.proofs.Exec.settle.Reads as settle-reads
-use Rattle.exec.proofs.Exec.unchanged.Reads as unchanged-reads
-use Rattle.exec.proofs.answers.bit_of.Reads as bit-of-reads
-use Rattle.exec.proofs.refusals.look.Reads as look-reads
-use Rattle.exec.proofs.waits.satisfied.Reads as satisfied-reads
-use Rattle.state.proofs.State.wait_on.Reads as wait-on-reads
-use Rattle.steps.proofs.Queue.empty.Reads as empty-reads
 
--- src/waits.rt:53:13
 flag-refusal-requires : tie.Need-flag-refusal-requires
 flag-refusal-requires c κs = search needs
 
--- src/waits.rt:55:13
 refuse-requires : tie.Need-refuse-requires
 refuse-requires c κs = search needs
 
--- src/waits.rt:55:13
 returns : tie.Need-returns
 returns c =
     let a = c .before .before .before .args in
@@ -43,23 +29,18 @@ returns c =
     judged-meets (a .self) _ (j .result) (j .ensures) k (wait-table (rigIn (a .self)) (view (a .self)) (a .latched) (a .flag) (bit (a .value))) (c .before .if1 .taken)
     (c .refuse .result) (c .refuse .ensures) [] (silent-lent k (wait-silent (a .latched) (a .flag) (bit (a .value))))
 
--- src/waits.rt:58:13
 bit-of-requires : tie.Need-bit-of-requires
 bit-of-requires c κs = search needs
 
--- src/waits.rt:59:31
 look-requires : tie.Need-look-requires
 look-requires c κs = search needs
 
--- src/waits.rt:59:12
 satisfied-requires : tie.Need-satisfied-requires
 satisfied-requires c κs = search needs
 
--- src/waits.rt:60:13
 unchanged-requires : tie.Need-unchanged-requires
 unchanged-requires c κs = search needs
 
--- src/waits.rt:60:13
 returns-2 : tie.Need-returns-2
 returns-2 c =
     let a = c .before .before .before .before .before .before .before .before .before .before .before .args in
@@ -73,11 +54,9 @@ returns-2 c =
     (untouched (a .self) k h (wait-stays (a .self) h (a .latched) (a .flag) (bit (a .value)) y) (wait-proper (a .latched) (a .flag) (a .value)) e 0 []
     (silent-output (rigIn (a .self)) (view (a .self)) k (wait-silent (a .latched) (a .flag) (bit (a .value)))))
 
--- src/waits.rt:62:45
 cast-wait-on : tie.Need-cast-wait-on
 cast-wait-on c = search needs
 
--- src/waits.rt:62:13
 wait-on-requires : tie.Need-wait-on-requires
 wait-on-requires c κs =
     let a = c .before .before .before .before .before .before .before .before .before .before .args in
@@ -87,11 +66,9 @@ wait-on-requires c κs =
     let n = judged-none (a .self) _ (j .result) (j .ensures) z in
     (may-wait (a .self) h (somebody-runs (view (a .self)) _ (sym n)), rw (c .before .before .before .before .before .before .bit-of .ensures) (flag-ok (a .self) h (a .flag) (a .value) _ n))
 
--- src/waits.rt:63:13
 empty-requires : tie.Need-empty-requires
 empty-requires c κs = search needs
 
--- src/waits.rt:64:9
 settle-requires : tie.Need-settle-requires
 settle-requires c κs =
     let a = c .before .before .before .before .before .before .before .before .before .before .before .before .args in
@@ -104,7 +81,6 @@ settle-requires c κs =
     settles (a .self) h k (wait-proper (a .latched) (a .flag) (a .value)) e (record { st = c .before .wait-on .result; queue = c .empty .result })
     (wait-work (a .self) h (c .before .wait-on .result) (c .empty .result) (c .empty .ensures .0) (a .latched) (a .flag) (bit (a .value)) y (c .before .wait-on .ensures .is ∙ ap (waitOn (view (a .self)) (a .flag)) (c .before .before .before .before .before .before .before .before .bit-of .ensures))) (c .before .wait-on .ensures .sound)
 
--- src/waits.rt:50:5
 returns-3 : tie.Need-returns-3
 returns-3 c =
     let a = c .before .before .before .before .before .before .before .before .before .before .before .before .before .args in

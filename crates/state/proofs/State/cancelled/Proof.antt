@@ -2,30 +2,19 @@ use Rattle.state.specs.Effects.{cancelled-is}
 use borrow.Author.Needs.{needs}
 use Rattle.state.proofs.State.cancelled.Statement.{statement}
 use Rattle.state.proofs.State.cancelled.Tie as tie
-use Rattle.state.proofs.State.cancelled.Reads as reads
-use Rattle.state.proofs.State.cancelled.Lts as lts
-use Rattle.steps.proofs.Queue.of_offs.Reads as of-offs-reads
-use Rattle.steps.proofs.desert.Reads as desert-reads
-use Rattle.steps.proofs.family.Reads as family-reads
-use Rattle.steps.proofs.uninvoke.Reads as uninvoke-reads
 
--- src/lib.rt:147:21
 family-requires : tie.Need-family-requires
 family-requires c κs = search needs
 
--- src/lib.rt:148:13
 of-offs-requires : tie.Need-of-offs-requires
 of-offs-requires c κs = search needs
 
--- src/lib.rt:149:9
 uninvoke-requires : tie.Need-uninvoke-requires
 uninvoke-requires c κs = search needs
 
--- src/lib.rt:150:13
 desert-requires : tie.Need-desert-requires
 desert-requires c κs = search needs
 
--- src/lib.rt:142:5
 returns : tie.Need-returns
 returns c =
     let a = c .before .before .before .before .before .before .before .before .before .before .before .before .before .before .args in

@@ -12,19 +12,15 @@ use Rattle.state.proofs.State.dispatched.Tie as tie
 sized : (c : tie.Start) → Sized (c .args .t1 .links)
 sized c = record { next = search needs; prev = search needs; on = search needs }
 
--- src/lib.rt:107:17
 cast-n : tie.Need-cast-n
 cast-n c = search needs
 
--- src/lib.rt:108:13
 chosen-requires : tie.Need-chosen-requires
 chosen-requires c κs = search needs
 
--- src/lib.rt:109:24
 cast-self : tie.Need-cast-self
 cast-self c = search needs
 
--- src/lib.rt:103:5
 returns : tie.Need-returns
 unfolding dispatch
 returns c =

@@ -3,32 +3,22 @@ use native.Mathlib.Omega.{arith}
 use borrow.Author.Needs.{needs}
 use Rattle.state.proofs.State.finished.Statement.{statement}
 use Rattle.state.proofs.State.finished.Tie as tie
-use Rattle.state.proofs.State.finished.Reads as reads
-use Rattle.state.proofs.State.finished.Lts as lts
-use Rattle.steps.proofs.Queue.empty.Reads as empty-reads
-use Rattle.steps.proofs.Queue.push.Reads as push-reads
 
--- src/lib.rt:118:17
 cast-t : tie.Need-cast-t
 cast-t c = search needs
 
--- src/lib.rt:119:17
 element-copy-out-f : tie.Need-element-copy-out-f
 element-copy-out-f c = search needs
 
--- src/lib.rt:120:17
 empty-requires : tie.Need-empty-requires
 empty-requires c κs = search needs
 
--- src/lib.rt:120:13
 push-requires : tie.Need-push-requires
 push-requires c κs = omega (arith, c .empty .ensures .1)
 
--- src/lib.rt:121:9
 element-write-self : tie.Need-element-write-self
 element-write-self c = search needs
 
--- src/lib.rt:114:5
 returns : tie.Need-returns
 returns c =
     let a = c .before .before .before .args in

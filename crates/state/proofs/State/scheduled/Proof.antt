@@ -4,30 +4,19 @@ use Rattle.state.specs.Effects.{scheduled-no, scheduled-yes}
 use borrow.Author.Needs.{needs}
 use Rattle.state.proofs.State.scheduled.Statement.{statement}
 use Rattle.state.proofs.State.scheduled.Tie as tie
-use Rattle.state.proofs.State.scheduled.Reads as reads
-use Rattle.state.proofs.State.scheduled.Lts as lts
-use Rattle.steps.proofs.Queue.empty.Reads as empty-reads
-use Rattle.steps.proofs.Queue.push.Reads as push-reads
-use Rattle.steps.proofs.met.Reads as met-reads
-use Rattle.steps.proofs.relax.Reads as relax-reads
 
--- src/lib.rt:160:13
 empty-requires : tie.Need-empty-requires
 empty-requires c κs = search needs
 
--- src/lib.rt:161:9
 relax-requires : tie.Need-relax-requires
 relax-requires c κs = search needs
 
--- src/lib.rt:162:9
 element-write-self : tie.Need-element-write-self
 element-write-self c = search needs
 
--- src/lib.rt:163:13
 met-requires : tie.Need-met-requires
 met-requires c κs = search needs
 
--- src/lib.rt:164:13
 returns : tie.Need-returns
 returns c =
     let a = c .before .before .before .before .before .before .before .before .before .before .before .before .before .before .args in
@@ -35,23 +24,18 @@ returns c =
     let x = c .before .before .before .before .before .before .before .relax in
     scheduled-no (a .t1) (a .t2) (a .t) (x .last .1 .1 .1 .1 .0) (x .ensures) (n .empty .result) (n .empty .ensures .0) (sym (c .before .met .ensures) ∙ not-true _ (c .if1 .taken))
 
--- src/lib.rt:169:17
 element-copy-out-f : tie.Need-element-copy-out-f
 element-copy-out-f c = search needs
 
--- src/lib.rt:170:13
 push-requires : tie.Need-push-requires
 push-requires c κs = search needs
 
--- src/lib.rt:171:9
 element-write-self-2 : tie.Need-element-write-self-2
 element-write-self-2 c = search needs
 
--- src/lib.rt:172:9
 relax-requires-2 : tie.Need-relax-requires-2
 relax-requires-2 c κs = search needs
 
--- src/lib.rt:156:5
 returns-2 : tie.Need-returns-2
 returns-2 c =
     let a = c .before .before .before .before .before .before .before .before .before .before .before .before .before .before .before .before .before .before .before .before .before .before .args in

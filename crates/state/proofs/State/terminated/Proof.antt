@@ -2,33 +2,22 @@ use Rattle.state.specs.Effects.{pushed-one, terminated-is}
 use borrow.Author.Needs.{needs}
 use Rattle.state.proofs.State.terminated.Statement.{statement}
 use Rattle.state.proofs.State.terminated.Tie as tie
-use Rattle.state.proofs.State.terminated.Reads as reads
-use Rattle.state.proofs.State.terminated.Lts as lts
-use Rattle.steps.proofs.Queue.empty.Reads as empty-reads
-use Rattle.steps.proofs.Queue.push.Reads as push-reads
-use Rattle.steps.proofs.leave.Reads as leave-reads
 
--- src/lib.rt:132:17
 element-copy-out-f : tie.Need-element-copy-out-f
 element-copy-out-f c = search needs
 
--- src/lib.rt:133:17
 empty-requires : tie.Need-empty-requires
 empty-requires c κs = search needs
 
--- src/lib.rt:133:13
 push-requires : tie.Need-push-requires
 push-requires c κs = search needs
 
--- src/lib.rt:134:13
 leave-requires : tie.Need-leave-requires
 leave-requires c κs = search needs
 
--- src/lib.rt:135:9
 element-write-self : tie.Need-element-write-self
 element-write-self c = search needs
 
--- src/lib.rt:127:5
 returns : tie.Need-returns
 returns c =
     let a = c .before .before .before .before .before .args in

@@ -13,9 +13,6 @@ use Rattle.state.specs.Due.{Waking, waking-start, waking-step, waking-do
 use mathlib.Core.Logic.{⊎-elim}
 use Rattle.state.proofs.State.wake_due.Statement.{statement}
 use Rattle.state.proofs.State.wake_due.Tie as tie
-use Rattle.state.proofs.State.wake_due.Reads as reads
-use Rattle.state.proofs.State.wake_due.Lts as lts
-use Rattle.chains.proofs.unlink.Reads as unlink-reads
 
 abbrev Inv-loop : tie.InvT-loop
 Inv-loop self₀ count k₀ v₀ self k v = (length (self .state) ≡ 65) × Waking self₀ self k v
@@ -29,29 +26,23 @@ in-own c =
     let d = c .before in
     leaving-own 65 (lit< tt) (lit< tt) (chainsOf (c .before .before .before .before .args .t1 .links)) (d .loop .k) (d .loop .v) (d .loop .inv .1 .leaving) (c .loop-test .taken)
 
--- src/lib.rt:60:21
 element-copy-out-v : tie.Need-element-copy-out-v Inv-loop μ-loop
 element-copy-out-v c = search needs
 
--- src/lib.rt:60:21
 cast-v : tie.Need-cast-v Inv-loop μ-loop
 cast-v c = search needs
 
--- src/lib.rt:61:9
 loop-holds : tie.Need-loop-holds Inv-loop μ-loop
 loop-holds c =
     let s = c .before .before in
     (search needs, waking-start (s .args .t1) (s .pre .0) (s .pre .1))
 
--- src/lib.rt:62:24
 mul-if1 : tie.Need-mul-if1 Inv-loop μ-loop
 mul-if1 c = omega (arith, in-own c)
 
--- src/lib.rt:62:24
 element-copy-out-if1 : tie.Need-element-copy-out-if1 Inv-loop μ-loop
 element-copy-out-if1 c = omega (arith, in-own c)
 
--- src/lib.rt:65:17
 unlink-requires : tie.Need-unlink-requires Inv-loop μ-loop
 unlink-requires c κs =
     let d = c .before .before .before in
@@ -60,19 +51,15 @@ unlink-requires c κs =
     let o = in-own (c .before .before) in
     ((upd X 65 (w .leaving .left), w .leaving .held), (o .0, o .1, omega (arith, o .2)))
 
--- src/lib.rt:66:13
 element-write-self : tie.Need-element-write-self Inv-loop μ-loop
 element-write-self c = omega (arith, in-own (c .before .before .before))
 
--- src/lib.rt:67:17
 element-copy-out-v-2 : tie.Need-element-copy-out-v-2 Inv-loop μ-loop
 element-copy-out-v-2 c = search needs
 
--- src/lib.rt:67:17
 cast-v-2 : tie.Need-cast-v-2 Inv-loop μ-loop
 cast-v-2 c = search needs
 
--- src/lib.rt:61:9
 loop-less : tie.Need-loop-less Inv-loop μ-loop
 loop-less c =
     let u = c .before in
@@ -80,7 +67,6 @@ loop-less c =
     leaving-falls 65 (lit< tt) (lit< tt) (chainsOf (c .before .before .before .before .before .before .before .before .args .t1 .links)) (d .loop .k) (d .loop .v) (d .loop .inv .1 .leaving) (c .before .before .before .before .loop-test .taken)
     (u .unlink .result) (u .unlink .ensures)
 
--- src/lib.rt:61:9
 loop-again : tie.Need-loop-again Inv-loop μ-loop
 loop-again c =
     let u = c .before in
@@ -90,7 +76,6 @@ loop-again c =
           (u .unlink .result) (u .unlink .ensures),
     )
 
--- src/lib.rt:53:5
 returns : tie.Need-returns Inv-loop μ-loop
 returns c =
     let d = c .before in

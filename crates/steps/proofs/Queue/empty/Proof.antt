@@ -2,10 +2,7 @@ use Rattle.steps.specs.Queued.{entries-none}
 use mathlib.Core.Path.{refl}
 use Rattle.steps.proofs.Queue.empty.Statement.{statement}
 use Rattle.steps.proofs.Queue.empty.Tie as tie
-use Rattle.steps.proofs.Queue.empty.Reads as reads
-use Rattle.steps.proofs.Queue.empty.Lts as lts
 
--- src/lib.rt:328:5
 returns : tie.Need-returns
 returns c = (entries-none _ _, refl)
 

@@ -9,10 +9,6 @@ use Rattle.rules.specs.Calls.{cycleQueue, queueOne}
 use Rattle.steps.specs.View.{entriesOf}
 use Rattle.steps.proofs.Queue.of_cycle.Statement.{statement}
 use Rattle.steps.proofs.Queue.of_cycle.Tie as tie
-use Rattle.steps.proofs.Queue.of_cycle.Reads as reads
-use Rattle.steps.proofs.Queue.of_cycle.Lts as lts
-use Rattle.steps.proofs.Queue.empty.Reads as empty-reads
-use Rattle.steps.proofs.Queue.push.Reads as push-reads
 
 abbrev Inv-loop : tie.InvT-loop
 Inv-loop cycle q₀ i₀ q i = (entriesOf q ≡ iter i (queueOne (at (cycle .flags))) []) × (q .n ≤ i) × (i ≤ 15)
@@ -20,31 +16,24 @@ Inv-loop cycle q₀ i₀ q i = (entriesOf q ≡ iter i (queueOne (at (cycle .fla
 abbrev μ-loop : tie.MeasureT-loop
 μ-loop cycle q₀ i₀ q i = 15 - i
 
--- src/lib.rt:357:13
 empty-requires : tie.Need-empty-requires Inv-loop μ-loop
 empty-requires c κs = search needs
 
--- src/lib.rt:359:9
 loop-holds : tie.Need-loop-holds Inv-loop μ-loop
 loop-holds c = (c .empty .ensures .0 ∙ sym (iter-zero _ _), omega (arith, c .empty .ensures .1), search needs)
 
--- src/lib.rt:360:21
 element-copy-out-f : tie.Need-element-copy-out-f Inv-loop μ-loop
 element-copy-out-f c = search needs
 
--- src/lib.rt:361:13
 push-requires : tie.Need-push-requires Inv-loop μ-loop
 push-requires c κs = omega (arith, c .before .before .loop .inv .1, c .before .before .loop .inv .2)
 
--- src/lib.rt:362:17
 add-i : tie.Need-add-i Inv-loop μ-loop
 add-i c = search needs
 
--- src/lib.rt:359:9
 loop-less : tie.Need-loop-less Inv-loop μ-loop
 loop-less c = search needs
 
--- src/lib.rt:359:9
 loop-again : tie.Need-loop-again Inv-loop μ-loop
 loop-again c =
     let d = c .before .before .before in
@@ -52,7 +41,6 @@ loop-again c =
     let m = c .push .ensures in
     (m .is ∙ iter-step i (queueOne (at (c .before .before .before .before .before .args .t1 .flags))) [] (entriesOf (d .loop .q)) (d .loop .inv .0), omega (arith, m .more, d .loop .inv .1), omega (arith, c .before .before .loop-test .taken))
 
--- src/lib.rt:354:5
 returns : tie.Need-returns Inv-loop μ-loop
 unfolding cycleQueue
 returns c =

@@ -12,11 +12,6 @@ use Rattle.steps.specs.View.{entriesOf}
 use Rattle.steps.specs.declared.Queue.{Queue}
 use Rattle.steps.proofs.Queue.of_offs.Statement.{statement}
 use Rattle.steps.proofs.Queue.of_offs.Tie as tie
-use Rattle.steps.proofs.Queue.of_offs.Reads as reads
-use Rattle.steps.proofs.Queue.of_offs.Lts as lts
-use Rattle.steps.proofs.Queue.empty.Reads as empty-reads
-use Rattle.steps.proofs.Queue.push.Reads as push-reads
-use Rattle.steps.proofs.struck.Reads as struck-reads
 
 abbrev Inv-loop : tie.InvT-loop
 Inv-loop activation marks state q₀ i₀ q i = (entriesOf q ≡ iter i (offOne (at activation) marks state) []) × (q .n ≤ i) × (i ≤ 64)
@@ -24,47 +19,36 @@ Inv-loop activation marks state q₀ i₀ q i = (entriesOf q ≡ iter i (offOne 
 abbrev μ-loop : tie.MeasureT-loop
 μ-loop activation marks state q₀ i₀ q i = 64 - i
 
--- src/lib.rt:371:13
 empty-requires : tie.Need-empty-requires Inv-loop μ-loop
 empty-requires c κs = search needs
 
--- src/lib.rt:373:9
 loop-holds : tie.Need-loop-holds Inv-loop μ-loop
 loop-holds c = (c .empty .ensures .0 ∙ sym (iter-zero _ _), omega (arith, c .empty .ensures .1), search needs)
 
--- src/lib.rt:374:21
 add-t : tie.Need-add-t Inv-loop μ-loop
 add-t c = search needs
 
--- src/lib.rt:375:23
 element-copy-out-struck : tie.Need-element-copy-out-struck Inv-loop μ-loop
 element-copy-out-struck c = search needs
 
--- src/lib.rt:375:33
 element-copy-out-struck-2 : tie.Need-element-copy-out-struck-2 Inv-loop μ-loop
 element-copy-out-struck-2 c = search needs
 
--- src/lib.rt:375:16
 struck-requires : tie.Need-struck-requires Inv-loop μ-loop
 struck-requires c κs = search needs
 
--- src/lib.rt:376:25
 element-copy-out-f : tie.Need-element-copy-out-f Inv-loop μ-loop
 element-copy-out-f c = search needs
 
--- src/lib.rt:377:17
 push-requires : tie.Need-push-requires Inv-loop μ-loop
 push-requires c κs = omega (arith, c .before .before .before .before .before .before .loop .inv .1, c .before .before .before .before .before .before .loop .inv .2)
 
--- src/lib.rt:379:17
 add-i : tie.Need-add-i Inv-loop μ-loop
 add-i c = search needs
 
--- src/lib.rt:373:9
 loop-less : tie.Need-loop-less Inv-loop μ-loop
 loop-less c = search needs
 
--- src/lib.rt:373:9
 loop-again : tie.Need-loop-again Inv-loop μ-loop
 loop-again c =
     let d = c .before .before .before .before .before in
@@ -82,7 +66,6 @@ loop-again c =
       omega (arith, c .before .before .before .before .loop-test .taken),
     )
 
--- src/lib.rt:368:5
 returns : tie.Need-returns Inv-loop μ-loop
 unfolding offs
 returns c =

@@ -7,26 +7,19 @@ use Rattle.steps.specs.Queued.{entries-push}
 use borrow.Author.Needs.{needs}
 use Rattle.steps.proofs.Queue.push.Statement.{statement}
 use Rattle.steps.proofs.Queue.push.Tie as tie
-use Rattle.steps.proofs.Queue.push.Reads as reads
-use Rattle.steps.proofs.Queue.push.Lts as lts
 
--- src/lib.rt:344:13
 returns : tie.Need-returns
 returns c = record { is = ap (λ (f : ℕ). push f (c .before .args .v) (entriesOf (c .before .args .t1))) (sym (c .if1 .taken)); more = omega arith }
 
--- src/lib.rt:347:9
 element-write-self : tie.Need-element-write-self
 element-write-self c = search needs
 
--- src/lib.rt:348:9
 element-write-self-2 : tie.Need-element-write-self-2
 element-write-self-2 c = search needs
 
--- src/lib.rt:349:18
 add-self : tie.Need-add-self
 add-self c = search needs
 
--- src/lib.rt:339:5
 returns-2 : tie.Need-returns-2
 returns-2 c =
     let q = c .before .args .t1 in
