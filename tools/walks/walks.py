@@ -27,7 +27,7 @@ HERE = Path(__file__).parent
 
 # crate: the record, what a call by value returns with its two fields, the answer, and whether that is an enum
 CRATES = {
-    'lent': ('exec::Exec', 'exec::Step', 'exec', 'answer', 'exec::Answer', True),
+    'exec_lent': ('exec::Exec', 'exec::Step', 'exec', 'answer', 'exec::Answer', True),
     'host': ('exec::Exec', 'host::Coded', 'exec', 'reply', 'host::Reply', False),
 }
 

@@ -7,9 +7,9 @@ use Rattle.rig.specs.Rules.{noRow}
 
 pub record RowFits (b : Row) : Type 0 where
   pub sender : b .sender ≤ 31
-  pub senderSub : b .sendersub ≤ 31
+  pub senderSub : b .senderSub ≤ 31
   pub receiver : b .receiver ≤ 31
-  pub receiverSub : b .receiversub ≤ 31
+  pub receiverSub : b .receiverSub ≤ 31
   pub period : 0 < b .period
 
 pub record RowsFit (many : ℕ) (rows : List Row) : Type 0 where

@@ -10,9 +10,9 @@ abbrev pub rowOf : Row → R.Row
 rowOf b =
     record {
       sender = b .sender;
-      senderSub = b .sendersub;
+      senderSub = b .senderSub;
       receiver = b .receiver;
-      receiverSub = b .receiversub;
+      receiverSub = b .receiverSub;
       words = b .words;
       period = b .period;
       phase = b .phase;

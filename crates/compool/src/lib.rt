@@ -71,8 +71,8 @@ pub fn put_row(row: Row, master: u8, n: usize, out: &mut [u16]) -> usize
     requires { ⌜ RowFits row × (n + 2 ≤ length (now out)) ⌝ }
     ensures { λ r. ⌜ (r ≡ n + length (rowWords master (rowOf row))) × (now (out .exit) ≡ put (now (out .entry)) n (rowWords master (rowOf row))) ⌝ }
 {
-    let receive = command(row.receiver, 0, row.receiversub, row.words);
-    let transmit = command(row.sender, 1, row.sendersub, row.words);
+    let receive = command(row.receiver, 0, row.receiverSub, row.words);
+    let transmit = command(row.sender, 1, row.senderSub, row.words);
     if row.sender == master {
         out[n] = receive;
         return n + 1;

@@ -16,7 +16,7 @@ use Rattle.chains.specs.Held.{at, Held, Sized}
 use Rattle.chains.specs.Held as L
 use Rattle.chains.specs.Read.{chainsOf, sound-chains, read-once, inside, inside-low, inside-high, only-of}
 use Rattle.chains.specs.declared.Links.{Links}
-use Rattle.rings.specs.Order.{risingb, rising-sorted, sorted-rising}
+use Rattle.sound_chains.specs.Order.{risingb, rising-sorted, sorted-rising}
 use Rattle.rig.specs.Rules.{Right}
 use Rattle.rig.specs.declared.Cycle.{Cycle}
 use Rattle.rig.specs.declared.Rig.{Rig}
@@ -25,9 +25,9 @@ use Rattle.rules.specs.Running.{chosen}
 use Rattle.rules.specs.Calls.{lastCount}
 use Rattle.rules.specs.Ranks.{chosen-runs, runs-chosen}
 use Rattle.rules.specs.Soundness as R
-use Rattle.tests.specs.Tests.{withinB, emptyB, condsB, treeB, waitsB, flagsB}
-use Rattle.tests.specs.Exact.{within-facts, within-back, empty-facts, empty-back, conds-facts, conds-back, tree-facts, tree-back, waits-facts, waits-back, flags-facts, flags-back}
-use Rattle.state.specs.declared.State.{State}
+use Rattle.sound_tables.specs.Tests.{withinB, emptyB, condsB, treeB, waitsB, flagsB}
+use Rattle.sound_tables.specs.Exact.{within-facts, within-back, empty-facts, empty-back, conds-facts, conds-back, tree-facts, tree-back, waits-facts, waits-back, flags-facts, flags-back}
+use Rattle.exec_state.specs.declared.State.{State}
 use Rattle.exec.specs.Sound.{Sound}
 use Rattle.exec.specs.RightRig.{rig-ok}
 use Rattle.exec.specs.declared.Exec.{Exec}

@@ -15,8 +15,8 @@ use Rattle.rules.specs.Serving.{serve}
 use Rattle.rules.specs.Serve.{serve-nil}
 use Rattle.rules.specs.Running.{dispatch}
 use Rattle.rules.specs.Steps.{accepted-sound, dispatch-same}
-use Rattle.state.specs.View.{viewOf}
-use Rattle.state.specs.declared.State.{State}
+use Rattle.exec_state.specs.View.{viewOf}
+use Rattle.exec_state.specs.declared.State.{State}
 use Rattle.exec.specs.Sound.{rigIn, view, Sound}
 use Rattle.exec.specs.Call.{Follows, Meets, reportOf, refuse}
 use Rattle.exec.specs.RightRig.{rig-ok}

@@ -13,7 +13,7 @@ use Rattle.rig.specs.Rules.{at, Right, Ancestor, nearest, further}
 use Rattle.rig.specs.declared.Cycle.{Cycle}
 use Rattle.rig.specs.declared.Rig.{Rig}
 use Rattle.rules.specs.RigOk.{RigOk}
-use Rattle.state.specs.View.{rigOf}
+use Rattle.exec_state.specs.View.{rigOf}
 
 -- a bound on the entries that are there bounds them all
 pub bounded : (l : List ℕ) (n m : ℕ) → length l ≡ n → ((t : ℕ) → t < n → at l t ≤ m) → (t : ℕ) → at l t ≤ m

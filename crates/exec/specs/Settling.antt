@@ -25,11 +25,11 @@ use Rattle.rules.specs.Serve.{load}
 use Rattle.rules.specs.Good.{serve-running}
 use Rattle.rules.specs.Bound.{effect-load}
 use Rattle.rules.specs.Steps.{effect-ready}
-use Rattle.state.specs.View.{rigOf, viewOf, workOf}
-use Rattle.state.specs.Post.{Fits, Servable, Begins, Emptied, Dispatched}
-use Rattle.state.specs.declared.State.{State}
-use Rattle.state.specs.declared.Work.{Work}
-use Rattle.state.specs.declared.Done.{Done}
+use Rattle.exec_state.specs.View.{rigOf, viewOf, workOf}
+use Rattle.exec_state.specs.Post.{Fits, Servable, Begins, Emptied, Dispatched}
+use Rattle.exec_state.specs.declared.State.{State}
+use Rattle.exec_state.specs.declared.Work.{Work}
+use Rattle.exec_state.specs.declared.Done.{Done}
 use Rattle.exec.specs.Sound.{rigIn, view, Sound}
 use Rattle.exec.specs.Call.{Meets}
 use Rattle.exec.specs.RightRig.{rig-ok}
@@ -40,7 +40,7 @@ use Rattle.exec.specs.declared.Step.{Step}
 
 -- what is asked
 pub record Settles (g : Rig) (w : Work) : Type 0 where
-  pub begins : Begins (g .alines) (g .atask) (g .apos) (g .activation) (w .st) (w .queue)
+  pub begins : Begins (g .lines) (g .lineTask) (g .linePos) (g .activation) (w .st) (w .queue)
   pub low : w .st .running ≤ 64
 
 -- what is given, with whatever cycles stand beside the rig
@@ -73,7 +73,7 @@ settled-is g w d e s f =
 
 -- ---- what is asked holds of every accepted call
 
-pub fits : (g : Rig) (cycles : List Cycle) → Right g cycles → Fits (g .alines) (g .atask) (g .apos) (g .activation)
+pub fits : (g : Rig) (cycles : List Cycle) → Right g cycles → Fits (g .lines) (g .lineTask) (g .linePos) (g .activation)
 fits g cycles h =
     record {
       lines =

@@ -7,11 +7,11 @@ use native.Mathlib.Omega.{arith}
 use Rattle.rules.specs.State as S
 use Rattle.rules.specs.Serving.{push}
 use Rattle.rules.specs.Calls as R
-use Rattle.steps.specs.View.{entriesOf}
-use Rattle.steps.specs.Post.{Pushed}
-use Rattle.steps.specs.declared.Queue.{Queue}
-use Rattle.state.specs.View.{workOf}
-use Rattle.state.specs.Effects.{pushed-one}
+use Rattle.exec_tables.specs.View.{entriesOf}
+use Rattle.exec_tables.specs.Post.{Pushed}
+use Rattle.exec_tables.specs.declared.Queue.{Queue}
+use Rattle.exec_state.specs.View.{workOf}
+use Rattle.exec_state.specs.Effects.{pushed-one}
 use Rattle.exec.specs.Sound.{rigIn, view}
 use Rattle.exec.specs.Call.{bit}
 use Rattle.exec.specs.declared.Exec.{Exec}

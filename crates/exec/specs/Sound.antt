@@ -7,7 +7,7 @@ use Rattle.rig.specs.Rules.{Right}
 use Rattle.rules.specs.Rig.{Rig}
 use Rattle.rules.specs.State.{State}
 use Rattle.rules.specs.Soundness as Rules
-use Rattle.state.specs.View.{rigOf, viewOf}
+use Rattle.exec_state.specs.View.{rigOf, viewOf}
 use Rattle.exec.specs.declared.Exec.{Exec}
 
 -- what the rules see of a record: its rig, and its state with the chains as one reads them in its links

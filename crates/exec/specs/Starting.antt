@@ -18,11 +18,11 @@ use Rattle.rules.specs.Soundness as Rules
 use Rattle.rules.specs.Serve.{load}
 use Rattle.rules.specs.Bound.{scheduled-load}
 use Rattle.rules.specs.Steps.{started-ready, start-sound}
-use Rattle.state.specs.View.{rigOf, viewOf, workOf}
-use Rattle.state.specs.Post.{Servable, Blank, Scheduled}
-use Rattle.state.specs.declared.State.{State}
-use Rattle.state.specs.declared.Work.{Work}
-use Rattle.state.specs.declared.Done.{Done}
+use Rattle.exec_state.specs.View.{rigOf, viewOf, workOf}
+use Rattle.exec_state.specs.Post.{Servable, Blank, Scheduled}
+use Rattle.exec_state.specs.declared.State.{State}
+use Rattle.exec_state.specs.declared.Work.{Work}
+use Rattle.exec_state.specs.declared.Done.{Done}
 use Rattle.exec.specs.Sound.{view, Sound}
 use Rattle.exec.specs.Call.{Meets, refuse}
 use Rattle.exec.specs.Unique.{record-same}

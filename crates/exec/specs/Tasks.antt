@@ -13,9 +13,9 @@ use Rattle.rig.specs.declared.Rig.{Rig}
 use Rattle.rules.specs.State as S
 use Rattle.rules.specs.Calls as R
 use Rattle.rules.specs.Acceptance.{named-is}
-use Rattle.state.specs.View.{workOf}
-use Rattle.state.specs.Post.{CancelOk, Finished, Terminated, Cancelled, Scheduled}
-use Rattle.state.specs.declared.Work.{Work}
+use Rattle.exec_state.specs.View.{workOf}
+use Rattle.exec_state.specs.Post.{CancelOk, Finished, Terminated, Cancelled, Scheduled}
+use Rattle.exec_state.specs.declared.Work.{Work}
 use Rattle.exec.specs.Sound.{rigIn, view, Sound}
 use Rattle.exec.specs.RightRig.{bounded}
 use Rattle.exec.specs.Check.{placed}

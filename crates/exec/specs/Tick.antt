@@ -20,10 +20,10 @@ use Rattle.rules.specs.Acceptance.{passed}
 use Rattle.compool.specs.View.{rowsOf}
 use Rattle.compool.specs.Post.{RowsFit}
 use Rattle.compool.specs.Words.{row-short}
-use Rattle.state.specs.View.{workOf}
-use Rattle.state.specs.Post.{TickOk, Ticked}
-use Rattle.state.specs.declared.Work.{Work}
-use Rattle.state.specs.declared.Done.{Done}
+use Rattle.exec_state.specs.View.{workOf}
+use Rattle.exec_state.specs.Post.{TickOk, Ticked}
+use Rattle.exec_state.specs.declared.Work.{Work}
+use Rattle.exec_state.specs.declared.Done.{Done}
 use Rattle.exec.specs.Sound.{rigIn, view, Sound}
 use Rattle.exec.specs.Call.{Meets}
 use Rattle.exec.specs.Meeting.{accept, accepted}
@@ -40,9 +40,9 @@ rows-fit g cycles h =
           let s = h .rows k b in
           record {
             sender = s .sender;
-            senderSub = omega (arith, s .sendersub .1);
+            senderSub = omega (arith, s .senderSub .1);
             receiver = s .receiver;
-            receiverSub = omega (arith, s .receiversub .1);
+            receiverSub = omega (arith, s .receiverSub .1);
             period = omega (arith, s .phase);
           };
     }

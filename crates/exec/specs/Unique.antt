@@ -9,8 +9,8 @@ use Rattle.chains.specs.Read.{chainsOf, sound-chains}
 use Rattle.chains.specs.Unique.{held-same}
 use Rattle.rules.specs.State as S
 use Rattle.rules.specs.Calls as R
-use Rattle.state.specs.View.{viewOf}
-use Rattle.state.specs.declared.State.{State}
+use Rattle.exec_state.specs.View.{viewOf}
+use Rattle.exec_state.specs.declared.State.{State}
 use Rattle.exec.specs.Sound.{view, Sound}
 use Rattle.exec.specs.Call.{Follows, Meets, Proper, answerOf}
 use Rattle.exec.specs.declared.Exec.{Exec}

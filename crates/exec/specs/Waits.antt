@@ -17,11 +17,11 @@ use Rattle.rules.specs.Proper as P
 use Rattle.rules.specs.Waiting.{waitOn, waitUntilCount}
 use Rattle.rules.specs.Calls as R
 use Rattle.rules.specs.Acceptance.{flagged-is}
-use Rattle.steps.specs.View.{entriesOf}
-use Rattle.steps.specs.declared.Queue.{Queue}
-use Rattle.state.specs.View.{viewOf, workOf}
-use Rattle.state.specs.Post.{MayWait, FlagOk}
-use Rattle.state.specs.declared.State.{State}
+use Rattle.exec_tables.specs.View.{entriesOf}
+use Rattle.exec_tables.specs.declared.Queue.{Queue}
+use Rattle.exec_state.specs.View.{viewOf, workOf}
+use Rattle.exec_state.specs.Post.{MayWait, FlagOk}
+use Rattle.exec_state.specs.declared.State.{State}
 use Rattle.exec.specs.Sound.{rigIn, view, Sound}
 use Rattle.exec.specs.Call.{bit}
 use Rattle.exec.specs.Check.{running-low, named}

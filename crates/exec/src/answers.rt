@@ -3,10 +3,10 @@ use crate::Answer;
 use crate::Exec;
 use crate::Report;
 use crate::Step;
+use exec_state::Done;
+use exec_state::State;
+use exec_state::Work;
 use rig::Rig;
-use state::Done;
-use state::State;
-use state::Work;
 ghost use mathlib.Core.Path.{_≡_};
 ghost use Rattle.exec.specs.Call.{bit, refuse};
 ghost use Rattle.exec.specs.Meeting.{accept};
@@ -75,16 +75,16 @@ pub(crate) fn settled(w: Work, rig: Rig) -> Done
 {
     let st = w.st;
     let queue = w.queue;
-    let d = state::serve(
+    let d = exec_state::serve(
         st,
         queue,
-        rig.alines as usize,
+        rig.lines as usize,
         &rig.present,
         &rig.latched,
         &rig.desired,
-        &rig.atask,
-        &rig.apos,
-        &rig.aflag,
+        &rig.lineTask,
+        &rig.linePos,
+        &rig.lineFlag,
         &rig.activation,
     );
     let served = d.served;

@@ -10,9 +10,9 @@ mod tick;
 mod waits;
 
 use chains::Links;
+use exec_state::State;
 use rig::Cycle;
 use rig::Rig;
-use state::State;
 ghost use mathlib.Core.Path.{_≡_};
 ghost use Rattle.exec.specs.Starting.{noExec, Starts};
 

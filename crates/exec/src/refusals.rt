@@ -56,11 +56,11 @@ impl Exec {
         if self.st.running == 0 {
             return 5;
         }
-        if tests::no_such(self.rig.flags as usize, flag as usize) {
+        if sound_tables::no_such(self.rig.flags as usize, flag as usize) {
             return 6;
         }
         let cycles = self.cycles;
-        if steps::is_minor(cycles, flag as u8) {
+        if exec_tables::is_minor(cycles, flag as u8) {
             return 7;
         }
         0
@@ -75,7 +75,7 @@ impl Exec {
             return n;
         }
         let rig = self.rig;
-        if steps::is_activation(&rig.activation, flag as u8) {
+        if exec_tables::is_activation(&rig.activation, flag as u8) {
             return 7;
         }
         0
@@ -91,7 +91,7 @@ impl Exec {
         if self.st.running == 0 {
             return 5;
         }
-        if tests::no_such(self.rig.tasks as usize, task as usize) {
+        if sound_tables::no_such(self.rig.tasks as usize, task as usize) {
             return 6;
         }
         let rig = self.rig;
@@ -131,7 +131,7 @@ impl Exec {
             return 5;
         }
         let many = self.rig.rows as usize;
-        if tests::no_such(many, k as usize) {
+        if sound_tables::no_such(many, k as usize) {
             return 6;
         }
         let rows = self.rig.row;

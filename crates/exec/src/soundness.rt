@@ -6,7 +6,7 @@ ghost use mathlib.Core.Logic.{_↔_};
 ghost use Prim.Native.Nat.{_≤_};
 ghost use Rattle.laws.specs.All.{allOf};
 ghost use Rattle.chains.specs.Held.{Sized};
-ghost use Rattle.rings.specs.Post.{linksOf};
+ghost use Rattle.sound_chains.specs.Post.{linksOf};
 ghost use Rattle.exec.specs.Sound.{Sound};
 ghost use Rattle.exec.specs.Check.{Placed, tableTestsOf, ChainsSound};
 
@@ -40,31 +40,31 @@ fn tables_ok<'a>(
     if 2147483647 < count {
         return false;
     }
-    if !tests::within(state, many, 3) {
+    if !sound_tables::within(state, many, 3) {
         return false;
     }
-    if !tests::tree(controller, state, many) {
+    if !sound_tables::tree(controller, state, many) {
         return false;
     }
-    if !tests::within(value, top, 1) {
+    if !sound_tables::within(value, top, 1) {
         return false;
     }
-    if !tests::conds(present, cond) {
+    if !sound_tables::conds(present, cond) {
         return false;
     }
-    if !tests::empty(wake, many) {
+    if !sound_tables::empty(wake, many) {
         return false;
     }
-    if !tests::flags(activation, state, value, many) {
+    if !sound_tables::flags(activation, state, value, many) {
         return false;
     }
-    if !tests::waits(state, on) {
+    if !sound_tables::waits(state, on) {
         return false;
     }
     if 64 < n {
         return false;
     }
-    n == steps::chosen(privileged, priority, state, n)
+    n == exec_tables::chosen(privileged, priority, state, n)
 }
 
 // The links hold chains, and the time chain is in order of waking count, all above the count.
@@ -79,10 +79,10 @@ fn chains_ok<'a>(
     requires { ⌜ Sized (linksOf (now next) (now prev) (now on)) ⌝ }
     ensures { λ r. ⌜ (r ≡ true) ↔ ChainsSound count (now (wake .entry)) (linksOf (now (next .entry)) (now (prev .entry)) (now (on .entry))) ⌝ }
 {
-    if !rings::sound(next, prev, on) {
+    if !sound_chains::sound(next, prev, on) {
         return false;
     }
-    rings::in_order(next, prev, on, wake, 65, count + 1)
+    sound_chains::in_order(next, prev, on, wake, 65, count + 1)
 }
 
 impl Exec {
@@ -98,7 +98,7 @@ impl Exec {
             rig.tasks,
             rig.flags,
             rig.master,
-            rig.alines,
+            rig.lines,
             rig.rows,
             &rig.controller,
             &rig.priority,
@@ -107,9 +107,9 @@ impl Exec {
             &rig.present,
             &rig.latched,
             &rig.desired,
-            &rig.atask,
-            &rig.apos,
-            &rig.aflag,
+            &rig.lineTask,
+            &rig.linePos,
+            &rig.lineFlag,
             row,
             cycles,
         )

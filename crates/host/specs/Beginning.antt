@@ -7,8 +7,8 @@ use Rattle.rig.specs.declared.Cycle.{Cycle}
 use Rattle.rig.specs.declared.Rig.{Rig}
 use Rattle.rig.specs.Rules.{Right}
 use Rattle.rig.specs.Forms.{cyclesOf, tableOf, cycles-of-table}
-use Rattle.rigbuild.specs.declared.Answer.{Answer}
-use Rattle.rigbuild.specs.Read.{readOf}
+use Rattle.rig_build.specs.declared.Answer.{Answer}
+use Rattle.rig_build.specs.Read.{readOf}
 use Rattle.exec.specs.Starting.{Started, Starts}
 use Rattle.exec.specs.declared.Step.{Step}
 use Rattle.host.specs.Told.{coded, refusedFile, Begins, BeginsFrom}

@@ -16,12 +16,12 @@ use Rattle.rig.specs.Rules.{Right}
 use Rattle.rig.specs.Forms.{cyclesOf}
 use Rattle.rig.specs.Tests.{firstBroken}
 use Rattle.rig.specs.Whole.{broken-none}
-use Rattle.rigrows.specs.Line.{lineOf, placed, judge}
-use Rattle.rigrows.specs.File.{Fault, fault, firstFault, faultOf, linesOf}
-use Rattle.rigbuild.specs.declared.Answer.{Answer}
-use Rattle.rigbuild.specs.Built.{Built, nothing, build}
-use Rattle.rigbuild.specs.Read.{lineTests, behind, brokenRule, readOf}
-use Rattle.rigbuild.specs.Exactly.{Way, long, line, whole, right, way, too-long, faulty, whole-broken, all-right, number-none}
+use Rattle.rig_lines.specs.Line.{lineOf, placed, judge}
+use Rattle.rig_lines.specs.File.{Fault, fault, firstFault, faultOf, linesOf}
+use Rattle.rig_build.specs.declared.Answer.{Answer}
+use Rattle.rig_build.specs.Built.{Built, nothing, build}
+use Rattle.rig_build.specs.Read.{lineTests, behind, brokenRule, readOf}
+use Rattle.rig_build.specs.Exactly.{Way, long, line, whole, right, way, too-long, faulty, whole-broken, all-right, number-none}
 
 -- ---- an accepted file's rig is right
 

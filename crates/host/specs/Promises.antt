@@ -5,7 +5,7 @@ use mathlib.Core.List.{List}
 use Prim.Native.Nat.{ℕ, zero, suc}
 use Rattle.rules.specs.Calls as R
 use Rattle.rules.specs.Refusals.{code-is}
-use Rattle.rigbuild.specs.Read.{readOf}
+use Rattle.rig_build.specs.Read.{readOf}
 use Rattle.exec.specs.Sound.{rigIn, view, Sound}
 use Rattle.exec.specs.Call.{Meets, answerOf, refuse}
 use Rattle.exec.specs.Starting.{noExec, zeros-refused}

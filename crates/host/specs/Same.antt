@@ -8,7 +8,7 @@ use Rattle.rig.specs.declared.Rig.{Rig}
 use Rattle.rig.specs.Rules.{Right}
 use Rattle.rig.specs.Forms.{cyclesOf, tableOf, cycles-of-table}
 use Rattle.rules.specs.Calls as R
-use Rattle.rigbuild.specs.Read.{readOf}
+use Rattle.rig_build.specs.Read.{readOf}
 use Rattle.exec.specs.Unique.{meets-same}
 use Rattle.exec.specs.Starting.{Started, Starts, starts-same}
 use Rattle.exec.specs.declared.Exec.{Exec}

@@ -23,7 +23,7 @@ fn refused(number: u32, line: u32) -> Coded
 pub(crate) fn start(file: &[u8]) -> Coded
     ensures { λ r. ⌜ BeginsFrom (now (file .entry)) r ⌝ }
 {
-    let a = rigfile::read(file);
+    let a = rig_read::read(file);
     if a.no != 0 {
         return refused(a.no as u32, a.line as u32);
     }

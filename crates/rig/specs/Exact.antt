@@ -12,8 +12,8 @@ use Rattle.laws.specs.Cases.{by}
 use Rattle.laws.specs.Members.{In, in-at, at-in}
 use Rattle.laws.specs.All.{allOf, allOf-at, allOf-cons, allOf-nil}
 use Rattle.laws.specs.Decides.{Is, is-eqb, is-leb, is-ltb, is-and, is-not, is-else, is-then, is-if, is-all, is-any, is-said}
-use Rattle.rigtests.specs.Tests.{within, smallB, conditionsB, linesRiseB, cycleRises, conditionTasksB, linesB, cycleSmall, servesOneB, notMinorB, namedB, usedB, minorConditionsB, taskZerosB, lineZerosB, risesTest}
-use Rattle.rigtests.specs.Laws.{serves-is}
+use Rattle.rig_tables.specs.Tests.{within, smallB, conditionsB, linesRiseB, cycleRises, conditionTasksB, linesB, cycleSmall, servesOneB, notMinorB, namedB, usedB, minorConditionsB, taskZerosB, lineZerosB, risesTest}
+use Rattle.rig_tables.specs.Laws.{serves-is}
 use Rattle.rig.specs.declared.Row.{Row}
 use Rattle.rig.specs.declared.Cycle.{Cycle}
 use Rattle.rig.specs.declared.Rig.{Rig}
@@ -43,18 +43,18 @@ sizes-is b = (
       let k = allOf-at (rowTests b) e in
       record {
         sender = leb-true (b .sender) 31 (k 0);
-        sendersub = within-is 1 (b .sendersub) 30 .0 (k 1);
+        senderSub = within-is 1 (b .senderSub) 30 .0 (k 1);
         receiver = leb-true (b .receiver) 31 (k 2);
-        receiversub = within-is 1 (b .receiversub) 30 .0 (k 3);
+        receiverSub = within-is 1 (b .receiverSub) 30 .0 (k 3);
         words = within-is 1 (b .words) 32 .0 (k 4);
         period = listed-is (b .period) .0 (k 5);
         phase = ltb-true (b .phase) (b .period) (k 6);
       }),
   (λ r.
       allOf-cons _ _ (le-leb (b .sender) 31 (r .sender))
-      (allOf-cons _ _ (within-is 1 (b .sendersub) 30 .1 (r .sendersub))
+      (allOf-cons _ _ (within-is 1 (b .senderSub) 30 .1 (r .senderSub))
       (allOf-cons _ _ (le-leb (b .receiver) 31 (r .receiver))
-      (allOf-cons _ _ (within-is 1 (b .receiversub) 30 .1 (r .receiversub))
+      (allOf-cons _ _ (within-is 1 (b .receiverSub) 30 .1 (r .receiverSub))
       (allOf-cons _ _ (within-is 1 (b .words) 32 .1 (r .words))
       (allOf-cons _ _ (listed-is (b .period) .1 (r .period))
       (allOf-cons _ _ (lt-ltb (b .phase) (b .period) (r .phase)) allOf-nil))))))),
@@ -65,23 +65,23 @@ unfolding rowZero rowZeros
 row-zero-is b = (
   (λ e.
       let k = allOf-at (rowZeros b) e in
-      same b (eqb-true (b .sender) 0 (k 0)) (eqb-true (b .sendersub) 0 (k 1)) (eqb-true (b .receiver) 0 (k 2)) (eqb-true (b .receiversub) 0 (k 3))
+      same b (eqb-true (b .sender) 0 (k 0)) (eqb-true (b .senderSub) 0 (k 1)) (eqb-true (b .receiver) 0 (k 2)) (eqb-true (b .receiverSub) 0 (k 3))
       (eqb-true (b .words) 0 (k 4)) (eqb-true (b .period) 0 (k 5)) (eqb-true (b .phase) 0 (k 6))),
   (λ e.
       allOf-cons _ _ (eq-eqb (b .sender) 0 (ap (λ (x : Row). x .sender) e))
-      (allOf-cons _ _ (eq-eqb (b .sendersub) 0 (ap (λ (x : Row). x .sendersub) e))
+      (allOf-cons _ _ (eq-eqb (b .senderSub) 0 (ap (λ (x : Row). x .senderSub) e))
       (allOf-cons _ _ (eq-eqb (b .receiver) 0 (ap (λ (x : Row). x .receiver) e))
-      (allOf-cons _ _ (eq-eqb (b .receiversub) 0 (ap (λ (x : Row). x .receiversub) e))
+      (allOf-cons _ _ (eq-eqb (b .receiverSub) 0 (ap (λ (x : Row). x .receiverSub) e))
       (allOf-cons _ _ (eq-eqb (b .words) 0 (ap (λ (x : Row). x .words) e))
       (allOf-cons _ _ (eq-eqb (b .period) 0 (ap (λ (x : Row). x .period) e))
       (allOf-cons _ _ (eq-eqb (b .phase) 0 (ap (λ (x : Row). x .phase) e)) allOf-nil))))))),
 )
   where
-    same : (b : Row) → b .sender ≡ 0 → b .sendersub ≡ 0 → b .receiver ≡ 0 → b .receiversub ≡ 0 → b .words ≡ 0 → b .period ≡ 0 → b .phase ≡ 0 → b ≡ noRow
+    same : (b : Row) → b .sender ≡ 0 → b .senderSub ≡ 0 → b .receiver ≡ 0 → b .receiverSub ≡ 0 → b .words ≡ 0 → b .period ≡ 0 → b .phase ≡ 0 → b ≡ noRow
     same b p q r s t u v =
         ap
         (λ (x : ℕ).
-        record { sender = x; sendersub = b .sendersub; receiver = b .receiver; receiversub = b .receiversub; words = b .words; period = b .period; phase = b .phase })
+        record { sender = x; senderSub = b .senderSub; receiver = b .receiver; receiverSub = b .receiverSub; words = b .words; period = b .period; phase = b .phase })
         p
         ∙ rw (q, r, s, t, u, v)
 
@@ -129,12 +129,12 @@ module _ (g : Rig) (cycles : List Cycle) where
   unfolding rowsB
   rows-is = is-and (is-eqb (length (g .row)) 64) (is-all (g .rows) (λ k h. sizes-is (rowAt g k)))
 
-  pub line-order-is : Is (linesRiseB (g .alines) (g .atask) (g .apos) (g .aflag)) (LineOrder g)
+  pub line-order-is : Is (linesRiseB (g .lines) (g .lineTask) (g .linePos) (g .lineFlag)) (LineOrder g)
   unfolding linesRiseB
   line-order-is =
       is-said
-      (is-all (g .alines - 1) (λ k h.
-      rises-is (at (g .atask) k) (at (g .apos) k) (at (g .aflag) k) (at (g .atask) (k + 1)) (at (g .apos) (k + 1)) (at (g .aflag) (k + 1))))
+      (is-all (g .lines - 1) (λ k h.
+      rises-is (at (g .lineTask) k) (at (g .linePos) k) (at (g .lineFlag) k) (at (g .lineTask) (k + 1)) (at (g .linePos) (k + 1)) (at (g .lineFlag) (k + 1))))
       (λ f k h. f k (omega arith))
       (λ f k h. f k (omega arith))
 
@@ -151,13 +151,13 @@ module _ (g : Rig) (cycles : List Cycle) where
   unfolding conditionTasksB
   condition-numbers-is = is-all 1040 (λ p h. is-else (is-eqb (at (g .present) p) 0) (is-and (is-leb 16 p) (is-ltb p (16 * (g .tasks + 1)))))
 
-  pub lines-is : Is (linesB (g .alines) (g .tasks) (g .flags) (g .atask) (g .apos) (g .aflag)) (Lines g)
+  pub lines-is : Is (linesB (g .lines) (g .tasks) (g .flags) (g .lineTask) (g .linePos) (g .lineFlag)) (Lines g)
   unfolding linesB
   lines-is =
-      is-all (g .alines) (λ k h.
+      is-all (g .lines) (λ k h.
       is-said
-      (is-and (within-is 1 (at (g .atask) k) (g .tasks))
-      (is-and (is-leb (at (g .apos) k) 15) (within-is 1 (at (g .aflag) k) (g .flags))))
+      (is-and (within-is 1 (at (g .lineTask) k) (g .tasks))
+      (is-and (is-leb (at (g .linePos) k) 15) (within-is 1 (at (g .lineFlag) k) (g .flags))))
       (λ w. record { task = w .0; position = w .1 .0; flag = w .1 .1 })
       (λ r. (r .task, (r .position, r .flag))))
 
@@ -175,22 +175,22 @@ module _ (g : Rig) (cycles : List Cycle) where
   unfolding notMinorB
   not-minor-is = is-all 65 (λ t h. is-not (minor-is cycles (at (g .activation) t)))
 
-  pub line-has-condition-is : Is (namedB (g .alines) (g .present) (g .atask) (g .apos)) (LineHasCondition g)
+  pub line-has-condition-is : Is (namedB (g .lines) (g .present) (g .lineTask) (g .linePos)) (LineHasCondition g)
   unfolding namedB
-  line-has-condition-is = is-all (g .alines) (λ k h. is-eqb (at (g .present) (linePlace g k)) 1)
+  line-has-condition-is = is-all (g .lines) (λ k h. is-eqb (at (g .present) (linePlace g k)) 1)
 
-  pub condition-has-line-is : Is (usedB (g .alines) (g .present) (g .atask) (g .apos)) (ConditionHasLine g)
+  pub condition-has-line-is : Is (usedB (g .lines) (g .present) (g .lineTask) (g .linePos)) (ConditionHasLine g)
   unfolding usedB
   condition-has-line-is =
-      is-all 1040 (λ p h. is-else (is-eqb (at (g .present) p) 0) (is-any (g .alines) (λ k b. is-eqb (linePlace g k) p)))
+      is-all 1040 (λ p h. is-else (is-eqb (at (g .present) p) 0) (is-any (g .lines) (λ k b. is-eqb (linePlace g k) p)))
 
-  pub minor-conditions-is : Is (minorConditionsB (g .alines) (g .latched) (g .desired) (g .atask) (g .apos) (g .aflag) (minorB cycles)) (MinorConditions g cycles)
+  pub minor-conditions-is : Is (minorConditionsB (g .lines) (g .latched) (g .desired) (g .lineTask) (g .linePos) (g .lineFlag) (minorB cycles)) (MinorConditions g cycles)
   unfolding minorConditionsB
   minor-conditions-is =
-      is-all (g .alines) (λ k h.
-      is-then (minor-is cycles (at (g .aflag) k))
+      is-all (g .lines) (λ k h.
+      is-then (minor-is cycles (at (g .lineFlag) k))
       (is-said
-      (is-and (is-all (g .alines) (λ j b. is-then (is-eqb (linePlace g j) (linePlace g k)) (is-eqb j k)))
+      (is-and (is-all (g .lines) (λ j b. is-then (is-eqb (linePlace g j) (linePlace g k)) (is-eqb j k)))
       (is-and (is-eqb (at (g .latched) (linePlace g k)) 0) (is-eqb (at (g .desired) (linePlace g k)) 1)))
       (λ w. record { alone = w .0; unlatched = w .1 .0; desires = w .1 .1 })
       (λ r. (r .alone, (r .unlatched, r .desires)))))
@@ -210,13 +210,13 @@ module _ (g : Rig) (cycles : List Cycle) where
       (λ w. record { controller = w .0; priority = w .1 .0; privileged = w .1 .1 .0; activation = w .1 .1 .1 })
       (λ r. (r .controller, (r .priority, (r .privileged, r .activation))))))
 
-  pub line-zeros-is : Is (lineZerosB (g .alines) (g .atask) (g .apos) (g .aflag)) (LineZeros g)
+  pub line-zeros-is : Is (lineZerosB (g .lines) (g .lineTask) (g .linePos) (g .lineFlag)) (LineZeros g)
   unfolding lineZerosB
   line-zeros-is =
       is-all 1024 (λ k h.
       is-said
-      (is-else (is-ltb k (g .alines))
-      (is-and (is-eqb (at (g .atask) k) 0) (is-and (is-eqb (at (g .apos) k) 0) (is-eqb (at (g .aflag) k) 0))))
+      (is-else (is-ltb k (g .lines))
+      (is-and (is-eqb (at (g .lineTask) k) 0) (is-and (is-eqb (at (g .linePos) k) 0) (is-eqb (at (g .lineFlag) k) 0))))
       (λ f b. let w = f (λ y. omega arith) in record { task = w .0; position = w .1 .0; flag = w .1 .1 })
       (λ f n. let r = f (omega (arith, n)) in (r .task, (r .position, r .flag))))
 

@@ -24,12 +24,12 @@ tableOf cycles = map flagsOf cycles
 
 -- the rig that has these numbers and tables
 abbrev pub rigOf : ℕ → ℕ → ℕ → ℕ → ℕ → List ℕ → List ℕ → List ℕ → List ℕ → List ℕ → List ℕ → List ℕ → List ℕ → List ℕ → List ℕ → List Row → Rig
-rigOf tasks flags master alines rows controller priority privileged activation present latched desired atask apos aflag row =
+rigOf tasks flags master lines rows controller priority privileged activation present latched desired lineTask linePos lineFlag row =
     record {
       tasks = tasks;
       flags = flags;
       master = master;
-      alines = alines;
+      lines = lines;
       rows = rows;
       controller = controller;
       priority = priority;
@@ -38,9 +38,9 @@ rigOf tasks flags master alines rows controller priority privileged activation p
       present = present;
       latched = latched;
       desired = desired;
-      atask = atask;
-      apos = apos;
-      aflag = aflag;
+      lineTask = lineTask;
+      linePos = linePos;
+      lineFlag = lineFlag;
       row = row;
     }
 
@@ -51,7 +51,7 @@ noRig =
       tasks = 0;
       flags = 0;
       master = 0;
-      alines = 0;
+      lines = 0;
       rows = 0;
       controller = replicate 65 0;
       priority = replicate 65 0;
@@ -60,9 +60,9 @@ noRig =
       present = replicate 1040 0;
       latched = replicate 1040 0;
       desired = replicate 1040 0;
-      atask = replicate 1024 0;
-      apos = replicate 1024 0;
-      aflag = replicate 1024 0;
+      lineTask = replicate 1024 0;
+      linePos = replicate 1024 0;
+      lineFlag = replicate 1024 0;
       row = replicate 64 noRow;
     }
 

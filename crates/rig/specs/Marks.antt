@@ -15,8 +15,8 @@ use Rattle.laws.specs.All.{all, all-at, all-all, all-same, and-right}
 use Rattle.laws.specs.Tables.{set-zero, zeros}
 use Rattle.laws.specs.Decides.{Is, is-eqb, is-and, is-not, is-any, is-said, is-same}
 use Rattle.laws.specs.Owners.{marked-by, marks-it, marks-length}
-use Rattle.rigtests.specs.Tests.{cycleRises, inCycle, notMinorOne, notMinorB, minorConditionOne, minorConditionTest, minorConditionsB, onlyOne, placeOf}
-use Rattle.rigtests.specs.Tables.{marked}
+use Rattle.rig_tables.specs.Tests.{cycleRises, inCycle, notMinorOne, notMinorB, minorConditionOne, minorConditionTest, minorConditionsB, onlyOne, placeOf}
+use Rattle.rig_tables.specs.Tables.{marked}
 use Rattle.rig.specs.declared.Row.{Row}
 use Rattle.rig.specs.declared.Cycle.{Cycle}
 use Rattle.rig.specs.Rules.{at, noRow, noCycle, flagAt, Minor}
@@ -90,13 +90,13 @@ not-minor-law activation cycles small =
     all-same 65 (notMinorOne activation (marked (minorMarks cycles))) (notMinorOne activation (minorB cycles))
     (λ t h. ap not (marks-law cycles (at activation t) (small t h)))
 
-pub minor-conditions-law : (n : ℕ) (latched desired atask apos aflag : List ℕ) (cycles : List Cycle) → ((k : ℕ) → k < n → at aflag k ≤ 128)
-    → minorConditionsB n latched desired atask apos aflag (marked (minorMarks cycles)) ≡ minorConditionsB n latched desired atask apos aflag (minorB cycles)
+pub minor-conditions-law : (n : ℕ) (latched desired lineTask linePos lineFlag : List ℕ) (cycles : List Cycle) → ((k : ℕ) → k < n → at lineFlag k ≤ 128)
+    → minorConditionsB n latched desired lineTask linePos lineFlag (marked (minorMarks cycles)) ≡ minorConditionsB n latched desired lineTask linePos lineFlag (minorB cycles)
 unfolding minorConditionsB
-minor-conditions-law n latched desired atask apos aflag cycles small =
-    all-same n (minorConditionOne n latched desired atask apos aflag (marked (minorMarks cycles)))
-    (minorConditionOne n latched desired atask apos aflag (minorB cycles))
+minor-conditions-law n latched desired lineTask linePos lineFlag cycles small =
+    all-same n (minorConditionOne n latched desired lineTask linePos lineFlag (marked (minorMarks cycles)))
+    (minorConditionOne n latched desired lineTask linePos lineFlag (minorB cycles))
     (λ k h.
     ap
-    (λ (b : Bool). minorConditionTest b (all n (onlyOne atask apos k)) (at latched (placeOf atask apos k)) (at desired (placeOf atask apos k)))
-    (marks-law cycles (at aflag k) (small k h)))
+    (λ (b : Bool). minorConditionTest b (all n (onlyOne lineTask linePos k)) (at latched (placeOf lineTask linePos k)) (at desired (placeOf lineTask linePos k)))
+    (marks-law cycles (at lineFlag k) (small k h)))

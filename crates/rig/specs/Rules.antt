@@ -6,13 +6,13 @@ use mathlib.Core.List.{List, [], _∷_}
 use Prim.Native.Nat.{ℕ, _+_, _-_, _*_, _≤_, _<_}
 use lib.ListN.{length, getD}
 use Rattle.laws.specs.Members.{In}
-pub use Rattle.rigtests.specs.Tests.{at, place}
+pub use Rattle.rig_tables.specs.Tests.{at, place}
 use Rattle.rig.specs.declared.Row.{Row}
 use Rattle.rig.specs.declared.Cycle.{Cycle}
 use Rattle.rig.specs.declared.Rig.{Rig}
 
 abbrev pub noRow : Row
-noRow = record { sender = 0; sendersub = 0; receiver = 0; receiversub = 0; words = 0; period = 0; phase = 0 }
+noRow = record { sender = 0; senderSub = 0; receiver = 0; receiverSub = 0; words = 0; period = 0; phase = 0 }
 
 abbrev pub noCycle : Cycle
 noCycle = record { flags = [] }
@@ -27,7 +27,7 @@ rowAt g k = getD (g .row) k noRow
 
 -- the condition that A line k names
 abbrev pub linePlace : Rig → ℕ → ℕ
-linePlace g k = place (at (g .atask) k) (at (g .apos) k)
+linePlace g k = place (at (g .lineTask) k) (at (g .linePos) k)
 
 -- the numbers of the rig's tasks, and of its flags
 abbrev pub Task : Rig → ℕ → Type 0
@@ -53,7 +53,7 @@ abbrev pub MasterAddress : Rig → Type 0
 MasterAddress g = g .master ≤ 31
 
 abbrev pub LineCount : Rig → Type 0
-LineCount g = g .alines ≤ 1024
+LineCount g = g .lines ≤ 1024
 
 abbrev pub RowCount : Rig → Type 0
 RowCount g = g .rows ≤ 64
@@ -82,9 +82,9 @@ periods = 1 ∷ 2 ∷ 4 ∷ 8 ∷ 16 ∷ 32 ∷ 64 ∷ []
 
 pub record RowSizes (b : Row) : Type 0 where
   pub sender : b .sender ≤ 31
-  pub sendersub : (1 ≤ b .sendersub) × (b .sendersub ≤ 30)
+  pub senderSub : (1 ≤ b .senderSub) × (b .senderSub ≤ 30)
   pub receiver : b .receiver ≤ 31
-  pub receiversub : (1 ≤ b .receiversub) × (b .receiversub ≤ 30)
+  pub receiverSub : (1 ≤ b .receiverSub) × (b .receiverSub ≤ 30)
   pub words : (1 ≤ b .words) × (b .words ≤ 32)
   pub period : In (b .period) periods
   pub phase : b .phase < b .period
@@ -101,8 +101,8 @@ Rises t p f u q h = (t < u) ⊎ ((t ≡ u) × ((p < q) ⊎ ((p ≡ q) × (f < h)
 abbrev pub LineOrder : Rig → Type 0
 LineOrder g =
     (k : ℕ) →
-    k + 1 < g .alines →
-    Rises (at (g .atask) k) (at (g .apos) k) (at (g .aflag) k) (at (g .atask) (k + 1)) (at (g .apos) (k + 1)) (at (g .aflag) (k + 1))
+    k + 1 < g .lines →
+    Rises (at (g .lineTask) k) (at (g .linePos) k) (at (g .lineFlag) k) (at (g .lineTask) (k + 1)) (at (g .linePos) (k + 1)) (at (g .lineFlag) (k + 1))
 
 -- within a cycle: a flag that is not the first stands behind a lower one, so that nothing stands behind the last
 abbrev pub CycleOrder : List Cycle → Type 0
@@ -121,12 +121,12 @@ abbrev pub ConditionNumbers : Rig → Type 0
 ConditionNumbers g = (p : ℕ) → p < 1040 → at (g .present) p ≢ 0 → (16 ≤ p) × (p < 16 * (g .tasks + 1))
 
 pub record LineNumbers (g : Rig) (k : ℕ) : Type 0 where
-  pub task : Task g (at (g .atask) k)
-  pub position : at (g .apos) k ≤ 15
-  pub flag : Flag g (at (g .aflag) k)
+  pub task : Task g (at (g .lineTask) k)
+  pub position : at (g .linePos) k ≤ 15
+  pub flag : Flag g (at (g .lineFlag) k)
 
 abbrev pub Lines : Rig → Type 0
-Lines g = (k : ℕ) → k < g .alines → LineNumbers g k
+Lines g = (k : ℕ) → k < g .lines → LineNumbers g k
 
 abbrev pub CycleNumbers : Rig → List Cycle → Type 0
 CycleNumbers g cycles = (c : ℕ) → c < 64 → (i : ℕ) → i < 15 → flagAt cycles c i ≤ g .flags
@@ -152,20 +152,20 @@ ActivationNotMinor g cycles = (t : ℕ) → t < 65 → Minor cycles (at (g .acti
 
 -- "Each A names a condition with a C line"
 abbrev pub LineHasCondition : Rig → Type 0
-LineHasCondition g = (k : ℕ) → k < g .alines → at (g .present) (linePlace g k) ≡ 1
+LineHasCondition g = (k : ℕ) → k < g .lines → at (g .present) (linePlace g k) ≡ 1
 
 -- "each condition has at least one A"
 abbrev pub ConditionHasLine : Rig → Type 0
-ConditionHasLine g = (p : ℕ) → p < 1040 → at (g .present) p ≢ 0 → (k : ℕ) × (k < g .alines) × (linePlace g k ≡ p)
+ConditionHasLine g = (p : ℕ) → p < 1040 → at (g .present) p ≢ 0 → (k : ℕ) × (k < g .lines) × (linePlace g k ≡ p)
 
 -- "A condition with a minor-cycle flag has no other flag, is unlatched and desires on"
 pub record MinorCondition (g : Rig) (k : ℕ) : Type 0 where
-  pub alone : (j : ℕ) → j < g .alines → linePlace g j ≡ linePlace g k → j ≡ k
+  pub alone : (j : ℕ) → j < g .lines → linePlace g j ≡ linePlace g k → j ≡ k
   pub unlatched : at (g .latched) (linePlace g k) ≡ 0
   pub desires : at (g .desired) (linePlace g k) ≡ 1
 
 abbrev pub MinorConditions : Rig → List Cycle → Type 0
-MinorConditions g cycles = (k : ℕ) → k < g .alines → Minor cycles (at (g .aflag) k) → MinorCondition g k
+MinorConditions g cycles = (k : ℕ) → k < g .lines → Minor cycles (at (g .lineFlag) k) → MinorCondition g k
 
 -- "Sender and receiver differ."
 abbrev pub SenderDiffers : Rig → Type 0
@@ -183,12 +183,12 @@ abbrev pub TaskZeros : Rig → Type 0
 TaskZeros g = (t : ℕ) → t < 65 → (Task g t → ⊥) → NoTask g t
 
 pub record NoLine (g : Rig) (k : ℕ) : Type 0 where
-  pub task : at (g .atask) k ≡ 0
-  pub position : at (g .apos) k ≡ 0
-  pub flag : at (g .aflag) k ≡ 0
+  pub task : at (g .lineTask) k ≡ 0
+  pub position : at (g .linePos) k ≡ 0
+  pub flag : at (g .lineFlag) k ≡ 0
 
 abbrev pub LineZeros : Rig → Type 0
-LineZeros g = (k : ℕ) → k < 1024 → g .alines ≤ k → NoLine g k
+LineZeros g = (k : ℕ) → k < 1024 → g .lines ≤ k → NoLine g k
 
 abbrev pub RowZeros : Rig → Type 0
 RowZeros g = (k : ℕ) → k < 64 → g .rows ≤ k → rowAt g k ≡ noRow
@@ -202,9 +202,9 @@ pub record Shaped (g : Rig) (cycles : List Cycle) : Type 0 where
   pub present : length (g .present) ≡ 1040
   pub latched : length (g .latched) ≡ 1040
   pub desired : length (g .desired) ≡ 1040
-  pub atask : length (g .atask) ≡ 1024
-  pub apos : length (g .apos) ≡ 1024
-  pub aflag : length (g .aflag) ≡ 1024
+  pub lineTask : length (g .lineTask) ≡ 1024
+  pub linePos : length (g .linePos) ≡ 1024
+  pub lineFlag : length (g .lineFlag) ≡ 1024
   pub row : length (g .row) ≡ 64
   pub sixty-four : length cycles ≡ 64
   pub fifteen : (c : ℕ) → c < 64 → length (getD cycles c noCycle .flags) ≡ 15

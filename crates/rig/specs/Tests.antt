@@ -11,7 +11,7 @@ use Rattle.laws.specs.All.{all, allOf}
 use Rattle.laws.specs.Any.{any}
 use Rattle.laws.specs.First.{firstFalse}
 use Rattle.laws.specs.Owners.{marks}
-use Rattle.rigtests.specs.Tests.{at, within, smallB, conditionsB, linesRiseB, cycleRises, conditionTasksB, linesB, cycleSmall, controllersB, servesOneB, inCycle, notMinorB, namedB, usedB, minorConditionsB, taskZerosB, lineZerosB}
+use Rattle.rig_tables.specs.Tests.{at, within, smallB, conditionsB, linesRiseB, cycleRises, conditionTasksB, linesB, cycleSmall, controllersB, servesOneB, inCycle, notMinorB, namedB, usedB, minorConditionsB, taskZerosB, lineZerosB}
 use Rattle.rig.specs.declared.Row.{Row}
 use Rattle.rig.specs.declared.Cycle.{Cycle}
 use Rattle.rig.specs.declared.Rig.{Rig}
@@ -27,9 +27,9 @@ listedB p = any 7 (isPeriod p)
 unfoldable pub rowTests : Row → List Bool
 rowTests b =
     leb (b .sender) 31 ∷
-    within 1 (b .sendersub) 30 ∷
+    within 1 (b .senderSub) 30 ∷
     leb (b .receiver) 31 ∷
-    within 1 (b .receiversub) 30 ∷
+    within 1 (b .receiverSub) 30 ∷
     within 1 (b .words) 32 ∷
     listedB (b .period) ∷
     ltb (b .phase) (b .period) ∷
@@ -76,9 +76,9 @@ differB n row = all n (differOne row)
 unfoldable pub rowZeros : Row → List Bool
 rowZeros b =
     eqb (b .sender) 0 ∷
-    eqb (b .sendersub) 0 ∷
+    eqb (b .senderSub) 0 ∷
     eqb (b .receiver) 0 ∷
-    eqb (b .receiversub) 0 ∷
+    eqb (b .receiverSub) 0 ∷
     eqb (b .words) 0 ∷
     eqb (b .period) 0 ∷
     eqb (b .phase) 0 ∷
@@ -103,30 +103,30 @@ shapedTests g =
     eqb (length (g .present)) 1040 ∷
     eqb (length (g .latched)) 1040 ∷
     eqb (length (g .desired)) 1040 ∷
-    eqb (length (g .atask)) 1024 ∷
-    eqb (length (g .apos)) 1024 ∷
-    eqb (length (g .aflag)) 1024 ∷
+    eqb (length (g .lineTask)) 1024 ∷
+    eqb (length (g .linePos)) 1024 ∷
+    eqb (length (g .lineFlag)) 1024 ∷
     []
 
 -- ---- the rules by number, in groups: 1 to 9 sizes, 10 and 11 orders, 12 to 22 rules over the whole file, 23 to 25 zeros
 -- beyond the counts; 26 is broken by no rig that a program holds
 
 abbrev pub countTests : ℕ → ℕ → ℕ → ℕ → ℕ → List Bool
-countTests tasks flags master alines rows =
-    within 1 tasks 64 ∷ within 1 flags 128 ∷ leb master 31 ∷ leb alines 1024 ∷ leb rows 64 ∷ []
+countTests tasks flags master lines rows =
+    within 1 tasks 64 ∷ within 1 flags 128 ∷ leb master 31 ∷ leb lines 1024 ∷ leb rows 64 ∷ []
 
 abbrev pub sizeTests : List ℕ → List ℕ → List ℕ → List ℕ → List ℕ → ℕ → List Row → List Bool
 sizeTests priority privileged present latched desired rows row =
     smallB priority 255 ∷ smallB privileged 1 ∷ conditionsB present latched desired ∷ rowsB rows row ∷ []
 
 abbrev pub orderTests : ℕ → List ℕ → List ℕ → List ℕ → List Cycle → List Bool
-orderTests alines atask apos aflag cycles = linesRiseB alines atask apos aflag ∷ cyclesRiseB cycles ∷ []
+orderTests lines lineTask linePos lineFlag cycles = linesRiseB lines lineTask linePos lineFlag ∷ cyclesRiseB cycles ∷ []
 
 abbrev pub numberTests : ℕ → ℕ → ℕ → List ℕ → List ℕ → List ℕ → List ℕ → List ℕ → List Cycle → List Bool
-numberTests tasks flags alines activation present atask apos aflag cycles =
+numberTests tasks flags lines activation present lineTask linePos lineFlag cycles =
     smallB activation flags ∷
     conditionTasksB tasks present ∷
-    linesB alines tasks flags atask apos aflag ∷
+    linesB lines tasks flags lineTask linePos lineFlag ∷
     cyclesSmallB flags cycles ∷
     []
 
@@ -135,43 +135,43 @@ taskTests tasks controller activation minor =
     controllersB tasks controller ∷ servesOneB activation ∷ notMinorB activation minor ∷ []
 
 abbrev pub lineTests : ℕ → List ℕ → List ℕ → List ℕ → List ℕ → List ℕ → List ℕ → (ℕ → Bool) → List Bool
-lineTests alines present latched desired atask apos aflag minor =
-    namedB alines present atask apos ∷
-    usedB alines present atask apos ∷
-    minorConditionsB alines latched desired atask apos aflag minor ∷
+lineTests lines present latched desired lineTask linePos lineFlag minor =
+    namedB lines present lineTask linePos ∷
+    usedB lines present lineTask linePos ∷
+    minorConditionsB lines latched desired lineTask linePos lineFlag minor ∷
     []
 
 abbrev pub restTests : ℕ → ℕ → ℕ → List ℕ → List ℕ → List ℕ → List ℕ → List ℕ → List ℕ → List ℕ → List Row → List Bool
-restTests tasks alines rows controller priority privileged activation atask apos aflag row =
+restTests tasks lines rows controller priority privileged activation lineTask linePos lineFlag row =
     differB rows row ∷
     taskZerosB tasks controller priority privileged activation ∷
-    lineZerosB alines atask apos aflag ∷
+    lineZerosB lines lineTask linePos lineFlag ∷
     rowZerosB rows row ∷
     []
 
 abbrev pub countGroup : Rig → List Bool
-countGroup g = countTests (g .tasks) (g .flags) (g .master) (g .alines) (g .rows)
+countGroup g = countTests (g .tasks) (g .flags) (g .master) (g .lines) (g .rows)
 
 abbrev pub sizeGroup : Rig → List Bool
 sizeGroup g = sizeTests (g .priority) (g .privileged) (g .present) (g .latched) (g .desired) (g .rows) (g .row)
 
 abbrev pub orderGroup : Rig → List Cycle → List Bool
-orderGroup g cycles = orderTests (g .alines) (g .atask) (g .apos) (g .aflag) cycles
+orderGroup g cycles = orderTests (g .lines) (g .lineTask) (g .linePos) (g .lineFlag) cycles
 
 abbrev pub numberGroup : Rig → List Cycle → List Bool
 numberGroup g cycles =
-    numberTests (g .tasks) (g .flags) (g .alines) (g .activation) (g .present) (g .atask) (g .apos) (g .aflag) cycles
+    numberTests (g .tasks) (g .flags) (g .lines) (g .activation) (g .present) (g .lineTask) (g .linePos) (g .lineFlag) cycles
 
 abbrev pub taskGroup : Rig → List Cycle → List Bool
 taskGroup g cycles = taskTests (g .tasks) (g .controller) (g .activation) (minorB cycles)
 
 abbrev pub lineGroup : Rig → List Cycle → List Bool
 lineGroup g cycles =
-    lineTests (g .alines) (g .present) (g .latched) (g .desired) (g .atask) (g .apos) (g .aflag) (minorB cycles)
+    lineTests (g .lines) (g .present) (g .latched) (g .desired) (g .lineTask) (g .linePos) (g .lineFlag) (minorB cycles)
 
 abbrev pub restGroup : Rig → List Bool
 restGroup g =
-    restTests (g .tasks) (g .alines) (g .rows) (g .controller) (g .priority) (g .privileged) (g .activation) (g .atask) (g .apos) (g .aflag) (g .row)
+    restTests (g .tasks) (g .lines) (g .rows) (g .controller) (g .priority) (g .privileged) (g .activation) (g .lineTask) (g .linePos) (g .lineFlag) (g .row)
 
 abbrev pub fromRest : Rig → List Bool
 fromRest g = restGroup g ++ (allOf (shapedTests g) ∷ [])

@@ -8,9 +8,9 @@ use lib.Dec.{ltb}
 use borrow.Author.Tests.{lt-ltb}
 use Rattle.laws.specs.Cases.{by, by-eqb, below-but}
 use Rattle.laws.specs.Decides.{Is, is-eqb, is-leb, is-and, is-not, is-else, is-all, is-said}
-use Rattle.rigtests.specs.Tests.{climb, controllersB}
-use Rattle.rigtests.specs.Tables.{Low}
-use Rattle.rigtests.specs.Climb.{climb-stop}
+use Rattle.rig_tables.specs.Tests.{climb, controllersB}
+use Rattle.rig_tables.specs.Tables.{Low}
+use Rattle.rig_tables.specs.Climb.{climb-stop}
 use Rattle.rig.specs.declared.Rig.{Rig}
 use Rattle.rig.specs.Rules.{at, Ancestor, nearest, further, Controllers}
 

@@ -77,7 +77,7 @@ module _ (g : Rig) (cycles : List Cycle) where
       (
         is-leb (g .master) 31,
         (
-          is-leb (g .alines) 1024,
+          is-leb (g .lines) 1024,
           (
             is-leb (g .rows) 64,
             (

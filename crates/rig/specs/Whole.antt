@@ -12,8 +12,8 @@ use Rattle.laws.specs.Cases.{by}
 use Rattle.laws.specs.All.{allOf, allOf-at, allOf-cons, allOf-nil}
 use Rattle.laws.specs.First.{firstFalse, first-all, all-first}
 use Rattle.laws.specs.Decides.{is-eqb, is-said}
-use Rattle.rigtests.specs.Tests.{controllersB, servesOneB, namedB, usedB}
-use Rattle.rigtests.specs.Tables.{LinesFit, Ends, marked}
+use Rattle.rig_tables.specs.Tests.{controllersB, servesOneB, namedB, usedB}
+use Rattle.rig_tables.specs.Tables.{LinesFit, Ends, marked}
 use Rattle.rig.specs.declared.Cycle.{Cycle}
 use Rattle.rig.specs.declared.Rig.{Rig}
 use Rattle.rig.specs.Rules.{at, flagAt, Shaped, Right}
@@ -23,8 +23,8 @@ use Rattle.rig.specs.Tree.{controllers-is}
 use Rattle.rig.specs.Exact.{within-is, small-is, conditions-is, rows-is, line-order-is, cycle-order-is, condition-numbers-is, lines-is, cycle-numbers-is, serves-one-is, not-minor-is, line-has-condition-is, condition-has-line-is, minor-conditions-is, sender-differs-is, task-zeros-is, line-zeros-is, row-zeros-is}
 
 pub lengths-hold : (g : Rig) → length (g .controller) ≡ 65 → length (g .priority) ≡ 65 → length (g .privileged) ≡ 65 → length (g .activation) ≡ 65
-    → length (g .present) ≡ 1040 → length (g .latched) ≡ 1040 → length (g .desired) ≡ 1040 → length (g .atask) ≡ 1024 → length (g .apos) ≡ 1024
-    → length (g .aflag) ≡ 1024 → allOf (shapedTests g) ≡ true
+    → length (g .present) ≡ 1040 → length (g .latched) ≡ 1040 → length (g .desired) ≡ 1040 → length (g .lineTask) ≡ 1024 → length (g .linePos) ≡ 1024
+    → length (g .lineFlag) ≡ 1024 → allOf (shapedTests g) ≡ true
 unfolding shapedTests
 lengths-hold g a b c d e f h i j k =
     allOf-cons _ _ (eq-eqb (length (g .controller)) 65 a)
@@ -34,8 +34,8 @@ lengths-hold g a b c d e f h i j k =
     (allOf-cons _ _ (eq-eqb (length (g .present)) 1040 e)
     (allOf-cons _ _ (eq-eqb (length (g .latched)) 1040 f)
     (allOf-cons _ _ (eq-eqb (length (g .desired)) 1040 h)
-    (allOf-cons _ _ (eq-eqb (length (g .atask)) 1024 i)
-    (allOf-cons _ _ (eq-eqb (length (g .apos)) 1024 j) (allOf-cons _ _ (eq-eqb (length (g .aflag)) 1024 k) allOf-nil)))))))))
+    (allOf-cons _ _ (eq-eqb (length (g .lineTask)) 1024 i)
+    (allOf-cons _ _ (eq-eqb (length (g .linePos)) 1024 j) (allOf-cons _ _ (eq-eqb (length (g .lineFlag)) 1024 k) allOf-nil)))))))))
 
 module _ (g : Rig) (cycles : List Cycle) where
   -- what the tests say, test by test
@@ -51,7 +51,7 @@ module _ (g : Rig) (cycles : List Cycle) where
         task-count = few;
         flag-count = within-is 1 (g .flags) 128 .0 (k 1);
         master-address = leb-true (g .master) 31 (k 2);
-        line-count = leb-true (g .alines) 1024 (k 3);
+        line-count = leb-true (g .lines) 1024 (k 3);
         row-count = leb-true (g .rows) 64 (k 4);
         priorities = small-is (g .priority) 255 .0 (k 5);
         privileges = small-is (g .privileged) 1 .0 (k 6);
@@ -82,9 +82,9 @@ module _ (g : Rig) (cycles : List Cycle) where
               present = eqb-true (length (g .present)) 1040 (s 4);
               latched = eqb-true (length (g .latched)) 1040 (s 5);
               desired = eqb-true (length (g .desired)) 1040 (s 6);
-              atask = eqb-true (length (g .atask)) 1024 (s 7);
-              apos = eqb-true (length (g .apos)) 1024 (s 8);
-              aflag = eqb-true (length (g .aflag)) 1024 (s 9);
+              lineTask = eqb-true (length (g .lineTask)) 1024 (s 7);
+              linePos = eqb-true (length (g .linePos)) 1024 (s 8);
+              lineFlag = eqb-true (length (g .lineFlag)) 1024 (s 9);
               row = row .0;
               sixty-four = order .0;
               fifteen = order .1 .0;
@@ -93,7 +93,7 @@ module _ (g : Rig) (cycles : List Cycle) where
 
   shaped-back : Shaped g cycles → allOf (shapedTests g) ≡ true
   shaped-back s =
-      lengths-hold g (s .controller) (s .priority) (s .privileged) (s .activation) (s .present) (s .latched) (s .desired) (s .atask) (s .apos) (s .aflag)
+      lengths-hold g (s .controller) (s .priority) (s .privileged) (s .activation) (s .present) (s .latched) (s .desired) (s .lineTask) (s .linePos) (s .lineFlag)
 
   tests-back : Right g cycles → allOf (tests g cycles) ≡ true
   unfolding tests
@@ -101,7 +101,7 @@ module _ (g : Rig) (cycles : List Cycle) where
       allOf-cons _ _ (within-is 1 (g .tasks) 64 .1 (r .task-count))
       (allOf-cons _ _ (within-is 1 (g .flags) 128 .1 (r .flag-count))
       (allOf-cons _ _ (le-leb (g .master) 31 (r .master-address))
-      (allOf-cons _ _ (le-leb (g .alines) 1024 (r .line-count))
+      (allOf-cons _ _ (le-leb (g .lines) 1024 (r .line-count))
       (allOf-cons _ _ (le-leb (g .rows) 64 (r .row-count))
       (allOf-cons _ _ (small-is (g .priority) 255 .1 (r .priorities))
       (allOf-cons _ _ (small-is (g .privileged) 1 .1 (r .privileges))
@@ -140,41 +140,41 @@ module _ (g : Rig) (cycles : List Cycle) where
 
 -- ---- what the groups of tests give the code that comes after them
 
-pub record Counted (tasks flags alines rows : ℕ) : Type 0 where
+pub record Counted (tasks flags lines rows : ℕ) : Type 0 where
   pub some : 1 ≤ tasks
   pub tasks-le : tasks ≤ 64
   pub flags-le : flags ≤ 128
-  pub lines-le : alines ≤ 1024
+  pub lines-le : lines ≤ 1024
   pub rows-le : rows ≤ 64
 
-pub counted : (tasks flags master alines rows r : ℕ) → r ≡ firstFalse 1 (countTests tasks flags master alines rows) → r ≡ 0
-    → Counted tasks flags alines rows
-counted tasks flags master alines rows r e z =
-    let k = allOf-at (countTests tasks flags master alines rows) (first-all 1 (countTests tasks flags master alines rows) (omega arith) (sym e ∙ z)) in
+pub counted : (tasks flags master lines rows r : ℕ) → r ≡ firstFalse 1 (countTests tasks flags master lines rows) → r ≡ 0
+    → Counted tasks flags lines rows
+counted tasks flags master lines rows r e z =
+    let k = allOf-at (countTests tasks flags master lines rows) (first-all 1 (countTests tasks flags master lines rows) (omega arith) (sym e ∙ z)) in
     record {
       some = within-is 1 tasks 64 .0 (k 0) .0;
       tasks-le = within-is 1 tasks 64 .0 (k 0) .1;
       flags-le = within-is 1 flags 128 .0 (k 1) .1;
-      lines-le = leb-true alines 1024 (k 3);
+      lines-le = leb-true lines 1024 (k 3);
       rows-le = leb-true rows 64 (k 4);
     }
 
-pub risen : (alines : ℕ) (atask apos aflag : List ℕ) (cycles : List Cycle) (r : ℕ) → r ≡ firstFalse 10 (orderTests alines atask apos aflag cycles)
+pub risen : (lines : ℕ) (lineTask linePos lineFlag : List ℕ) (cycles : List Cycle) (r : ℕ) → r ≡ firstFalse 10 (orderTests lines lineTask linePos lineFlag cycles)
     → r ≡ 0 → cyclesRiseB cycles ≡ true
-risen alines atask apos aflag cycles r e z =
-    allOf-at (orderTests alines atask apos aflag cycles) (first-all 10 (orderTests alines atask apos aflag cycles) (omega arith) (sym e ∙ z)) 1
+risen lines lineTask linePos lineFlag cycles r e z =
+    allOf-at (orderTests lines lineTask linePos lineFlag cycles) (first-all 10 (orderTests lines lineTask linePos lineFlag cycles) (omega arith) (sym e ∙ z)) 1
 
 pub record Numbered (g : Rig) (cycles : List Cycle) : Type 0 where
   pub activation : (t : ℕ) → t < 65 → at (g .activation) t ≤ 128
-  pub fit : LinesFit (g .alines) (g .atask) (g .apos) (g .aflag)
-  pub ends : Ends (g .tasks) (g .alines) (g .present) (g .atask) (g .apos)
+  pub fit : LinesFit (g .lines) (g .lineTask) (g .linePos) (g .lineFlag)
+  pub ends : Ends (g .tasks) (g .lines) (g .present) (g .lineTask) (g .linePos)
   pub minor : (c : ℕ) → c < 64 → (i : ℕ) → i < 15 → flagAt cycles c i ≤ 128
 
-pub numbered : (g : Rig) (cycles : List Cycle) (r : ℕ) → Counted (g .tasks) (g .flags) (g .alines) (g .rows)
-    → r ≡ firstFalse 12 (numberTests (g .tasks) (g .flags) (g .alines) (g .activation) (g .present) (g .atask) (g .apos) (g .aflag) cycles) → r ≡ 0
+pub numbered : (g : Rig) (cycles : List Cycle) (r : ℕ) → Counted (g .tasks) (g .flags) (g .lines) (g .rows)
+    → r ≡ firstFalse 12 (numberTests (g .tasks) (g .flags) (g .lines) (g .activation) (g .present) (g .lineTask) (g .linePos) (g .lineFlag) cycles) → r ≡ 0
     → Numbered g cycles
 numbered g cycles r n e z =
-    let l : List Bool = numberTests (g .tasks) (g .flags) (g .alines) (g .activation) (g .present) (g .atask) (g .apos) (g .aflag) cycles in
+    let l : List Bool = numberTests (g .tasks) (g .flags) (g .lines) (g .activation) (g .present) (g .lineTask) (g .linePos) (g .lineFlag) cycles in
     let k = allOf-at l (first-all 12 l (omega arith) (sym e ∙ z)) in
     let lines = lines-is g cycles .0 (k 2) in
     record {
@@ -209,10 +209,10 @@ module _ (g : Rig) (cycles : List Cycle) (n : Numbered g cycles) (table : List �
       ∙ ap (λ (b : Bool). firstFalse 16 (controllersB (g .tasks) (g .controller) ∷ servesOneB (g .activation) ∷ b ∷ []))
       (not-minor-law (g .activation) cycles (n .activation))
 
-  pub line-answer : r ≡ firstFalse 19 (lineTests (g .alines) (g .present) (g .latched) (g .desired) (g .atask) (g .apos) (g .aflag) (marked table))
+  pub line-answer : r ≡ firstFalse 19 (lineTests (g .lines) (g .present) (g .latched) (g .desired) (g .lineTask) (g .linePos) (g .lineFlag) (marked table))
       → r ≡ firstFalse 19 (lineGroup g cycles)
   line-answer q =
       q
-      ∙ ap (λ (l : List ℕ). firstFalse 19 (lineTests (g .alines) (g .present) (g .latched) (g .desired) (g .atask) (g .apos) (g .aflag) (marked l))) e
-      ∙ ap (λ (b : Bool). firstFalse 19 (namedB (g .alines) (g .present) (g .atask) (g .apos) ∷ usedB (g .alines) (g .present) (g .atask) (g .apos) ∷ b ∷ []))
-      (minor-conditions-law (g .alines) (g .latched) (g .desired) (g .atask) (g .apos) (g .aflag) cycles (n .fit .flags))
+      ∙ ap (λ (l : List ℕ). firstFalse 19 (lineTests (g .lines) (g .present) (g .latched) (g .desired) (g .lineTask) (g .linePos) (g .lineFlag) (marked l))) e
+      ∙ ap (λ (b : Bool). firstFalse 19 (namedB (g .lines) (g .present) (g .lineTask) (g .linePos) ∷ usedB (g .lines) (g .present) (g .lineTask) (g .linePos) ∷ b ∷ []))
+      (minor-conditions-law (g .lines) (g .latched) (g .desired) (g .lineTask) (g .linePos) (g .lineFlag) cycles (n .fit .flags))

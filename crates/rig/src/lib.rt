@@ -5,7 +5,7 @@ ghost use mathlib.Core.Bool.{true};
 ghost use Prim.Native.Nat.{ℕ, _≤_, _<_};
 ghost use Rattle.laws.specs.All.{allOf};
 ghost use Rattle.laws.specs.First.{firstFalse};
-ghost use Rattle.rigtests.specs.Tables.{marked, LinesFit, Ends};
+ghost use Rattle.rig_tables.specs.Tables.{marked, LinesFit, Ends};
 ghost use Rattle.rig.specs.Rules.{at, flagAt};
 ghost use Rattle.rig.specs.Tests.{listedB, rowTests, rowsB, cyclesRiseB, cyclesSmallB, minorMarks, differB, rowZero, rowZerosB, shapedTests, countTests, sizeTests, orderTests, numberTests, taskTests, lineTests, restTests, firstBroken, rightB};
 ghost use Rattle.rig.specs.Forms.{rigOf, cyclesOf, tableOf, noRig, noCycles};
@@ -14,9 +14,9 @@ ghost use Rattle.rig.specs.Forms.{rigOf, cyclesOf, tableOf, noRig, noCyc
 #[repr(C)]
 pub struct Row {
     pub sender: u8,
-    pub sendersub: u8,
+    pub senderSub: u8,
     pub receiver: u8,
-    pub receiversub: u8,
+    pub receiverSub: u8,
     pub words: u8,
     pub period: u8,
     pub phase: u8,
@@ -35,7 +35,7 @@ pub struct Rig {
     pub tasks: u8,
     pub flags: u8,
     pub master: u8,
-    pub alines: u16,
+    pub lines: u16,
     pub rows: u8,
     pub controller: [u8; 65],
     pub priority: [u8; 65],
@@ -44,9 +44,9 @@ pub struct Rig {
     pub present: [u8; 1040],
     pub latched: [u8; 1040],
     pub desired: [u8; 1040],
-    pub atask: [u8; 1024],
-    pub apos: [u8; 1024],
-    pub aflag: [u8; 1024],
+    pub lineTask: [u8; 1024],
+    pub linePos: [u8; 1024],
+    pub lineFlag: [u8; 1024],
     pub row: [Row; 64],
 }
 
@@ -56,9 +56,9 @@ pub fn none() -> Rig
 {
     let b = Row {
         sender: 0,
-        sendersub: 0,
+        senderSub: 0,
         receiver: 0,
-        receiversub: 0,
+        receiverSub: 0,
         words: 0,
         period: 0,
         phase: 0,
@@ -67,7 +67,7 @@ pub fn none() -> Rig
         tasks: 0,
         flags: 0,
         master: 0,
-        alines: 0,
+        lines: 0,
         rows: 0,
         controller: [0; 65],
         priority: [0; 65],
@@ -76,9 +76,9 @@ pub fn none() -> Rig
         present: [0; 1040],
         latched: [0; 1040],
         desired: [0; 1040],
-        atask: [0; 1024],
-        apos: [0; 1024],
-        aflag: [0; 1024],
+        lineTask: [0; 1024],
+        linePos: [0; 1024],
+        lineFlag: [0; 1024],
         row: [b; 64],
     }
 }
@@ -142,16 +142,16 @@ fn row_ok(b: Row) -> bool
     if 31 < b.sender {
         return false;
     }
-    if !rigtests::in_range(1, b.sendersub, 30) {
+    if !rig_tables::in_range(1, b.senderSub, 30) {
         return false;
     }
     if 31 < b.receiver {
         return false;
     }
-    if !rigtests::in_range(1, b.receiversub, 30) {
+    if !rig_tables::in_range(1, b.receiverSub, 30) {
         return false;
     }
-    if !rigtests::in_range(1, b.words, 32) {
+    if !rig_tables::in_range(1, b.words, 32) {
         return false;
     }
     if !listed(b.period) {
@@ -182,7 +182,7 @@ fn cycles_rise(cycles: [Cycle; 64]) -> bool
     let mut c: usize = 0;
     while c < 64 {
         let cycle = cycles[c];
-        if !rigtests::cycle_rises(&cycle.flags) {
+        if !rig_tables::cycle_rises(&cycle.flags) {
             return false;
         }
         c = c + 1;
@@ -198,7 +198,7 @@ fn cycles_small(top: u8, cycles: [Cycle; 64]) -> bool
     let mut c: usize = 0;
     while c < 64 {
         let cycle = cycles[c];
-        if !rigtests::cycle_small(top, &cycle.flags) {
+        if !rig_tables::cycle_small(top, &cycle.flags) {
             return false;
         }
         c = c + 1;
@@ -215,7 +215,7 @@ fn minor_marks(cycles: [Cycle; 64]) -> [u8; 129]
     let mut c: usize = 0;
     while c < 64 {
         let cycle = cycles[c];
-        rigtests::mark_cycle(&cycle.flags, &mut table);
+        rig_tables::mark_cycle(&cycle.flags, &mut table);
         c = c + 1;
     }
     table[0] = 0;
@@ -243,13 +243,13 @@ fn row_zero(b: Row) -> bool
     if b.sender != 0 {
         return false;
     }
-    if b.sendersub != 0 {
+    if b.senderSub != 0 {
         return false;
     }
     if b.receiver != 0 {
         return false;
     }
-    if b.receiversub != 0 {
+    if b.receiverSub != 0 {
         return false;
     }
     if b.words != 0 {
@@ -277,19 +277,19 @@ fn row_zeros(n: usize, row: [Row; 64]) -> bool
 }
 
 // Rules 1 to 5: the counts of the RIG line, of A lines and of rows.
-fn counts(tasks: u8, flags: u8, master: u8, alines: u16, rows: u8) -> u8
-    ensures { λ r. ⌜ r ≡ firstFalse 1 (countTests tasks flags master alines rows) ⌝ }
+fn counts(tasks: u8, flags: u8, master: u8, lines: u16, rows: u8) -> u8
+    ensures { λ r. ⌜ r ≡ firstFalse 1 (countTests tasks flags master lines rows) ⌝ }
 {
-    if !rigtests::in_range(1, tasks, 64) {
+    if !rig_tables::in_range(1, tasks, 64) {
         return 1;
     }
-    if !rigtests::in_range(1, flags, 128) {
+    if !rig_tables::in_range(1, flags, 128) {
         return 2;
     }
     if 31 < master {
         return 3;
     }
-    if 1024 < alines {
+    if 1024 < lines {
         return 4;
     }
     if 64 < rows {
@@ -315,13 +315,13 @@ fn sizes<'a>(
         ≡ firstFalse 6 (sizeTests (now (priority .entry)) (now (privileged .entry)) (now (present .entry)) (now (latched .entry)) (now (desired .entry)) rows row)
         ⌝ }
 {
-    if !rigtests::small(priority, 255) {
+    if !rig_tables::small(priority, 255) {
         return 6;
     }
-    if !rigtests::small(privileged, 1) {
+    if !rig_tables::small(privileged, 1) {
         return 7;
     }
-    if !rigtests::conditions(present, latched, desired) {
+    if !rig_tables::conditions(present, latched, desired) {
         return 8;
     }
     if !rows_ok(rows, row) {
@@ -332,16 +332,16 @@ fn sizes<'a>(
 
 // Rules 10 and 11: A lines and the flags of each cycle rise.
 fn orders<'a>(
-    alines: usize,
-    atask: &'a [u8; 1024],
-    apos: &'a [u8; 1024],
-    aflag: &'a [u8; 1024],
+    lines: usize,
+    lineTask: &'a [u8; 1024],
+    linePos: &'a [u8; 1024],
+    lineFlag: &'a [u8; 1024],
     cycles: [Cycle; 64],
 ) -> u8
-    requires { ⌜ alines ≤ 1024 ⌝ }
-    ensures { λ r. ⌜ r ≡ firstFalse 10 (orderTests alines (now (atask .entry)) (now (apos .entry)) (now (aflag .entry)) cycles) ⌝ }
+    requires { ⌜ lines ≤ 1024 ⌝ }
+    ensures { λ r. ⌜ r ≡ firstFalse 10 (orderTests lines (now (lineTask .entry)) (now (linePos .entry)) (now (lineFlag .entry)) cycles) ⌝ }
 {
-    if !rigtests::lines_rise(alines, atask, apos, aflag) {
+    if !rig_tables::lines_rise(lines, lineTask, linePos, lineFlag) {
         return 10;
     }
     if !cycles_rise(cycles) {
@@ -354,28 +354,28 @@ fn orders<'a>(
 fn numbers<'a>(
     tasks: u8,
     flags: u8,
-    alines: usize,
+    lines: usize,
     activation: &'a [u8; 65],
     present: &'a [u8; 1040],
-    atask: &'a [u8; 1024],
-    apos: &'a [u8; 1024],
-    aflag: &'a [u8; 1024],
+    lineTask: &'a [u8; 1024],
+    linePos: &'a [u8; 1024],
+    lineFlag: &'a [u8; 1024],
     cycles: [Cycle; 64],
 ) -> u8
-    requires { ⌜ (alines ≤ 1024) × (cyclesRiseB cycles ≡ true) ⌝ }
+    requires { ⌜ (lines ≤ 1024) × (cyclesRiseB cycles ≡ true) ⌝ }
     ensures { λ r.
         ⌜
         r
-        ≡ firstFalse 12 (numberTests tasks flags alines (now (activation .entry)) (now (present .entry)) (now (atask .entry)) (now (apos .entry)) (now (aflag .entry)) cycles)
+        ≡ firstFalse 12 (numberTests tasks flags lines (now (activation .entry)) (now (present .entry)) (now (lineTask .entry)) (now (linePos .entry)) (now (lineFlag .entry)) cycles)
         ⌝ }
 {
-    if !rigtests::small(activation, flags) {
+    if !rig_tables::small(activation, flags) {
         return 12;
     }
-    if !rigtests::condition_tasks(tasks, present) {
+    if !rig_tables::condition_tasks(tasks, present) {
         return 13;
     }
-    if !rigtests::lines(alines, tasks, flags, atask, apos, aflag) {
+    if !rig_tables::lines(lines, tasks, flags, lineTask, linePos, lineFlag) {
         return 14;
     }
     if !cycles_small(flags, cycles) {
@@ -394,14 +394,14 @@ fn task_rules<'a>(
     requires { ⌜ (1 ≤ tasks) × ((tasks ≤ 64) × ((t : ℕ) → t < 65 → at (now activation) t ≤ 128)) ⌝ }
     ensures { λ r. ⌜ r ≡ firstFalse 16 (taskTests tasks (now (controller .entry)) (now (activation .entry)) (marked (now (flags .entry)))) ⌝ }
 {
-    if !rigtests::controllers(tasks, controller) {
+    if !rig_tables::controllers(tasks, controller) {
         return 16;
     }
-    let table = rigtests::flag_owners(activation);
-    if !rigtests::served(activation, &table) {
+    let table = rig_tables::flag_owners(activation);
+    if !rig_tables::served(activation, &table) {
         return 17;
     }
-    if !rigtests::unmarked(activation, flags) {
+    if !rig_tables::unmarked(activation, flags) {
         return 18;
     }
     0
@@ -411,31 +411,40 @@ fn task_rules<'a>(
 // behind the last task's places.
 fn line_rules<'a>(
     tasks: usize,
-    alines: usize,
+    lines: usize,
     present: &'a [u8; 1040],
     latched: &'a [u8; 1040],
     desired: &'a [u8; 1040],
-    atask: &'a [u8; 1024],
-    apos: &'a [u8; 1024],
-    aflag: &'a [u8; 1024],
+    lineTask: &'a [u8; 1024],
+    linePos: &'a [u8; 1024],
+    lineFlag: &'a [u8; 1024],
     flags: &'a [u8; 129],
 ) -> u8
-    requires { ⌜ LinesFit alines (now atask) (now apos) (now aflag) × Ends tasks alines (now present) (now atask) (now apos) ⌝ }
+    requires { ⌜ LinesFit lines (now lineTask) (now linePos) (now lineFlag) × Ends tasks lines (now present) (now lineTask) (now linePos) ⌝ }
     ensures { λ r.
         ⌜
         r
-        ≡ firstFalse 19 (lineTests alines (now (present .entry)) (now (latched .entry)) (now (desired .entry)) (now (atask .entry)) (now (apos .entry)) (now (aflag .entry)) (marked (now (flags .entry))))
+        ≡ firstFalse 19 (lineTests lines (now (present .entry)) (now (latched .entry)) (now (desired .entry)) (now (lineTask .entry)) (now (linePos .entry)) (now (lineFlag .entry)) (marked (now (flags .entry))))
         ⌝ }
 {
-    let table = rigtests::place_owners(alines, atask, apos);
+    let table = rig_tables::place_owners(lines, lineTask, linePos);
     // one pass for both rules; where it fails, which
-    if !rigtests::matched(16 * (tasks + 1), present, &table) {
-        if !rigtests::names_present(present, &table) {
+    if !rig_tables::matched(16 * (tasks + 1), present, &table) {
+        if !rig_tables::names_present(present, &table) {
             return 19;
         }
         return 20;
     }
-    if !rigtests::minor_conditions(alines, latched, desired, atask, apos, aflag, flags, &table) {
+    if !rig_tables::minor_conditions(
+        lines,
+        latched,
+        desired,
+        lineTask,
+        linePos,
+        lineFlag,
+        flags,
+        &table,
+    ) {
         return 21;
     }
     0
@@ -444,31 +453,31 @@ fn line_rules<'a>(
 // Rules 22 to 25: sender and receiver differ; entries beyond the counts are 0.
 fn rest_rules<'a>(
     tasks: u8,
-    alines: usize,
+    lines: usize,
     rows: usize,
     controller: &'a [u8; 65],
     priority: &'a [u8; 65],
     privileged: &'a [u8; 65],
     activation: &'a [u8; 65],
-    atask: &'a [u8; 1024],
-    apos: &'a [u8; 1024],
-    aflag: &'a [u8; 1024],
+    lineTask: &'a [u8; 1024],
+    linePos: &'a [u8; 1024],
+    lineFlag: &'a [u8; 1024],
     row: [Row; 64],
 ) -> u8
-    requires { ⌜ (alines ≤ 1024) × (rows ≤ 64) ⌝ }
+    requires { ⌜ (lines ≤ 1024) × (rows ≤ 64) ⌝ }
     ensures { λ r.
         ⌜
         r
-        ≡ firstFalse 22 (restTests tasks alines rows (now (controller .entry)) (now (priority .entry)) (now (privileged .entry)) (now (activation .entry)) (now (atask .entry)) (now (apos .entry)) (now (aflag .entry)) row)
+        ≡ firstFalse 22 (restTests tasks lines rows (now (controller .entry)) (now (priority .entry)) (now (privileged .entry)) (now (activation .entry)) (now (lineTask .entry)) (now (linePos .entry)) (now (lineFlag .entry)) row)
         ⌝ }
 {
     if !differ(rows, row) {
         return 22;
     }
-    if !rigtests::task_zeros(tasks, controller, priority, privileged, activation) {
+    if !rig_tables::task_zeros(tasks, controller, priority, privileged, activation) {
         return 23;
     }
-    if !rigtests::line_zeros(alines, atask, apos, aflag) {
+    if !rig_tables::line_zeros(lines, lineTask, linePos, lineFlag) {
         return 24;
     }
     if !row_zeros(rows, row) {
@@ -483,7 +492,7 @@ pub fn broken_in<'a>(
     tasks: u8,
     flags: u8,
     master: u8,
-    alines: u16,
+    lines: u16,
     rows: u8,
     controller: &'a [u8; 65],
     priority: &'a [u8; 65],
@@ -492,31 +501,31 @@ pub fn broken_in<'a>(
     present: &'a [u8; 1040],
     latched: &'a [u8; 1040],
     desired: &'a [u8; 1040],
-    atask: &'a [u8; 1024],
-    apos: &'a [u8; 1024],
-    aflag: &'a [u8; 1024],
+    lineTask: &'a [u8; 1024],
+    linePos: &'a [u8; 1024],
+    lineFlag: &'a [u8; 1024],
     row: [Row; 64],
     cycles: [Cycle; 64],
 ) -> u8
-    requires { ⌜ allOf (shapedTests (rigOf tasks flags master alines rows (now controller) (now priority) (now privileged) (now activation) (now present) (now latched) (now desired) (now atask) (now apos) (now aflag) row)) ≡ true ⌝ }
+    requires { ⌜ allOf (shapedTests (rigOf tasks flags master lines rows (now controller) (now priority) (now privileged) (now activation) (now present) (now latched) (now desired) (now lineTask) (now linePos) (now lineFlag) row)) ≡ true ⌝ }
     ensures { λ r.
         ⌜
         r
-        ≡ firstBroken (rigOf tasks flags master alines rows (now (controller .entry)) (now (priority .entry)) (now (privileged .entry)) (now (activation .entry)) (now (present .entry)) (now (latched .entry)) (now (desired .entry)) (now (atask .entry)) (now (apos .entry)) (now (aflag .entry)) row) cycles
+        ≡ firstBroken (rigOf tasks flags master lines rows (now (controller .entry)) (now (priority .entry)) (now (privileged .entry)) (now (activation .entry)) (now (present .entry)) (now (latched .entry)) (now (desired .entry)) (now (lineTask .entry)) (now (linePos .entry)) (now (lineFlag .entry)) row) cycles
         ⌝ }
 {
-    let a = counts(tasks, flags, master, alines, rows);
+    let a = counts(tasks, flags, master, lines, rows);
     if a != 0 {
         return a;
     }
-    let lines = alines as usize;
+    let lines = lines as usize;
     let filled = rows as usize;
     let count = tasks as usize;
     let b = sizes(priority, privileged, present, latched, desired, filled, row);
     if b != 0 {
         return b;
     }
-    let c = orders(lines, atask, apos, aflag, cycles);
+    let c = orders(lines, lineTask, linePos, lineFlag, cycles);
     if c != 0 {
         return c;
     }
@@ -526,9 +535,9 @@ pub fn broken_in<'a>(
         lines,
         activation,
         present,
-        atask,
-        apos,
-        aflag,
+        lineTask,
+        linePos,
+        lineFlag,
         cycles,
     );
     if d != 0 {
@@ -545,9 +554,9 @@ pub fn broken_in<'a>(
         present,
         latched,
         desired,
-        atask,
-        apos,
-        aflag,
+        lineTask,
+        linePos,
+        lineFlag,
         &minor,
     );
     if f != 0 {
@@ -561,9 +570,9 @@ pub fn broken_in<'a>(
         priority,
         privileged,
         activation,
-        atask,
-        apos,
-        aflag,
+        lineTask,
+        linePos,
+        lineFlag,
         row,
     )
 }
@@ -577,7 +586,7 @@ pub fn broken(rig: Rig, cycles: [Cycle; 64]) -> u8
         rig.tasks,
         rig.flags,
         rig.master,
-        rig.alines,
+        rig.lines,
         rig.rows,
         &rig.controller,
         &rig.priority,
@@ -586,9 +595,9 @@ pub fn broken(rig: Rig, cycles: [Cycle; 64]) -> u8
         &rig.present,
         &rig.latched,
         &rig.desired,
-        &rig.atask,
-        &rig.apos,
-        &rig.aflag,
+        &rig.lineTask,
+        &rig.linePos,
+        &rig.lineFlag,
         row,
         cycles,
     )

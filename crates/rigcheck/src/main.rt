@@ -55,7 +55,7 @@ fn say_refused(no: u8, line: usize, rule: u16) {
 fn main() {
     let mut buffer = io::large_buffer();
     let n = io::read_full(0, &mut buffer);
-    let answer = rigfile::read(&buffer[..n]);
+    let answer = rig_read::read(&buffer[..n]);
     if answer.no == 0 {
         let g = answer.rig;
         say_accepted(g);

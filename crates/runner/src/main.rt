@@ -62,7 +62,7 @@ fn take_lines(d: Desk, input: &[u8], out: &mut [u8], start: usize, to: usize) ->
         }
         at = roomy(&*out, at);
         let a = line_start(long, from, end);
-        let t = bench::take_line(exec, &input[a..end], &mut *out, at);
+        let t = bench_turn::take_line(exec, &input[a..end], &mut *out, at);
         let st = t.st;
         exec.st = st;
         at = t.at;
@@ -164,12 +164,12 @@ fn finish(t: Taken, out: &mut [u8]) {
 fn run(s: Step, input: &mut [u8], out: &mut [u8], end: usize, got: usize) {
     let answer = s.answer;
     let Answer::Accepted(report) = answer else {
-        let n = script::put_refused(&mut *out, 4, 0);
+        let n = bench_script::put_refused(&mut *out, 4, 0);
         flush(&*out, n);
         return;
     };
     let exec = s.exec;
-    let at = script::put_started(&mut *out, exec.st.count, exec.st.running as u32);
+    let at = bench_script::put_started(&mut *out, exec.st.count, exec.st.running as u32);
     let from = behind_run(end, got);
     let d = Desk {
         exec,
@@ -185,10 +185,10 @@ fn morning(input: &mut [u8], out: &mut [u8], got: usize) {
     if input.len() < got {
         return;
     }
-    let end = script::rig_end(&input[..got]);
-    let r = rigfile::read(&input[..end]);
+    let end = bench_script::rig_end(&input[..got]);
+    let r = rig_read::read(&input[..end]);
     if r.no != 0 {
-        let n = script::put_refused(&mut *out, r.no as u32, line_number(r.line));
+        let n = bench_script::put_refused(&mut *out, r.no as u32, line_number(r.line));
         flush(&*out, n);
         return;
     }

@@ -28,7 +28,7 @@ use Rattle.rules.specs.InOrder.{chains-in-order}
 use Rattle.rules.specs.Waking.{Struck, Spared}
 use Rattle.rules.specs.Waking as W
 use Rattle.rules.specs.WakingLaws as WL
-use Rattle.state.specs.View.{rigOf}
+use Rattle.exec_state.specs.View.{rigOf}
 use Rattle.exec.specs.Sound.{rigIn, view, Sound}
 use Rattle.exec.specs.Call.{Follows, Meets, answerOf, refuse}
 use Rattle.exec.specs.Unique.{record-same}

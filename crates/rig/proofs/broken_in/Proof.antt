@@ -14,18 +14,18 @@ use Rattle.rig.proofs.broken_in.Tie as tie
 -- the rig of the lent tables
 abbrev rig-at : tie.Start → Rig
 rig-at c =
-    rigOf (c .args .tasks) (c .args .flags) (c .args .master) (c .args .alines) (c .args .rows) (c .args .controller .now) (c .args .priority .now) (c .args .privileged .now) (c .args .activation .now) (c .args .present .now) (c .args .latched .now) (c .args .desired .now) (c .args .atask .now) (c .args .apos .now) (c .args .aflag .now) (c .args .row)
+    rigOf (c .args .tasks) (c .args .flags) (c .args .master) (c .args .lines) (c .args .rows) (c .args .controller .now) (c .args .priority .now) (c .args .privileged .now) (c .args .activation .now) (c .args .present .now) (c .args .latched .now) (c .args .desired .now) (c .args .lineTask .now) (c .args .linePos .now) (c .args .lineFlag .now) (c .args .row)
 
 -- what the first, the third and the fourth group leave known
-counted-at : (c : tie.Else1) → Counted (c .before .before .args .tasks) (c .before .before .args .flags) (c .before .before .args .alines) (c .before .before .args .rows)
+counted-at : (c : tie.Else1) → Counted (c .before .before .args .tasks) (c .before .before .args .flags) (c .before .before .args .lines) (c .before .before .args .rows)
 counted-at c =
     let a = c .before .before .args in
-    counted (a .tasks) (a .flags) (a .master) (a .alines) (a .rows) (c .before .counts .result) (c .before .counts .ensures) (c .if1 .left)
+    counted (a .tasks) (a .flags) (a .master) (a .lines) (a .rows) (c .before .counts .result) (c .before .counts .ensures) (c .if1 .left)
 
 risen-at : (c : tie.Else3) → cyclesRiseB (c .before .before .before .before .before .before .args .cycles) ≡ true
 risen-at c =
     let a = c .before .before .before .before .before .before .args in
-    risen (a .alines) (a .atask .now) (a .apos .now) (a .aflag .now) (a .cycles) (c .before .orders .result) (c .before .orders .ensures) (c .if3 .left)
+    risen (a .lines) (a .lineTask .now) (a .linePos .now) (a .lineFlag .now) (a .cycles) (c .before .orders .result) (c .before .orders .ensures) (c .if3 .left)
 
 numbered-at : (c : tie.Else4) → Numbered (rig-at (c .before .before .before .before .before .before .before .before)) (c .before .before .before .before .before .before .before .before .args .cycles)
 numbered-at c =

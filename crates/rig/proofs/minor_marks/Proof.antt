@@ -4,7 +4,7 @@ use Prim.Native.Nat.{_≤_, _-_}
 use native.Mathlib.Omega.{arith}
 use lib.ListN.{getD, replicate}
 use Rattle.laws.specs.Iter.{iter, iter-zero, iter-next}
-use Rattle.rigtests.specs.Cycles.{flagsOnly, marks-flags}
+use Rattle.rig_tables.specs.Cycles.{flagsOnly, marks-flags}
 use Rattle.rig.specs.Rules.{at, noCycle}
 use Rattle.rig.specs.Tests.{markCycle, minorMarks}
 use Rattle.rig.specs.Marks.{cycles-rise-at}

@@ -1,8 +1,8 @@
 use mathlib.Core.Path.{sym, _∙_, ap}
 use borrow.Author.Tests.{not-true, not-false}
 use Rattle.laws.specs.First.{first-none, first-skip, first-here}
-use Rattle.rigtests.specs.Tables.{servedB}
-use Rattle.rigtests.specs.Laws.{served-law}
+use Rattle.rig_tables.specs.Tables.{servedB}
+use Rattle.rig_tables.specs.Laws.{served-law}
 use borrow.Author.Needs.{needs}
 use Rattle.rig.proofs.task_rules.Statement.{statement}
 use Rattle.rig.proofs.task_rules.Tie as tie

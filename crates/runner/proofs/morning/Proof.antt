@@ -1,7 +1,7 @@
 use Prim.Native.Nat.{_≤_}
 use native.Mathlib.Omega.{arith}
 use lib.ListN.{length, take, length-take}
-use Rattle.script.specs.InputLaws.{end-le}
+use Rattle.bench_script.specs.InputLaws.{end-le}
 use borrow.Author.Needs.{needs}
 use Rattle.runner.proofs.morning.Statement.{statement}
 use Rattle.runner.proofs.morning.Tie as tie

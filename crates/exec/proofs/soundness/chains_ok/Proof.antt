@@ -4,7 +4,7 @@ use borrow.Author.Tests.{not-true, not-false}
 use native.Mathlib.Omega.{arith}
 use Rattle.chains.specs.Held.{Sound}
 use Rattle.chains.specs.declared.Links.{Links}
-use Rattle.rings.specs.Post.{linksOf}
+use Rattle.sound_chains.specs.Post.{linksOf}
 use Rattle.exec.specs.Check.{order-facts, order-back}
 use borrow.Author.Needs.{needs}
 use Rattle.exec.proofs.soundness.chains_ok.Statement.{statement}

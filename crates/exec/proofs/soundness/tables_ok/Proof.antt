@@ -3,7 +3,7 @@ use mathlib.Core.Bool.{Bool}
 use mathlib.Core.List.{List}
 use borrow.Author.Tests.{not-true, not-false, lt-leb, le-leb}
 use Rattle.laws.specs.All.{allOf-not}
-use Rattle.tests.specs.Exact.{within-facts}
+use Rattle.sound_tables.specs.Exact.{within-facts}
 use Rattle.exec.specs.Check.{tableTestsOf, last-test}
 use borrow.Author.Needs.{needs}
 use Rattle.exec.proofs.soundness.tables_ok.Statement.{statement}

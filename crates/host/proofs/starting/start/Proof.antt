@@ -8,7 +8,7 @@ use Rattle.exec.proofs.start.Reads as start-reads
 use Rattle.host.proofs.calls.told.Reads as told-reads
 use Rattle.host.proofs.starting.refused.Reads as refused-reads
 use Rattle.rig.proofs.table_of.Reads as table-of-reads
-use Rattle.rigfile.proofs.read.Reads as read-reads
+use Rattle.rig_read.proofs.read.Reads as read-reads
 
 -- src/starting.rt:26:9
 read-requires : tie.Need-read-requires

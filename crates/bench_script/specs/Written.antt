@@ -1,0 +1,246 @@
+-- Laws of output lines as they are written, field after field.
+use Prim.Native.Nat.{ℕ, zero, suc, _+_, _*_, _/_, _%_, _≤_, _<_}
+use mathlib.Core.Path.{_≡_, refl, sym, ap, _∙_, subst}
+use mathlib.Core.Logic.{_⊎_, inl, ⊎-elim}
+use mathlib.Core.List.{List, [], _∷_, _++_, map, append-assoc, append-nil}
+use native.Mathlib.Omega.{arith}
+use native.Mathlib.Numerals.{add-one}
+use lib.Dec.{ltb}
+use lib.ListN.{length, getD, take, set, length-append, length-set, length-take, take-append-drop}
+use lib.Seq.{take-suc, take-all}
+use native.Mathlib.Nat.{add-zero}
+use Rattle.laws.specs.Cases.{by}
+use Rattle.laws.specs.Put.{put, put-one, put-put, length-put}
+use Rattle.decimal.specs.Decimal.{decBy, dec}
+use Rattle.text.specs.Split.{led}
+use Rattle.bench_script.specs.Output.{fieldsText, lineText, startName}
+
+length-take-most : (i : ℕ) (l : List ℕ) → length (take i l) ≤ i
+length-take-most i l = rw length-take (omega arith)
+
+put-nothing : (l : List ℕ) (at : ℕ) → put l at [] ≡ l
+unfolding put
+put-nothing l at = rw (add-zero, take-append-drop)
+
+decBy-length : (k n : ℕ) → length (decBy k n) ≤ suc k
+unfolding decBy
+decBy-length zero n = omega arith
+decBy-length (suc k) n =
+    by (ltb n 10)
+    (λ e. rw e (omega arith))
+    (λ e. rw (e, length-append (decBy k (n / 10)) ((48 + n % 10) ∷ [])) (omega (arith, decBy-length k (n / 10))))
+
+-- a decimal has at most ten digits
+pub dec-length : (n : ℕ) → length (dec n) ≤ 10
+unfolding dec
+dec-length n = decBy-length 9 n
+
+map-append : (a b : List ℕ) → map dec (a ++ b) ≡ map dec a ++ map dec b
+map-append [] b = refl
+map-append (x ∷ xs) b = ap (λ r. dec x ∷ r) (map-append xs b)
+
+led-append : (a b : List (List ℕ)) → led 9 (a ++ b) ≡ led 9 a ++ led 9 b
+unfolding led
+led-append [] b = refl
+led-append (p ∷ ps) b = rw (led-append ps b, append-assoc)
+
+pub fields-append : (a b : List ℕ) → fieldsText (a ++ b) ≡ fieldsText a ++ fieldsText b
+unfolding fieldsText
+fields-append a b = rw (map-append, led-append)
+
+pub fields-none : fieldsText [] ≡ []
+unfolding fieldsText led
+fields-none = refl
+
+pub fields-one : (n : ℕ) → fieldsText (n ∷ []) ≡ 9 ∷ dec n
+unfolding fieldsText led
+fields-one n = rw append-nil
+
+pub fields-length : (l : List ℕ) → length (fieldsText l) ≤ 11 * length l
+unfolding fieldsText led
+fields-length [] = omega arith
+fields-length (x ∷ xs) =
+    let e = length-append (dec x) (led 9 (map dec xs)) in
+    omega (arith, e, dec-length x, fields-length xs)
+
+-- the text t stands at `at` in l, which was m there before, and p is the place after it
+pub record Wrote (l : List ℕ) (at : ℕ) (t m : List ℕ) (p : ℕ) : Type 0 where
+  pub place : p ≡ at + length t
+  pub text : m ≡ put l at t
+  pub size : length m ≡ length l
+
+-- the statement fixes the result
+pub wrote-same : (l : List ℕ) (at : ℕ) (t m n : List ℕ) (p q : ℕ) → Wrote l at t m p → Wrote l at t n q → (m ≡ n) × (p ≡ q)
+wrote-same l at t m n p q a b = (a .text ∙ sym (b .text), a .place ∙ sym (b .place))
+
+-- a tab is written, then a number
+pub field-wrote : (l m : List ℕ) (at n p : ℕ) → at + 11 ≤ length l → p ≡ (at + 1) + length (dec n)
+    → m ≡ put (set l at 9) (at + 1) (dec n) → Wrote l at (fieldsText (n ∷ [])) m p
+field-wrote l m at n p h e q =
+    let k = fields-one n in
+    let j : length (fieldsText (n ∷ [])) ≡ suc (length (dec n)) = ap length k in
+    let d = dec-length n in
+    let o : set l at 9 ≡ put l at (9 ∷ []) = put-one l at 9 (omega arith) in
+    let t : m ≡ put l at (fieldsText (n ∷ [])) =
+    q ∙ ap (λ (x : List ℕ). put x (at + 1) (dec n)) o ∙ put-put l at (9 ∷ []) (dec n) (omega arith) ∙ ap (put l at) (sym k) in
+    record { place = omega arith; text = t; size = ap length t ∙ length-put l at (fieldsText (n ∷ [])) (omega arith) }
+
+-- one byte is written
+pub byte-wrote : (l : List ℕ) (at b : ℕ) → at < length l → Wrote l at (b ∷ []) (set l at b) (at + 1)
+byte-wrote l at b h = record { place = refl; text = put-one l at b h; size = length-set l at b }
+
+-- texts written one behind the other are written together
+pub wrote-then : (l m k a b : List ℕ) (at p q : ℕ) → at + length a + length b ≤ length l → Wrote l at a m p → Wrote m p b k q
+    → Wrote l at (a ++ b) k q
+wrote-then l m k a b at p q h u w =
+    let j = length-append a b in
+    let e = u .place in
+    let f = w .place in
+    record {
+      place = omega arith;
+      text =
+          w .text ∙ ap (λ (x : List ℕ). put x p b) (u .text) ∙ ap (λ (x : ℕ). put (put l at a) x b) (u .place)
+          ∙ put-put l at a b (omega arith);
+      size = w .size ∙ u .size;
+    }
+
+-- what was written is known by its text
+pub wrote-as : (l m a b : List ℕ) (at p : ℕ) → a ≡ b → Wrote l at a m p → Wrote l at b m p
+wrote-as l m a b at p e w = subst (λ (t : List ℕ). Wrote l at t m p) e w
+
+pub wrote-none : (l : List ℕ) (at : ℕ) → Wrote l at [] l at
+wrote-none l at = record { place = omega arith; text = sym (put-nothing l at); size = refl }
+
+-- ---- words, one field each
+
+pub record Listing (l : List ℕ) (at : ℕ) (ws m : List ℕ) (p i : ℕ) : Type 0 where
+  pub wrote : Wrote l at (fieldsText (take i ws)) m p
+  pub room : at + 11 * length ws ≤ length l
+
+module _ (l : List ℕ) (at : ℕ) (ws : List ℕ) where
+  pub listing-start : at + 11 * length ws ≤ length l → Listing l at ws l at 0
+  listing-start h = record { wrote = wrote-as l l [] (fieldsText []) at at (sym fields-none) (wrote-none l at); room = h }
+
+  module _ (m : List ℕ) (p i : ℕ) (w : Listing l at ws m p i) (h : i < length ws) where
+    far : p + 11 ≤ at + 11 * length ws
+    far =
+        let a = fields-length (take i ws) in
+        let b : length (take i ws) ≤ i = length-take-most i ws in
+        let c = w .wrote .place in
+        omega arith
+
+    pub listing-room : p + 11 ≤ length m
+    listing-room = let a = far in let b = w .wrote .size in let c = w .room in omega arith
+
+    pub listing-step : (k : List ℕ) (q : ℕ) → Wrote m p (fieldsText (getD ws i 0 ∷ [])) k q → Listing l at ws k q (i + 1)
+    listing-step k q u =
+        let e : fieldsText (take i ws) ++ fieldsText (getD ws i 0 ∷ []) ≡ fieldsText (take (i + 1) ws) =
+        sym (fields-append (take i ws) (getD ws i 0 ∷ [])) ∙ ap fieldsText (sym (rw add-one (take-suc ws i 0 h))) in
+        let a = far in
+        let b = fields-length (getD ws i 0 ∷ []) in
+        let c = w .wrote .place in
+        let r = w .room in
+        record {
+          wrote =
+              wrote-as l k (fieldsText (take i ws) ++ fieldsText (getD ws i 0 ∷ [])) (fieldsText (take (i + 1) ws)) at q e
+              (wrote-then l m k (fieldsText (take i ws)) (fieldsText (getD ws i 0 ∷ [])) at p q (omega arith) (w .wrote) u);
+          room = w .room;
+        }
+
+  pub listing-end : (m : List ℕ) (p i : ℕ) → Listing l at ws m p i → length ws ≤ i → Wrote l at (fieldsText ws) m p
+  listing-end m p i w h = wrote-as l m (fieldsText (take i ws)) (fieldsText ws) at p (ap fieldsText (take-all i ws h)) (w .wrote)
+
+-- ---- three fields
+
+module _ (l : List ℕ) (at a : ℕ) (h : at + 33 ≤ length l) (m : List ℕ) (p : ℕ) (u : Wrote l at (fieldsText (a ∷ [])) m p) where
+  pub second-room : p + 11 ≤ length m
+  second-room = let f = fields-length (a ∷ []) in let e = u .place in let s = u .size in omega arith
+
+  module _ (b : ℕ) (n : List ℕ) (q : ℕ) (v : Wrote m p (fieldsText (b ∷ [])) n q) where
+    two-wrote : Wrote l at (fieldsText (a ∷ b ∷ [])) n q
+    two-wrote =
+        let f = fields-length (a ∷ []) in
+        let g = fields-length (b ∷ []) in
+        wrote-as l n (fieldsText (a ∷ []) ++ fieldsText (b ∷ [])) (fieldsText (a ∷ b ∷ [])) at q (sym (fields-append (a ∷ []) (b ∷ [])))
+        (wrote-then l m n (fieldsText (a ∷ [])) (fieldsText (b ∷ [])) at p q (omega arith) u v)
+
+    pub third-room : q + 11 ≤ length n
+    third-room =
+        let f = fields-length (a ∷ b ∷ []) in
+        let e = two-wrote .place in
+        let s = two-wrote .size in
+        omega arith
+
+    pub three-wrote : (c : ℕ) (o : List ℕ) (r : ℕ) → Wrote n q (fieldsText (c ∷ [])) o r → Wrote l at (fieldsText (a ∷ b ∷ c ∷ [])) o r
+    three-wrote c o r w =
+        let f = fields-length (a ∷ b ∷ []) in
+        let g = fields-length (c ∷ []) in
+        wrote-as l o (fieldsText (a ∷ b ∷ []) ++ fieldsText (c ∷ [])) (fieldsText (a ∷ b ∷ c ∷ [])) at r (sym (fields-append (a ∷ b ∷ []) (c ∷ [])))
+        (wrote-then l n o (fieldsText (a ∷ b ∷ [])) (fieldsText (c ∷ [])) at q r (omega arith) two-wrote w)
+
+-- ---- the first output line
+
+-- the line START with these numbers stands at the front, if there is room for it
+pub record Begun (out numbers after : List ℕ) (p : ℕ) : Type 0 where
+  pub is : ((64 ≤ length out) × Wrote out 0 (lineText startName numbers) after p) ⊎ ((length out < 64) × (after ≡ out) × (p ≡ 0))
+
+pub begun-same : (out numbers m n : List ℕ) (p q : ℕ) → Begun out numbers m p → Begun out numbers n q → (m ≡ n) × (p ≡ q)
+begun-same out numbers m n p q a b =
+    ⊎-elim
+    (λ x. ⊎-elim (λ y. wrote-same out 0 (lineText startName numbers) m n p q (x .1) (y .1)) (λ y. absurd (omega (arith, x .0, y .0))) (b .is))
+    (λ x. ⊎-elim (λ y. absurd (omega (arith, x .0, y .0))) (λ y. (x .1 ∙ sym (y .1), x .2 ∙ sym (y .2))) (b .is))
+    (a .is)
+
+name-is : (l : List ℕ) → 5 ≤ length l → set (set (set (set (set l 0 83) 1 84) 2 65) 3 82) 4 84 ≡ put l 0 startName
+unfolding put
+name-is [] h = absurd (let z : ⊥ = omega arith in z)
+name-is (a ∷ []) h = absurd (let z : ⊥ = omega arith in z)
+name-is (a ∷ b ∷ []) h = absurd (let z : ⊥ = omega arith in z)
+name-is (a ∷ b ∷ c ∷ []) h = absurd (let z : ⊥ = omega arith in z)
+name-is (a ∷ b ∷ c ∷ d ∷ []) h = absurd (let z : ⊥ = omega arith in z)
+name-is (a ∷ b ∷ c ∷ d ∷ e ∷ l) h = refl
+
+pub set-lengths : (l : List ℕ)
+    → (length (set (set l 0 83) 1 84) ≡ length l) × (length (set (set (set l 0 83) 1 84) 2 65) ≡ length l) × (length (set (set (set (set l 0 83) 1 84) 2 65) 3 82) ≡ length l)
+set-lengths l = (simp length-set, simp length-set, simp length-set)
+
+pub name-wrote : (l : List ℕ) → 5 ≤ length l → Wrote l 0 startName (set (set (set (set (set l 0 83) 1 84) 2 65) 3 82) 4 84) 5
+name-wrote l h =
+    record { place = refl; text = name-is l h; size = ap length (name-is l h) ∙ length-put l 0 startName (omega arith) }
+
+module _ (out numbers m o : List ℕ) (p : ℕ) (h : 64 ≤ length out) (few : length numbers ≤ 3) (n : Wrote out 0 startName m 5) (w : Wrote m 5 (fieldsText numbers) o p) where
+  named : Wrote out 0 (startName ++ fieldsText numbers) o p
+  named =
+      let f = fields-length numbers in
+      wrote-then out m o startName (fieldsText numbers) 0 5 p (omega arith) n w
+
+  pub begun-room : p < length o
+  begun-room =
+      let f = fields-length numbers in
+      let a = w .place in
+      let b = w .size in
+      let c = n .size in
+      omega arith
+
+  pub begun-done : Begun out numbers (set o p 10) (p + 1)
+  unfolding lineText
+  begun-done =
+      let f = fields-length numbers in
+      let a = named .place in
+      let l = length-append startName (fieldsText numbers) in
+      record {
+        is = inl (
+          h,
+          wrote-as out (set o p 10) ((startName ++ fieldsText numbers) ++ (10 ∷ [])) (lineText startName numbers) 0 (p + 1)
+              (append-assoc startName (fieldsText numbers) (10 ∷ []))
+              (wrote-then out o (set o p 10) (startName ++ fieldsText numbers) (10 ∷ []) 0 p (p + 1) (omega arith) named (byte-wrote o p 10 begun-room)),
+        );
+      }
+
+pub two-fields-wrote : (l m o : List ℕ) (at a b p q : ℕ) → at + 22 ≤ length l → Wrote l at (fieldsText (a ∷ [])) m p → Wrote m p (fieldsText (b ∷ [])) o q
+    → Wrote l at (fieldsText (a ∷ b ∷ [])) o q
+two-fields-wrote l m o at a b p q h u v =
+    let f = fields-length (a ∷ []) in
+    let g = fields-length (b ∷ []) in
+    wrote-as l o (fieldsText (a ∷ []) ++ fieldsText (b ∷ [])) (fieldsText (a ∷ b ∷ [])) at q (sym (fields-append (a ∷ []) (b ∷ [])))
+    (wrote-then l m o (fieldsText (a ∷ [])) (fieldsText (b ∷ [])) at p q (omega arith) u v)

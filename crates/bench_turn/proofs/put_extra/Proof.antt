@@ -1,0 +1,63 @@
+use native.Mathlib.Omega.{arith}
+use lib.ListN.{length-take}
+use Rattle.bench_turn.specs.TurnLaws.{extra-words, extra-value, extra-nothing}
+use borrow.Author.Needs.{needs}
+use Rattle.bench_turn.proofs.put_extra.Statement.{statement}
+use Rattle.bench_turn.proofs.put_extra.Tie as tie
+
+least-requires : tie.Need-least-requires
+least-requires c κs = search needs
+
+slice-aggregate-put-words : tie.Need-slice-aggregate-put-words
+slice-aggregate-put-words c =
+    let e = c .before .before .least .ensures in
+    let l = length-take (c .before .before .least .result) (c .before .before .before .before .before .before .args .words .now) in
+    omega arith
+
+put-words-requires : tie.Need-put-words-requires
+put-words-requires c κs =
+    let e = c .before .before .least .ensures in
+    let l = length-take (c .before .before .least .result) (c .before .before .before .before .before .before .args .words .now) in
+    let p = c .before .before .before .before .before .before .pre .0 in
+    let q = c .before .before .before .before .before .before .pre .1 in
+    omega arith
+
+same-length : tie.Need-same-length
+same-length c = search needs
+
+returns : tie.Need-returns
+returns c =
+    let s = c .before .before .before .before .before .before .before .before .before in
+    let w = c .before .before .put-words in
+    extra-words (s .args .verb) (s .args .report) (s .args .words .now) (s .args .out .now) (w .last .0) (s .args .at) (w .result) (c .before .before .before .before .before .before .if1 .taken) (c .before .before .before .before .before .least .result) (c .before .before .before .before .before .least .ensures) (w .ensures)
+
+put-field-requires : tie.Need-put-field-requires
+put-field-requires c κs = search needs
+
+same-length-2 : tie.Need-same-length-2
+same-length-2 c = search needs
+
+returns-2 : tie.Need-returns-2
+returns-2 c =
+    let s = c .before .before .before .before .before .before .before .before in
+    let w = c .before .before .put-field in
+    extra-value (s .args .verb) (s .args .report) (s .args .words .now) (s .args .out .now) (w .last .0) (s .args .at) (w .result) (c .before .before .before .before .before .if1 .left) (c .before .before .before .before .if2 .taken) (w .ensures)
+
+returns-3 : tie.Need-returns-3
+returns-3 c =
+    let s = c .before .before .before .before in
+    extra-nothing (s .args .verb) (s .args .report) (s .args .words .now) (s .args .out .now) (s .args .at) (c .before .if1 .left) (c .if2 .left)
+
+pub put-extra-spec : {M : Type 1} → statement M
+put-extra-spec =
+    tie.close
+    (tie.spec
+    least-requires
+    slice-aggregate-put-words
+    put-words-requires
+    same-length
+    returns
+    put-field-requires
+    same-length-2
+    returns-2
+    returns-3)

@@ -1,0 +1,95 @@
+use mathlib.Core.Path.{refl, sym, _∙_, subst}
+use mathlib.Core.Logic.{inl, inr}
+use Prim.Native.Nat.{ℕ}
+use native.Mathlib.Omega.{arith}
+use Rattle.bench_script.specs.declared.Said.{Said}
+use Rattle.bench_script.specs.Written.{Wrote}
+use Rattle.bench_turn.specs.Turn.{Takes, letterOf, askedBy, answerText}
+use Rattle.bench_turn.specs.TurnLaws.{answered, unasked}
+use borrow.Author.Needs.{needs}
+use Rattle.bench_turn.proofs.take_line.Statement.{statement}
+use Rattle.bench_turn.proofs.take_line.Tie as tie
+
+returns : tie.Need-returns
+returns c = record { is = inr (omega arith, refl, refl) }
+
+returns-2 : tie.Need-returns-2
+returns-2 c = record { is = inr (omega (arith, c .if2 .taken), refl, refl) }
+
+read-line-requires : tie.Need-read-line-requires
+read-line-requires c κs = search needs
+
+letter-requires : tie.Need-letter-requires
+letter-requires c κs = search needs
+
+wrong-requires : tie.Need-wrong-requires
+wrong-requires c κs = search needs
+
+same-length : tie.Need-same-length
+same-length c = search needs
+
+returns-3 : tie.Need-returns-3
+returns-3 c =
+    let s = c .before .before .before .before .before .before .before .before .before .before .before .before .args in
+    let w = c .before .before .wrong in
+    let said = c .before .before .before .before .before .before .read-line in
+    record {
+      is = inl (
+        omega (arith, c .before .before .before .before .before .before .before .before .if1 .left, c .before .before .before .before .before .before .before .if2 .left),
+        subst (λ (x : Said). Takes (s .e) (letterOf x) (askedBy x) (s .out .now) (s .at) (record { st = s .e .st; at = w .result }) (w .last .0)) (said .ensures)
+            (unasked (s .e) (said .result) (s .out .now) (s .at) (w .result) (w .last .0) (sym (c .before .before .before .before .before .letter .ensures) ∙ c .before .before .before .before .if3 .taken) (w .ensures)),
+      );
+    }
+
+slice-aggregate-ask : tie.Need-slice-aggregate-ask
+slice-aggregate-ask c = search needs
+
+ask-requires : tie.Need-ask-requires
+ask-requires c κs = search needs
+
+cast-show : tie.Need-cast-show
+cast-show c = search needs
+
+slice-aggregate-show : tie.Need-slice-aggregate-show
+slice-aggregate-show c = search needs
+
+show-requires : tie.Need-show-requires
+show-requires c κs = search needs
+
+same-length-2 : tie.Need-same-length-2
+same-length-2 c = search needs
+
+returns-4 : tie.Need-returns-4
+returns-4 c =
+    let s = c .before .before .before .before .before .before .before .before .before .before .before .before .before .before .before .before .before .before .before .args in
+    let k = c .before .before .before .before .before .before .before .before .before .ask in
+    let w = c .before .before .show in
+    let said = c .before .before .before .before .before .before .before .before .before .before .before .before .before .read-line in
+    let v = c .before .before .before .before .before .before .before .before .before .before .before .before .letter .ensures in
+    let wrote = subst (λ (n : ℕ). Wrote (s .out .now) (s .at) (answerText n (k .result) (k .last .1 .1 .0)) (w .last .1 .1 .1 .1 .1 .0) (w .result)) v (w .ensures) in
+    record {
+      is = inl (
+        omega (arith, c .before .before .before .before .before .before .before .before .before .before .before .before .before .before .before .if1 .left, c .before .before .before .before .before .before .before .before .before .before .before .before .before .before .if2 .left),
+        subst (λ (x : Said). Takes (s .e) (letterOf x) (askedBy x) (s .out .now) (s .at) (record { st = k .result .exec .st; at = w .result }) (w .last .1 .1 .1 .1 .1 .0)) (said .ensures)
+            (answered (s .e) (k .result) (k .last .1 .1 .0) (s .out .now) (s .at) (w .result) (w .last .1 .1 .1 .1 .1 .0) (said .result) (λ q. c .before .before .before .before .before .before .before .before .before .before .before .if3 .left (v ∙ q)) (k .ensures) wrote),
+      );
+    }
+
+pub take-line-spec : {M : Type 1} → statement M
+take-line-spec =
+    tie.close
+    (tie.spec
+    returns
+    returns-2
+    read-line-requires
+    letter-requires
+    wrong-requires
+    same-length
+    returns-3
+    slice-aggregate-ask
+    ask-requires
+    cast-show
+    slice-aggregate-show
+    show-requires
+    same-length-2
+    returns-4)

@@ -1,0 +1,133 @@
+-- What each call does before its queue is served.
+use mathlib.Core.Path.{_≡_, refl, sym, _∙_, ap}
+use mathlib.Core.Bool.{true, false, cond}
+use mathlib.Core.List.{List, []}
+use Prim.Native.Nat.{ℕ, _+_, _%_}
+use native.Mathlib.Omega.{arith}
+use native.Mathlib.Numerals.{add-one}
+use lib.ListN.{set, replicate}
+use Rattle.laws.specs.Cases.{if-yes, if-no}
+use Rattle.chains.specs.Held.{at, Empty}
+use Rattle.chains.specs.Read.{chainsOf, held-chains}
+use Rattle.chains.specs.declared.Links.{Links}
+use Rattle.exec_tables.specs.Post.{Left, Deserted, Pushed}
+use Rattle.exec_tables.specs.View.{entriesOf, minorOf}
+use Rattle.exec_tables.specs.declared.Queue.{Queue}
+use Rattle.rig.specs.declared.Cycle.{Cycle}
+use Rattle.rig.specs.declared.Rig.{Rig}
+use Rattle.rules.specs.State as S
+use Rattle.rules.specs.State.{Entry, withTables, withChains, withCount, blank}
+use Rattle.rules.specs.Conditions.{relax, met}
+use Rattle.rules.specs.Serving.{push, activate}
+use Rattle.rules.specs.Waiting.{wakeDue}
+use Rattle.rules.specs.Family.{family, cleared, deserted, offs}
+use Rattle.rules.specs.Calls.{scheduled, finished, terminated, cancelled, ticked, cycleQueue}
+use Rattle.exec_state.specs.View.{rigOf, viewOf, workOf}
+use Rattle.exec_state.specs.Set.{putState, putLinks, putRunning, putCond, putCount}
+use Rattle.exec_state.specs.Post.{Finished, Terminated, Cancelled, Scheduled, Ticked, Timed, TickOk, WokenDue, Blank}
+use Rattle.exec_state.specs.declared.State.{State}
+use Rattle.exec_state.specs.declared.Work.{Work}
+
+-- what one push onto an empty queue makes
+pub pushed-one : (q p : Queue) (f v : ℕ) → entriesOf q ≡ [] → Pushed q f v p → entriesOf p ≡ push f v []
+pushed-one q p f v e m = m .is ∙ ap (push f v) e
+
+pub finished-is : (s : State) (g : Rig) (q : Queue) → entriesOf q ≡ push (at (g .activation) (s .running)) 0 []
+    → Finished s g (record { st = putRunning (putState s (set (s .state) (s .running) 1)) 0; queue = q })
+unfolding finished
+finished-is s g q e =
+    record {
+      is = λ cycles. ap (λ (x : List Entry). record { now = viewOf (putRunning (putState s (set (s .state) (s .running) 1)) 0); queue = x }) e;
+      links = refl;
+    }
+
+pub terminated-is : (s : State) (g : Rig) (t : ℕ) (q : Queue) → entriesOf q ≡ push (at (g .activation) t) 0 [] → (l : Links) → Left (s .links) t l
+    → Terminated s g t (record { st = putLinks (putState s (set (s .state) t 1)) l; queue = q })
+unfolding terminated
+terminated-is s g t q e l m =
+    record {
+      is = λ cycles.
+          ap (λ (x : List Entry). record { now = viewOf (putLinks (putState s (set (s .state) t 1)) l); queue = x }) e
+          ∙ ap (λ (X : ℕ → List ℕ). record { now = withChains (viewOf s) (set (s .state) t 1) X; queue = push (at (g .activation) t) 0 [] }) (m .is);
+      sound = m .sound;
+    }
+
+pub cancelled-is : (s : State) (g : Rig) (t : ℕ) (marks : List ℕ) → marks ≡ family (at (g .controller)) t → (q : Queue)
+    → entriesOf q ≡ offs (at (g .activation)) marks (s .state) → (l : Links) → Deserted (s .links) marks l → (states : List ℕ)
+    → states ≡ cleared marks (s .state) → Cancelled s g t (record { st = putLinks (putState s states) l; queue = q })
+unfolding cancelled
+cancelled-is s g t marks k q e l m states c =
+    record {
+      is = λ cycles.
+          ap (λ (x : List Entry). record { now = viewOf (putLinks (putState s states) l); queue = x }) e
+          ∙ ap (λ (X : ℕ → List ℕ). record { now = withChains (viewOf s) states X; queue = offs (at (g .activation)) marks (s .state) }) (m .is)
+          ∙ ap (λ (x : List ℕ). record { now = withChains (viewOf s) x (deserted marks (chainsOf (s .links))); queue = offs (at (g .activation)) marks (s .state) }) c
+          ∙ ap (λ (x : List ℕ). record { now = withChains (viewOf s) (cleared x (s .state)) (deserted x (chainsOf (s .links))); queue = offs (at (g .activation)) x (s .state) }) k;
+      sound = m .sound;
+    }
+
+-- ---- schedule
+
+module _ (s : State) (g : Rig) (t : ℕ) (conds : List ℕ) (e : conds ≡ relax (at (g .present)) (at (g .latched)) (at (g .desired)) t (s .cond))
+    (none : Queue) (z : entriesOf none ≡ []) where
+  abbrev now : State
+  now = putState (putCond s conds) (set (s .state) t 1)
+
+  begun : (cycles : List Cycle) → S.Work
+  begun cycles = record { now = withTables (viewOf s) (relax (at (g .present)) (at (g .latched)) (at (g .desired)) t (s .cond)) (set (s .state) t 1); queue = [] }
+
+  begun-is : (cycles : List Cycle) → workOf now none ≡ begun cycles
+  unfolding begun
+  begun-is cycles =
+      ap (λ (x : List Entry). record { now = viewOf now; queue = x }) z
+      ∙ ap (λ (x : List ℕ). record { now = withTables (viewOf s) x (set (s .state) t 1); queue = [] }) e
+
+  pub scheduled-no : met (at (g .present)) (at (g .desired)) t conds ≡ false → Scheduled s g t (record { st = now; queue = none })
+  unfolding scheduled begun
+  scheduled-no n =
+      record { is = λ cycles. begun-is cycles ∙ sym (if-no _ (ap (met (at (g .present)) (at (g .desired)) t) (sym e) ∙ n) refl); links = refl }
+
+  pub scheduled-yes : met (at (g .present)) (at (g .desired)) t conds ≡ true → (q : Queue) → Pushed none (at (g .activation) t) 1 q → (c : List ℕ)
+      → c ≡ relax (at (g .present)) (at (g .latched)) (at (g .desired)) t conds
+      → Scheduled s g t (record { st = putCond (putState now (set (now .state) t 3)) c; queue = q })
+  unfolding scheduled activate begun
+  scheduled-yes y q m c r =
+      record {
+        is = λ cycles.
+            ap (λ (x : List Entry). record { now = viewOf (putCond (putState now (set (now .state) t 3)) c); queue = x }) (m .is)
+            ∙ ap (λ (x : List ℕ). record { now = viewOf (putCond (putState now (set (now .state) t 3)) x); queue = push (at (g .activation) t) 1 (entriesOf none) }) r
+            ∙ ap (activate (rigOf g cycles) t) (begun-is cycles)
+            ∙ sym (if-yes _ (ap (met (at (g .present)) (at (g .desired)) t) (sym e) ∙ y) refl);
+        links = refl;
+      }
+
+-- ---- tick
+
+pub risen : (s : State) → TickOk s → Timed (putCount s (s .count + 1))
+risen s k = record { ordered = k .ordered; due = λ t i. omega (arith, k .ahead t i) }
+
+pub ticked-is : (s : State) (cycles : List Cycle) (q : Queue) → entriesOf q ≡ cycleQueue (minorOf cycles ((s .count + 1) % 64)) → (r : State)
+    → WokenDue (putCount s (s .count + 1)) r → Ticked s cycles (record { st = r; queue = q })
+unfolding ticked
+ticked-is s cycles q e r w =
+    record {
+      is = λ g.
+          ap (λ (x : List Entry). record { now = viewOf r; queue = x }) e
+          ∙ ap (λ (x : S.State). record { now = x; queue = cycleQueue (minorOf cycles ((s .count + 1) % 64)) }) (w .is)
+          ∙ ap (λ (n : ℕ). record { now = wakeDue (withCount (viewOf s) n); queue = cycleQueue (minorOf cycles (n % 64)) }) (add-one (s .count));
+      sound = w .sound;
+    }
+
+-- ---- the blank state
+
+pub blank-is : (l : Links) → Empty l
+    → Blank (record { count = 0; value = replicate 129 0; cond = replicate 1040 0; state = replicate 65 0; wake = replicate 65 0; links = l; running = 0 })
+unfolding blank
+blank-is l h =
+    record {
+      is = ap
+          (λ (X : ℕ → List ℕ).
+          record { count = 0; flags = replicate 129 0; conds = replicate 1040 0; states = replicate 65 0; wakes = replicate 65 0; chains = X; running = 0 })
+          (held-chains l (λ (s : ℕ). []) h (λ s e. refl));
+      sound = ((λ (s : ℕ). []), h);
+    }

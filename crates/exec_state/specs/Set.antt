@@ -1,0 +1,93 @@
+-- A state with one field changed, and a rig with the tables that the code looks at.
+use mathlib.Core.List.{List}
+use Prim.Native.Nat.{ℕ}
+use Rattle.chains.specs.declared.Links.{Links}
+use Rattle.rig.specs.declared.Rig.{Rig}
+use Rattle.exec_state.specs.declared.State.{State}
+
+abbrev pub putCount : State → ℕ → State
+putCount s v = record { count = v; value = s .value; cond = s .cond; state = s .state; wake = s .wake; links = s .links; running = s .running }
+
+abbrev pub putValue : State → List ℕ → State
+putValue s v = record { count = s .count; value = v; cond = s .cond; state = s .state; wake = s .wake; links = s .links; running = s .running }
+
+abbrev pub putCond : State → List ℕ → State
+putCond s v = record { count = s .count; value = s .value; cond = v; state = s .state; wake = s .wake; links = s .links; running = s .running }
+
+abbrev pub putState : State → List ℕ → State
+putState s v = record { count = s .count; value = s .value; cond = s .cond; state = v; wake = s .wake; links = s .links; running = s .running }
+
+abbrev pub putWake : State → List ℕ → State
+putWake s v = record { count = s .count; value = s .value; cond = s .cond; state = s .state; wake = v; links = s .links; running = s .running }
+
+abbrev pub putLinks : State → Links → State
+putLinks s v = record { count = s .count; value = s .value; cond = s .cond; state = s .state; wake = s .wake; links = v; running = s .running }
+
+abbrev pub putRunning : State → ℕ → State
+putRunning s v = record { count = s .count; value = s .value; cond = s .cond; state = s .state; wake = s .wake; links = s .links; running = v }
+
+-- what offering looks at
+abbrev pub withTables : List ℕ → List ℕ → List ℕ → List ℕ → List ℕ → List ℕ → ℕ → Rig → Rig
+withTables present latched desired lineTask lineFlag activation n g =
+    record {
+      tasks = g .tasks;
+      flags = g .flags;
+      master = g .master;
+      lines = n;
+      rows = g .rows;
+      controller = g .controller;
+      priority = g .priority;
+      privileged = g .privileged;
+      activation = activation;
+      present = present;
+      latched = latched;
+      desired = desired;
+      lineTask = lineTask;
+      linePos = g .linePos;
+      lineFlag = lineFlag;
+      row = g .row;
+    }
+
+-- what serving looks at besides: the positions of the A lines
+abbrev pub withPlaces : List ℕ → Rig → Rig
+withPlaces linePos g =
+    record {
+      tasks = g .tasks;
+      flags = g .flags;
+      master = g .master;
+      lines = g .lines;
+      rows = g .rows;
+      controller = g .controller;
+      priority = g .priority;
+      privileged = g .privileged;
+      activation = g .activation;
+      present = g .present;
+      latched = g .latched;
+      desired = g .desired;
+      lineTask = g .lineTask;
+      linePos = linePos;
+      lineFlag = g .lineFlag;
+      row = g .row;
+    }
+
+-- what the dispatch looks at
+abbrev pub withRanks : List ℕ → List ℕ → Rig → Rig
+withRanks privileged priority g =
+    record {
+      tasks = g .tasks;
+      flags = g .flags;
+      master = g .master;
+      lines = g .lines;
+      rows = g .rows;
+      controller = g .controller;
+      priority = priority;
+      privileged = privileged;
+      activation = g .activation;
+      present = g .present;
+      latched = g .latched;
+      desired = g .desired;
+      lineTask = g .lineTask;
+      linePos = g .linePos;
+      lineFlag = g .lineFlag;
+      row = g .row;
+    }

@@ -1,0 +1,188 @@
+// The loops of the soundness check: each over single tables, with the test that it computes as its contract.
+ghost use mathlib.Core.Path.{_≡_};
+ghost use mathlib.Core.Bool.{not, cond, _||_};
+ghost use Prim.Native.Nat.{ℕ, _<_, _≤_};
+ghost use lib.Dec.{eqb};
+ghost use lib.ListN.{length, getD};
+ghost use Rattle.laws.specs.All.{all, since};
+ghost use Rattle.rules.specs.State.{active};
+ghost use Rattle.rules.specs.Calls.{noSuch};
+ghost use Rattle.rules.specs.Soundness.{Within};
+ghost use Rattle.sound_tables.specs.Tests.{withinB, emptyB, condsB, treeB, waitsB, flagsB};
+ghost use Rattle.sound_tables.specs.Passes.{cap, After};
+
+// Whether n is none of the numbers 1 to many.
+pub fn no_such(many: usize, n: usize) -> bool
+    ensures { λ r. ⌜ r ≡ noSuch many n ⌝ }
+{
+    if n == 0 {
+        return true;
+    }
+    many < n
+}
+
+// The entries from one place up to another are at most top. The loop keeps the largest: so it compares many at once.
+fn at_most(table: &[u8], from: usize, to: usize, top: u8) -> bool
+    requires { ⌜ to ≤ length (now table) ⌝ }
+    ensures { λ r. ⌜ r ≡ all to (since from (cap top (now (table .entry)))) ⌝ }
+{
+    let mut most: u8 = 0;
+    let mut i = from;
+    while i < to {
+        let x = table[i];
+        if most < x {
+            most = x;
+        }
+        i = i + 1;
+    }
+    most <= top
+}
+
+// The place after the last of 0 to many, in a table of a size.
+fn after(many: usize, size: usize) -> usize
+    ensures { λ r. ⌜ After many size r ⌝ }
+{
+    if many < size { many + 1 } else { size }
+}
+
+// The entries of 1 to many are at most top, the others 0.
+pub fn within(table: &[u8], many: usize, top: u8) -> bool
+    ensures { λ r. ⌜ r ≡ withinB (now (table .entry)) many top ⌝ }
+{
+    let size = table.len();
+    let first = after(0, size);
+    let end = after(many, size);
+    if !at_most(table, 0, first, 0) {
+        return false;
+    }
+    if !at_most(table, first, end, top) {
+        return false;
+    }
+    at_most(table, end, size, 0)
+}
+
+// The entries of other numbers than 1 to many are 0. The loop marks what fails and goes on, as in conds.
+pub fn empty(table: &[u32; 65], many: usize) -> bool
+    ensures { λ r. ⌜ r ≡ emptyB (now (table .entry)) many ⌝ }
+{
+    let first = after(many, 65);
+    if table[0] != 0 {
+        return false;
+    }
+    let mut bad: u32 = 0;
+    let mut i = first;
+    while i < 65 {
+        if table[i] != 0 {
+            bad = 1;
+        }
+        i = i + 1;
+    }
+    bad == 0
+}
+
+// The largest value of a condition.
+fn allowed(present: u8) -> u8
+    ensures { λ r. ⌜ r ≡ cond (eqb present 1) 1 0 ⌝ }
+{
+    if present == 1 { 1 } else { 0 }
+}
+
+// A condition has the value 0 or 1, and one that is not there 0. The loop marks what fails and goes on: one that does not
+// leave early tests many entries at once.
+pub fn conds<'a>(present: &'a [u8; 1040], conds: &'a [u8; 1040]) -> bool
+    ensures { λ r. ⌜ r ≡ condsB (now (present .entry)) (now (conds .entry)) ⌝ }
+{
+    let mut bad: u8 = 0;
+    let mut i: usize = 0;
+    while i < 1040 {
+        if allowed(present[i]) < conds[i] {
+            bad = 1;
+        }
+        i = i + 1;
+    }
+    bad == 0
+}
+
+fn tree_ok(t: usize, state: u8, above: u8) -> bool
+    ensures { λ r. ⌜ r ≡ (eqb t 1 || (eqb state 0 || not (eqb above 0))) ⌝ }
+{
+    if t == 1 {
+        return true;
+    }
+    if state == 0 {
+        return true;
+    }
+    above != 0
+}
+
+// Each invoked task but task 1 has an invoked controller. Beyond the last task none is invoked.
+pub fn tree<'a>(controller: &'a [u8; 65], states: &'a [u8; 65], many: usize) -> bool
+    requires { ⌜ ((t : ℕ) → t < 65 → getD (now controller) t 0 < 65) × (Within many (now states) × (many ≤ 64)) ⌝ }
+    ensures { λ r. ⌜ r ≡ treeB (now (controller .entry)) (now (states .entry)) ⌝ }
+{
+    let mut t: usize = 0;
+    while t <= many {
+        let c = controller[t] as usize;
+        if !tree_ok(t, states[t], states[c]) {
+            return false;
+        }
+        t = t + 1;
+    }
+    true
+}
+
+fn wait_ok(state: u8, on: u16) -> bool
+    ensures { λ r. ⌜ r ≡ cond (eqb state 2) (not (eqb on 0)) (eqb on 0) ⌝ }
+{
+    if state == 2 { on != 0 } else { on == 0 }
+}
+
+// Who is waiting is in a chain, and no other is.
+pub fn waits<'a>(states: &'a [u8; 65], on: &'a [u16; 65]) -> bool
+    ensures { λ r. ⌜ r ≡ waitsB (now (states .entry)) (now (on .entry)) ⌝ }
+{
+    let mut t: usize = 0;
+    while t < 65 {
+        if !wait_ok(states[t], on[t]) {
+            return false;
+        }
+        t = t + 1;
+    }
+    true
+}
+
+fn active_of(state: u8) -> u8
+    ensures { λ r. ⌜ r ≡ active state ⌝ }
+{
+    if state < 2 { 0 } else { 1 }
+}
+
+fn flag_ok(activation: u8, value: u8, state: u8) -> bool
+    ensures { λ r. ⌜ r ≡ (eqb activation 0 || eqb value (active state)) ⌝ }
+{
+    if activation == 0 {
+        return true;
+    }
+    value == active_of(state)
+}
+
+// An activation flag is on exactly when its task is active. Beyond the last task none has one.
+pub fn flags<'a>(
+    activation: &'a [u8; 65],
+    states: &'a [u8; 65],
+    values: &'a [u8; 129],
+    many: usize,
+) -> bool
+    requires { ⌜ ((t : ℕ) → t < 65 → getD (now activation) t 0 < 129) × (Within many (now activation) × (many ≤ 64)) ⌝ }
+    ensures { λ r. ⌜ r ≡ flagsB (now (activation .entry)) (now (states .entry)) (now (values .entry)) ⌝ }
+{
+    let mut t: usize = 0;
+    while t <= many {
+        let f = activation[t] as usize;
+        if !flag_ok(activation[t], values[f], states[t]) {
+            return false;
+        }
+        t = t + 1;
+    }
+    true
+}
