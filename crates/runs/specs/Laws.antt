@@ -19,15 +19,15 @@ use Rattle.rules.specs.State.{timeChain}
 use Rattle.rules.specs.Calls as R
 use Rattle.rules.specs.Calls.{tick, waitUntil, waitFor, refusal}
 use Rattle.rules.specs.Proper.{ProperRun}
-use Rattle.rules.specs.Refusals.{code-is, refused-unchanged}
-use Rattle.rules.specs.Bound.{served-79, start-served}
-use Rattle.rules.specs.Demand.{flag-on, waits-in-one}
+use Rattle.rules_laws.specs.Refusals.{code-is, refused-unchanged}
+use Rattle.rules_laws.specs.Bound.{served-79, start-served}
+use Rattle.rules_laws.specs.Demand.{flag-on, waits-in-one}
 use Rattle.rules.specs.History.{History, untilCount, begins, notedIf, history, never, historyOf, InOrder}
 use Rattle.rules.specs.History as H
-use Rattle.rules.specs.InOrder.{chains-in-order}
+use Rattle.rules_laws.specs.InOrder.{chains-in-order}
 use Rattle.rules.specs.Waking.{Struck, Spared}
 use Rattle.rules.specs.Waking as W
-use Rattle.rules.specs.WakingLaws as WL
+use Rattle.rules_laws.specs.WakingLaws as WL
 use Rattle.exec_state.specs.View.{rigOf}
 use Rattle.exec.specs.Sound.{rigIn, view, Sound}
 use Rattle.exec.specs.Call.{Follows, Meets, answerOf, refuse}
