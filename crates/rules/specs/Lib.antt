@@ -12,6 +12,7 @@ pub mod ACaseForEachRule
 pub mod Morning
 pub mod RigOk
 pub mod Soundness
+pub mod AnUnsoundStateForEachPart
 pub mod Proper
 pub mod History
 pub mod Waking

@@ -28,3 +28,5 @@ pub mod ConditionLaws
 pub mod Enough
 pub mod ServingKeeps
 pub mod Offering
+pub mod Activation
+pub mod InWords

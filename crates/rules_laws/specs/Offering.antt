@@ -9,11 +9,11 @@ use Prim.Native.Nat.{ℕ, suc, _+_, _*_, _≤_, _<_}
 use native.Mathlib.Omega.{arith}
 use native.Mathlib.Numerals.{add-one}
 use native.Mathlib.Nat.{le-refl}
-use borrow.Author.Tests.{eqb-true}
-use lib.Dec.{eqb}
+use borrow.Author.Tests.{eqb-true, leb-true, leb-false}
+use lib.Dec.{eqb, leb}
 use lib.ListN.{getD, set}
 use lib.Seq.{getD-set-same, getD-set-other}
-use Rattle.laws.specs.Cases.{dec-eq, and-true}
+use Rattle.laws.specs.Cases.{by, dec-eq, and-true}
 use Rattle.laws.specs.Iter.{iter, iter-ind, iter-zero}
 use Rattle.laws.specs.All.{all-same}
 use Rattle.laws.specs.Tables.{in-range}
@@ -121,3 +121,14 @@ module _ (r : Rig) (f : ℕ) (w : Work) where
   -- their activation flags are queued on, by rising number
   pub offers-queue : offers r f 64 w .queue ≡ iter 64 callOne (w .queue)
   offers-queue = offered 64 .queue
+
+  -- who changes was called
+  pub offers-changed : (t : ℕ) → stateOf (offers r f 64 w .now) t ≢ stateOf (w .now) t → called t ≡ true
+  offers-changed t n =
+      by (called t) (λ e. e)
+      (λ e. absurd (n (go e (dec-eq t 0) (leb t 64) refl)))
+    where
+      go : called t ≡ false → Dec (t ≡ 0) → (b : Bool) → leb t 64 ≡ b → stateOf (offers r f 64 w .now) t ≡ stateOf (w .now) t
+      go e (yes z) b l = offered 64 .later t (inl z)
+      go e (no z) true l = offers-states t (omega arith) (leb-true t 64 l) ∙ ap (λ (y : Bool). cond y 3 (stateOf (w .now) t)) e
+      go e (no z) false l = offered 64 .later t (inr (leb-false t 64 l))
