@@ -9,7 +9,7 @@ use borrow.Author.Tests.{eqb-true, not-false}
 use Rattle.laws.specs.Cases.{or-false}
 use Rattle.rules.specs.Bus.{blockAt, blockWords, copied, written}
 use Rattle.rules.specs.Calls as R
-use Rattle.rules.specs.Acceptance.{passed, there-is}
+use Rattle.rules_laws.specs.Acceptance.{passed, there-is}
 use Rattle.exec.specs.Sound.{rigIn, view, Sound}
 use Rattle.exec.specs.Call.{Meets}
 use Rattle.exec.specs.Meeting.{accept, servedOnly, untouched}

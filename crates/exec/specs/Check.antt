@@ -23,7 +23,7 @@ use Rattle.rig.specs.declared.Rig.{Rig}
 use Rattle.rules.specs.State.{timeChain}
 use Rattle.rules.specs.Running.{chosen}
 use Rattle.rules.specs.Calls.{lastCount}
-use Rattle.rules.specs.Ranks.{chosen-runs, runs-chosen}
+use Rattle.rules_laws.specs.Ranks.{chosen-runs, runs-chosen}
 use Rattle.rules.specs.Soundness as R
 use Rattle.sound_tables.specs.Tests.{withinB, emptyB, condsB, treeB, waitsB, flagsB}
 use Rattle.sound_tables.specs.Exact.{within-facts, within-back, empty-facts, empty-back, conds-facts, conds-back, tree-facts, tree-back, waits-facts, waits-back, flags-facts, flags-back}

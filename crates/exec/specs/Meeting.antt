@@ -12,9 +12,9 @@ use Rattle.rules.specs.Calls as R
 use Rattle.rules.specs.Proper as P
 use Rattle.rules.specs.Soundness as Rules
 use Rattle.rules.specs.Serving.{serve}
-use Rattle.rules.specs.Serve.{serve-nil}
+use Rattle.rules_laws.specs.Serve.{serve-nil}
 use Rattle.rules.specs.Running.{dispatch}
-use Rattle.rules.specs.Steps.{accepted-sound, dispatch-same}
+use Rattle.rules_laws.specs.Steps.{accepted-sound, dispatch-same}
 use Rattle.exec_state.specs.View.{viewOf}
 use Rattle.exec_state.specs.declared.State.{State}
 use Rattle.exec.specs.Sound.{rigIn, view, Sound}

@@ -8,7 +8,7 @@ use native.Mathlib.Omega.{arith}
 use Rattle.rules.specs.Rig as G
 use Rattle.rules.specs.State as S
 use Rattle.rules.specs.Calls as R
-use Rattle.rules.specs.Refusals.{code-is}
+use Rattle.rules_laws.specs.Refusals.{code-is}
 use Rattle.exec.specs.Sound.{rigIn, view, Sound}
 use Rattle.exec.specs.Call.{Meets, answerOf, refuse}
 use Rattle.exec.specs.Unique.{meets-same}

@@ -13,8 +13,8 @@ use Rattle.rules.specs.Bus.{areaWords, blockWords}
 use Rattle.rules.specs.Calls.{Call, schedule, cancel, terminate, finish, tick, waitUntil, waitFor, latched, unlatched, signal, readFlag, readBlock, writeBlock}
 use Rattle.rules.specs.Calls.{Refusal, row, decide, refusals, refusal, lent, nobodyRuns, noSuch, notController, isInvoked, isUninvoked, notActive, isMinor, notPlain, lastCount, wrongBlock}
 use borrow.Author.Tests.{ltb-false}
-use Rattle.rules.specs.Acceptance.{passed, flagged-is}
-use Rattle.rules.specs.Refusals.{decide-here, decide-next}
+use Rattle.rules_laws.specs.Acceptance.{passed, flagged-is}
+use Rattle.rules_laws.specs.Refusals.{decide-here, decide-next}
 use Rattle.exec.specs.Sound.{rigIn, view, Sound}
 use Rattle.exec.specs.Call.{Meets, refuse}
 use Rattle.exec.specs.Meeting.{unsound, refused}

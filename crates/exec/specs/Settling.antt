@@ -20,11 +20,11 @@ use Rattle.rules.specs.Waiting.{waitOn, waitUntilCount, wakeDue}
 use Rattle.rules.specs.Running.{dispatch}
 use Rattle.rules.specs.Calls as R
 use Rattle.rules.specs.Proper as P
-use Rattle.rules.specs.Queued.{Fine}
-use Rattle.rules.specs.Serve.{load}
-use Rattle.rules.specs.Good.{serve-running}
-use Rattle.rules.specs.Bound.{effect-load}
-use Rattle.rules.specs.Steps.{effect-ready}
+use Rattle.rules_laws.specs.Queued.{Fine}
+use Rattle.rules_laws.specs.Serve.{load}
+use Rattle.rules_laws.specs.Good.{serve-running}
+use Rattle.rules_laws.specs.Bound.{effect-load}
+use Rattle.rules_laws.specs.Steps.{effect-ready}
 use Rattle.exec_state.specs.View.{rigOf, viewOf, workOf}
 use Rattle.exec_state.specs.Post.{Fits, Servable, Begins, Emptied, Dispatched}
 use Rattle.exec_state.specs.declared.State.{State}

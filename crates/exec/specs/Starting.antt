@@ -15,9 +15,9 @@ use Rattle.rules.specs.Serving.{serve}
 use Rattle.rules.specs.Running.{dispatch}
 use Rattle.rules.specs.Calls as R
 use Rattle.rules.specs.Soundness as Rules
-use Rattle.rules.specs.Serve.{load}
-use Rattle.rules.specs.Bound.{scheduled-load}
-use Rattle.rules.specs.Steps.{started-ready, start-sound}
+use Rattle.rules_laws.specs.Serve.{load}
+use Rattle.rules_laws.specs.Bound.{scheduled-load}
+use Rattle.rules_laws.specs.Steps.{started-ready, start-sound}
 use Rattle.exec_state.specs.View.{rigOf, viewOf, workOf}
 use Rattle.exec_state.specs.Post.{Servable, Blank, Scheduled}
 use Rattle.exec_state.specs.declared.State.{State}

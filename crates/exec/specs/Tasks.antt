@@ -12,7 +12,7 @@ use Rattle.rig.specs.declared.Cycle.{Cycle}
 use Rattle.rig.specs.declared.Rig.{Rig}
 use Rattle.rules.specs.State as S
 use Rattle.rules.specs.Calls as R
-use Rattle.rules.specs.Acceptance.{named-is}
+use Rattle.rules_laws.specs.Acceptance.{named-is}
 use Rattle.exec_state.specs.View.{workOf}
 use Rattle.exec_state.specs.Post.{CancelOk, Finished, Terminated, Cancelled, Scheduled}
 use Rattle.exec_state.specs.declared.Work.{Work}

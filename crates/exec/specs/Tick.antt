@@ -16,7 +16,7 @@ use Rattle.rules.specs.Rig as G
 use Rattle.rules.specs.State as S
 use Rattle.rules.specs.Bus.{rowDue, rowWords, busOne, busWords}
 use Rattle.rules.specs.Calls as R
-use Rattle.rules.specs.Acceptance.{passed}
+use Rattle.rules_laws.specs.Acceptance.{passed}
 use Rattle.compool.specs.View.{rowsOf}
 use Rattle.compool.specs.Post.{RowsFit}
 use Rattle.compool.specs.Words.{row-short}

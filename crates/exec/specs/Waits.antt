@@ -16,7 +16,7 @@ use Rattle.rules.specs.State as S
 use Rattle.rules.specs.Proper as P
 use Rattle.rules.specs.Waiting.{waitOn, waitUntilCount}
 use Rattle.rules.specs.Calls as R
-use Rattle.rules.specs.Acceptance.{flagged-is}
+use Rattle.rules_laws.specs.Acceptance.{flagged-is}
 use Rattle.exec_tables.specs.View.{entriesOf}
 use Rattle.exec_tables.specs.declared.Queue.{Queue}
 use Rattle.exec_state.specs.View.{viewOf, workOf}

@@ -15,7 +15,7 @@ use Rattle.rig.specs.declared.Rig.{Rig}
 use Rattle.rules.specs.State.{Entry}
 use Rattle.rules.specs.Conditions.{relax, met, names}
 use Rattle.rules.specs.Serving.{push, activate, ready, offer, offerNext, offers}
-use Rattle.rules.specs.Serve.{load, offers-load}
+use Rattle.rules_laws.specs.Serve.{load, offers-load}
 use Rattle.exec_tables.specs.View.{entriesOf}
 use Rattle.exec_tables.specs.Queued.{entries-length}
 use Rattle.exec_tables.specs.Post.{Pushed}

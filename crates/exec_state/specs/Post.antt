@@ -19,7 +19,7 @@ use Rattle.rules.specs.Serving.{wake, offers, serveFlag, serve, inactives}
 use Rattle.rules.specs.Waiting.{waitOn, waitUntilCount, wakeDue}
 use Rattle.rules.specs.Running.{dispatch}
 use Rattle.rules.specs.Calls.{scheduled, finished, terminated, cancelled, ticked}
-use Rattle.rules.specs.Serve.{load}
+use Rattle.rules_laws.specs.Serve.{load}
 use Rattle.exec_state.specs.View.{rigOf, viewOf, workOf, doneOf}
 use Rattle.exec_state.specs.Set.{putCond, putState, putLinks}
 use Rattle.exec_state.specs.declared.State.{State}

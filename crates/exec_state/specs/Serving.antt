@@ -16,8 +16,8 @@ use Rattle.rules.specs.State as S
 use Rattle.rules.specs.State.{Entry, stateOf}
 use Rattle.rules.specs.Conditions.{drive}
 use Rattle.rules.specs.Serving.{push, activate, ready, takes, wake, offer, offerNext, offers, serveFlag, another, serve, inactives}
-use Rattle.rules.specs.Serve.{load, wake-load, serveFlag-load, serve-nil, serve-cons}
-use Rattle.rules.specs.Queued.{Fine}
+use Rattle.rules_laws.specs.Serve.{load, wake-load, serveFlag-load, serve-nil, serve-cons}
+use Rattle.rules_laws.specs.Queued.{Fine}
 use Rattle.exec_tables.specs.View.{entriesOf, entries}
 use Rattle.exec_tables.specs.Queued.{entries-length, entries-pop}
 use Rattle.exec_tables.specs.declared.Queue.{Queue}

@@ -4,7 +4,7 @@ use mathlib.Core.Logic.{_≢_, _⊎_, ⊎-elim, _↔_}
 use mathlib.Core.List.{List}
 use Prim.Native.Nat.{ℕ, zero, suc}
 use Rattle.rules.specs.Calls as R
-use Rattle.rules.specs.Refusals.{code-is}
+use Rattle.rules_laws.specs.Refusals.{code-is}
 use Rattle.rig_build.specs.Read.{readOf}
 use Rattle.exec.specs.Sound.{rigIn, view, Sound}
 use Rattle.exec.specs.Call.{Meets, answerOf, refuse}

@@ -21,7 +21,7 @@ use Rattle.rules.specs.Bus.{written, copied, rowWords, busWords}
 use Rattle.rules.specs.Calls.{schedule, cancel, terminate, finish, tick, waitUntil, waitFor, latched, unlatched, signal, readFlag, readBlock, writeBlock}
 use Rattle.rules.specs.Calls.{scheduled, finished, terminated, cancelled, cycleQueue, ticked, effect, decide, noSuch, inCycle, isMinor, isActivation, lastCount, wrongBlock, refusals, refusal, wordsAt, lent, output, accepted, after, step, run, started, start}
 use Rattle.rules.specs.Scripts.{TaskLine, MinorLine, T, C, A, M, B, ofTask, ofCondition, numbers, ofLine, ofCycle, rig, tick₀, startAt, seen, Case, shown, case, caseAt, bench, morningCalls}
-use Rattle.rules.specs.Scripts.{runs, answers, serves, writes, reads, lends, stateIs, valueIs, waitFlag, waitTime, _and_}
+use Rattle.rules.specs.Scripts.{runs, answers, serves, writes, reads, lends, sends, stateIs, conditionIs, valueIs, waitFlag, waitTime, _and_}
 
 -- ---- rigs that several cases use
 
@@ -48,6 +48,11 @@ remembering = rig 2 4 1 (T 1 0 10 0 0 ∷ T 2 1 20 0 0 ∷ []) (C 2 0 1 1 ∷ []
 -- task 2 has an unlatched condition on flag 1
 forgetting : Rig
 forgetting = rig 2 4 1 (T 1 0 10 0 0 ∷ T 2 1 20 0 0 ∷ []) (C 2 0 0 1 ∷ []) (A 2 0 1 ∷ []) [] []
+
+-- task 2, of a given priority, has unlatched conditions on flags 1 and 2
+asking : ℕ → Rig
+asking priority =
+    rig 2 4 1 (T 1 0 10 0 0 ∷ T 2 1 priority 0 0 ∷ []) (C 2 0 0 1 ∷ C 2 1 0 1 ∷ []) (A 2 0 1 ∷ A 2 1 2 ∷ []) [] []
 
 -- two rows, of 2 and of 3 words
 rows : Rig
@@ -158,6 +163,14 @@ conditions-are-driven-while-the-task-runs =
     runs
     (1 ∷ 2 ∷ 2 ∷ 1 ∷ 1 ∷ 1 ∷ [])
 
+-- and while it waits
+pub conditions-are-driven-while-the-task-waits : Case
+conditions-are-driven-while-the-task-waits =
+    case remembering
+    (signal 1 1 ∷ schedule 2 ∷ waitFor 5 ∷ signal 1 0 ∷ terminate 2 ∷ cancel 2 ∷ schedule 2 ∷ [])
+    (stateIs 2 and conditionIs 2 0)
+    (0 ∷ 1 ∷ 3 ∷ 1 ∷ 2 ∷ 1 ∷ 2 ∷ 0 ∷ 1 ∷ 0 ∷ 0 ∷ 0 ∷ 1 ∷ 0 ∷ [])
+
 -- "Schedule: unlatched conditions take the undesired value"
 pub schedule-relaxes : Case
 schedule-relaxes =
@@ -182,6 +195,14 @@ position-fifteen-counts =
     runs
     (1 ∷ 1 ∷ 2 ∷ [])
 
+-- where there is no C line there is no condition, and nothing is stored; seen: conditions 0 and 1 of task 2
+pub no-line-no-condition : Case
+no-line-no-condition =
+    case forgetting
+    (schedule 2 ∷ signal 1 1 ∷ [])
+    (conditionIs 2 0 and conditionIs 2 1)
+    (0 ∷ 0 ∷ 0 ∷ 0 ∷ [])
+
 -- "Activate: .. unlatched conditions undesired again": the second time flag 2 alone is not enough
 pub activation-relaxes : Case
 activation-relaxes =
@@ -198,6 +219,31 @@ tested-on-schedule-and-service-only =
     (signal 1 1 ∷ schedule 2 ∷ finish ∷ signal 2 1 ∷ signal 1 1 ∷ [])
     runs
     (1 ∷ 2 ∷ 1 ∷ 1 ∷ 2 ∷ [])
+
+-- "each inactive task": not one that is active, though its condition stays as desired; its activation flag 3 is not queued
+-- again (task 3 is inactive all the while); seen: served, the state of 2
+pub who-is-active-is-not-activated : Case
+who-is-active-is-not-activated =
+    case (rig 3 4 1 (T 1 0 10 0 0 ∷ T 2 1 5 0 3 ∷ T 3 1 5 0 0 ∷ []) (C 2 0 1 1 ∷ C 3 0 1 1 ∷ []) (A 2 0 1 ∷ A 3 0 2 ∷ []) [] [])
+    (schedule 3 ∷ schedule 2 ∷ signal 1 1 ∷ signal 1 1 ∷ [])
+    (serves and stateIs 2)
+    (0 ∷ 0 ∷ 0 ∷ 1 ∷ 2 ∷ 3 ∷ 1 ∷ 3 ∷ [])
+
+-- "each inactive task with that flag in a condition": not one whose conditions are as desired, when a flag of another's is
+-- served. Task 2 has flag 1 and is inactive with its condition as desired; flag 2 is task 3's; seen: the states of both
+pub only-its-own-flags-activate-a-task : Case
+only-its-own-flags-activate-a-task =
+    case (rig 3 4 1 (T 1 0 10 0 0 ∷ T 2 1 20 0 0 ∷ T 3 1 5 0 0 ∷ []) (C 2 0 1 1 ∷ C 3 0 1 1 ∷ []) (A 2 0 1 ∷ A 3 0 2 ∷ []) [] [])
+    (schedule 3 ∷ schedule 2 ∷ signal 1 1 ∷ finish ∷ signal 2 1 ∷ signal 1 1 ∷ [])
+    (stateIs 2 and stateIs 3)
+    (
+    0 ∷ 1 ∷
+    1 ∷ 1 ∷
+    3 ∷ 1 ∷
+    1 ∷ 1 ∷
+    1 ∷ 3 ∷
+    3 ∷ 3 ∷ []
+    )
 
 -- "if all conditions are as desired": one of the two is not enough
 pub all-conditions-as-desired : Case
@@ -229,6 +275,22 @@ finish-wakes-who-waits-for-the-off =
     1 ∷ 1 ∷ 0 ∷ []
     )
 
+-- .. and nothing else: its conditions stay. Task 2 asks for flags 1 and 2, unlatched. Flag 1 is served while it runs, so that
+-- after its finish flag 2 alone activates it; seen: who runs, its conditions
+pub finish-leaves-the-conditions : Case
+finish-leaves-the-conditions =
+    case (asking 20)
+    (schedule 2 ∷ signal 1 1 ∷ signal 2 1 ∷ signal 1 1 ∷ finish ∷ signal 2 1 ∷ [])
+    (runs and conditionIs 2 0 and conditionIs 2 1)
+    (
+    1 ∷ 0 ∷ 0 ∷
+    1 ∷ 1 ∷ 0 ∷
+    2 ∷ 0 ∷ 0 ∷
+    2 ∷ 1 ∷ 0 ∷
+    1 ∷ 1 ∷ 0 ∷
+    2 ∷ 0 ∷ 0 ∷ []
+    )
+
 -- "Terminate: the same for the named active task, taken out of any chain.": task 2; its task 3 waits on, and only it wakes
 pub terminate-takes-out-of-a-flag-chain : Case
 terminate-takes-out-of-a-flag-chain =
@@ -258,6 +320,21 @@ terminate-takes-out-of-the-time-chain =
     0 ∷ 1 ∷ 1 ∷ []
     )
 
+-- .. and nothing else: its conditions stay, as at a finish; seen: its state, its conditions
+pub terminate-leaves-the-conditions : Case
+terminate-leaves-the-conditions =
+    case (asking 5)
+    (schedule 2 ∷ signal 1 1 ∷ signal 2 1 ∷ signal 1 1 ∷ terminate 2 ∷ signal 2 1 ∷ [])
+    (stateIs 2 and conditionIs 2 0 and conditionIs 2 1)
+    (
+    1 ∷ 0 ∷ 0 ∷
+    1 ∷ 1 ∷ 0 ∷
+    3 ∷ 0 ∷ 0 ∷
+    3 ∷ 1 ∷ 0 ∷
+    1 ∷ 1 ∷ 0 ∷
+    3 ∷ 0 ∷ 0 ∷ []
+    )
+
 -- cancel touches no condition: scheduled anew, task 2 is activated by what was served before
 pub cancel-touches-no-condition : Case
 cancel-touches-no-condition =
@@ -265,6 +342,20 @@ cancel-touches-no-condition =
     (signal 1 1 ∷ schedule 2 ∷ finish ∷ cancel 2 ∷ schedule 2 ∷ [])
     runs
     (1 ∷ 2 ∷ 1 ∷ 1 ∷ 2 ∷ [])
+
+-- nor an unlatched one, also while its task is uninvoked; seen: the state of task 2, its conditions
+pub cancel-leaves-unlatched-conditions : Case
+cancel-leaves-unlatched-conditions =
+    case (asking 5)
+    (schedule 2 ∷ signal 1 1 ∷ cancel 2 ∷ signal 2 1 ∷ schedule 2 ∷ [])
+    (stateIs 2 and conditionIs 2 0 and conditionIs 2 1)
+    (
+    1 ∷ 0 ∷ 0 ∷
+    1 ∷ 1 ∷ 0 ∷
+    0 ∷ 1 ∷ 0 ∷
+    0 ∷ 1 ∷ 1 ∷
+    1 ∷ 0 ∷ 0 ∷ []
+    )
 
 -- "then activation flags of those that were active are queued off": task 3 is inactive; seen: served, flag 2
 pub cancel-queues-off-for-the-active-only : Case
@@ -315,6 +406,22 @@ only-the-value-waited-for-wakes =
     (schedule 2 ∷ unlatched 1 1 ∷ signal 1 0 ∷ signal 1 1 ∷ unlatched 1 0 ∷ signal 1 1 ∷ signal 1 0 ∷ [])
     runs
     (2 ∷ 1 ∷ 1 ∷ 2 ∷ 1 ∷ 1 ∷ 2 ∷ [])
+
+-- all of them, in one service; seen: the states of 2, 3 and 4
+pub all-who-wait-wake : Case
+all-who-wait-wake =
+    case quad
+    (schedule 2 ∷ unlatched 1 1 ∷ schedule 3 ∷ unlatched 1 1 ∷ schedule 4 ∷ unlatched 1 1 ∷ signal 1 1 ∷ [])
+    (stateIs 2 and stateIs 3 and stateIs 4)
+    (
+    3 ∷ 0 ∷ 0 ∷
+    2 ∷ 0 ∷ 0 ∷
+    2 ∷ 3 ∷ 0 ∷
+    2 ∷ 2 ∷ 0 ∷
+    2 ∷ 2 ∷ 3 ∷
+    2 ∷ 2 ∷ 2 ∷
+    3 ∷ 3 ∷ 3 ∷ []
+    )
 
 -- "Each call answers with the number of flags it served": the calls of the bench morning
 pub served-numbers : Case
@@ -446,6 +553,14 @@ privileged-above-all-others =
     runs
     (2 ∷ 1 ∷ 3 ∷ 3 ∷ 2 ∷ [])
 
+-- the least of them above the greatest of the others
+pub privileged-above-the-highest-priority : Case
+privileged-above-the-highest-priority =
+    case (rig 2 4 1 (T 1 0 255 0 0 ∷ T 2 1 0 1 0 ∷ []) [] [] [] [])
+    (schedule 2 ∷ [])
+    runs
+    (2 ∷ [])
+
 -- ---- Compool and bus words
 
 -- "from the master, a receive command to the receiver; to the master, a transmit command to the sender; else receive, then
@@ -456,6 +571,29 @@ rows-in-order =
     (tick₀ ∷ [])
     (writes and lends)
     (4 ∷ 14400 ∷ 15425 ∷ 8258 ∷ 7202 ∷ replicate 124 0)
+
+-- "A row is due when count modulo period equals phase.": periods 4, 4, 2 and 1, phases 3, 1, 1 and 0; the bus words of each
+-- tick
+pub due-at-its-phase : Case
+due-at-its-phase =
+    case (rig 1 1 1 (T 1 0 10 0 0 ∷ []) [] [] [] (B 1 5 7 2 32 4 3 ∷ B 1 5 7 3 32 4 1 ∷ B 1 5 7 4 32 2 1 ∷ B 1 5 7 5 32 1 0 ∷ []))
+    (replicate 5 tick₀)
+    sends
+    (
+    14432 ∷ 14464 ∷ 14496 ∷
+    14496 ∷
+    14400 ∷ 14464 ∷ 14496 ∷
+    14496 ∷
+    14432 ∷ 14464 ∷ 14496 ∷ []
+    )
+
+-- the same of the longest period and the last phase: at counts 63 and 127
+pub due-at-the-last-phase : Case
+due-at-the-last-phase =
+    caseAt 62 (rig 1 1 1 (T 1 0 10 0 0 ∷ []) [] [] [] (B 1 5 7 2 32 64 63 ∷ []))
+    (replicate 66 tick₀)
+    writes
+    (1 ∷ replicate 63 0 ++ 1 ∷ 0 ∷ [])
 
 -- "Write stores the data and the count modulo 65,536 as tag and touches no other word": row 2, at count 65,537
 pub write-touches-no-other-word : Case
@@ -502,6 +640,14 @@ the-last-task =
     0 ∷ 1 ∷ 0 ∷ 0 ∷ 0 ∷ 1 ∷
     6 ∷ 0 ∷ 0 ∷ 0 ∷ 0 ∷ 1 ∷ []
     )
+
+-- task 64 is activated by a service too
+pub the-last-task-is-activated : Case
+the-last-task-is-activated =
+    case (rig 64 128 1 (T 1 0 10 0 0 ∷ tasksFrom 2 62 ++ T 64 1 20 0 128 ∷ []) (C 64 15 0 1 ∷ []) (A 64 15 127 ∷ []) [] [])
+    (schedule 64 ∷ signal 127 1 ∷ [])
+    (serves and stateIs 64 and valueIs 128 and runs)
+    (0 ∷ 1 ∷ 0 ∷ 1 ∷ 2 ∷ 3 ∷ 1 ∷ 64 ∷ [])
 
 -- the fifteenth flag of cycle 63 is a minor-cycle flag, the flag behind it is not; flag 128 is there, 129 is not
 pub the-last-flag : Case
@@ -579,6 +725,14 @@ refused-8-states =
     answers
     (0 ∷ 8 ∷ 8 ∷ 0 ∷ 8 ∷ 8 ∷ [])
 
+-- the same of a task that is dispatchable, and of one that waits
+pub refused-8-active : Case
+refused-8-active =
+    case (rig 2 4 1 (T 1 0 10 0 0 ∷ T 2 1 5 0 0 ∷ []) [] [] [] [])
+    (schedule 2 ∷ schedule 2 ∷ waitFor 1 ∷ waitFor 2 ∷ tick₀ ∷ schedule 2 ∷ cancel 2 ∷ [])
+    (answers and stateIs 2)
+    (0 ∷ 3 ∷ 8 ∷ 3 ∷ 0 ∷ 3 ∷ 0 ∷ 2 ∷ 0 ∷ 2 ∷ 8 ∷ 2 ∷ 0 ∷ 0 ∷ [])
+
 -- the paper's cases: waking count 2,147,483,647 is accepted, one more is not
 pub refused-9-waking-count : Case
 refused-9-waking-count =
@@ -635,22 +789,30 @@ pub cases-hold :
     × Holds unlatched-waits-for-the-next-service
     × Holds latched-conditions-remember
     × Holds conditions-are-driven-while-the-task-runs
+    × Holds conditions-are-driven-while-the-task-waits
     × Holds schedule-relaxes
     × Holds undesired-of-off-is-on
     × Holds position-fifteen-counts
+    × Holds no-line-no-condition
     × Holds activation-relaxes
     × Holds tested-on-schedule-and-service-only
+    × Holds who-is-active-is-not-activated
+    × Holds only-its-own-flags-activate-a-task
     × Holds all-conditions-as-desired
     × Holds one-condition-of-two-flags
     × Holds finish-wakes-who-waits-for-the-off
+    × Holds finish-leaves-the-conditions
     × Holds terminate-takes-out-of-a-flag-chain
     × Holds terminate-takes-out-of-the-time-chain
+    × Holds terminate-leaves-the-conditions
     × Holds cancel-touches-no-condition
+    × Holds cancel-leaves-unlatched-conditions
     × Holds cancel-queues-off-for-the-active-only
     × Holds cancel-serves-the-highest-off-first
     × Holds last-queued-first
     × Holds activation-by-rising-number
     × Holds only-the-value-waited-for-wakes
+    × Holds all-who-wait-wake
     × Holds served-numbers
     × Holds wait-until-a-count
     × Holds wait-for-cycles
@@ -664,10 +826,14 @@ pub cases-hold :
     × Holds lowest-number-first
     × Holds stayed-throughout
     × Holds privileged-above-all-others
+    × Holds privileged-above-the-highest-priority
     × Holds rows-in-order
+    × Holds due-at-its-phase
+    × Holds due-at-the-last-phase
     × Holds write-touches-no-other-word
     × Holds read-copies-the-data
     × Holds the-last-task
+    × Holds the-last-task-is-activated
     × Holds the-last-flag
     × Holds the-last-row
     × Holds the-last-block
@@ -676,10 +842,11 @@ pub cases-hold :
     × Holds refused-7-not-the-controller
     × Holds refused-7-flags
     × Holds refused-8-states
+    × Holds refused-8-active
     × Holds refused-9-waking-count
     × Holds refused-9-waking-sum
     × Holds refused-9-last-tick
     × Holds refused-10-tick
     × Holds refused-10-area
-unfolding tasksFrom flagsFrom largest lone pair quad line remembering forgetting bench morningCalls rows stopped-and-started thirty-two-is-written-as-zero equal-rank-takes-nothing phase-against-the-count-after-the-tick cancel-strikes-every-descendant cancel-strikes-grandchildren unlatched-waits-for-the-next-service latched-conditions-remember conditions-are-driven-while-the-task-runs schedule-relaxes undesired-of-off-is-on position-fifteen-counts activation-relaxes tested-on-schedule-and-service-only all-conditions-as-desired one-condition-of-two-flags finish-wakes-who-waits-for-the-off terminate-takes-out-of-a-flag-chain terminate-takes-out-of-the-time-chain cancel-touches-no-condition cancel-queues-off-for-the-active-only cancel-serves-the-highest-off-first last-queued-first activation-by-rising-number only-the-value-waited-for-wakes served-numbers wait-until-a-count wait-for-cycles no-wait-at-or-below-the-count latched-wait-takes-the-value-there time-chain-in-order flag-chains-in-order cycle-of-the-count start-schedules-task-1 higher-rank-takes-the-processor lowest-number-first stayed-throughout privileged-above-all-others rows-in-order write-touches-no-other-word read-copies-the-data the-last-task the-last-flag the-last-row the-last-block refused-5-first refused-6-no-such refused-7-not-the-controller refused-7-flags refused-8-states refused-9-waking-count refused-9-waking-sum refused-9-last-tick refused-10-tick refused-10-area ofTask ofCondition numbers ofLine ofCycle rig tick₀ startAt seen shown runs answers serves writes reads lends stateIs valueIs waitFlag waitTime _and_ iter all any total over put commandWord blank relax met drive names activate takes rouse wake ready offer offers serveFlag serving serve waitOn waitUntilCount leave wakeDue family cleared deserted offs best chosen dispatch written copied rowWords busWords scheduled finished terminated cancelled cycleQueue ticked effect decide noSuch inCycle isMinor isActivation lastCount wrongBlock refusals refusal wordsAt lent output accepted after step run started start
-cases-hold = (refl, refl, refl, refl, refl, refl, refl, refl, refl, refl, refl, refl, refl, refl, refl, refl, refl, refl, refl, refl, refl, refl, refl, refl, refl, refl, refl, refl, refl, refl, refl, refl, refl, refl, refl, refl, refl, refl, refl, refl, refl, refl, refl, refl, refl, refl, refl, refl, refl, refl, refl, refl, refl, refl, refl)
+unfolding tasksFrom flagsFrom largest lone pair quad line remembering forgetting asking bench morningCalls rows stopped-and-started thirty-two-is-written-as-zero equal-rank-takes-nothing phase-against-the-count-after-the-tick cancel-strikes-every-descendant cancel-strikes-grandchildren unlatched-waits-for-the-next-service latched-conditions-remember conditions-are-driven-while-the-task-runs conditions-are-driven-while-the-task-waits schedule-relaxes undesired-of-off-is-on position-fifteen-counts no-line-no-condition activation-relaxes tested-on-schedule-and-service-only who-is-active-is-not-activated only-its-own-flags-activate-a-task all-conditions-as-desired one-condition-of-two-flags finish-wakes-who-waits-for-the-off finish-leaves-the-conditions terminate-takes-out-of-a-flag-chain terminate-takes-out-of-the-time-chain terminate-leaves-the-conditions cancel-touches-no-condition cancel-leaves-unlatched-conditions cancel-queues-off-for-the-active-only cancel-serves-the-highest-off-first last-queued-first activation-by-rising-number only-the-value-waited-for-wakes all-who-wait-wake served-numbers wait-until-a-count wait-for-cycles no-wait-at-or-below-the-count latched-wait-takes-the-value-there time-chain-in-order flag-chains-in-order cycle-of-the-count start-schedules-task-1 higher-rank-takes-the-processor lowest-number-first stayed-throughout privileged-above-all-others privileged-above-the-highest-priority rows-in-order due-at-its-phase due-at-the-last-phase write-touches-no-other-word read-copies-the-data the-last-task the-last-task-is-activated the-last-flag the-last-row the-last-block refused-5-first refused-6-no-such refused-7-not-the-controller refused-7-flags refused-8-states refused-8-active refused-9-waking-count refused-9-waking-sum refused-9-last-tick refused-10-tick refused-10-area ofTask ofCondition numbers ofLine ofCycle rig tick₀ startAt seen shown runs answers serves writes reads lends sends stateIs conditionIs valueIs waitFlag waitTime _and_ iter all any total over put commandWord blank relax met drive names activate takes rouse wake ready offer offers serveFlag serving serve waitOn waitUntilCount leave wakeDue family cleared deserted offs best chosen dispatch written copied rowWords busWords scheduled finished terminated cancelled cycleQueue ticked effect decide noSuch inCycle isMinor isActivation lastCount wrongBlock refusals refusal wordsAt lent output accepted after step run started start
+cases-hold = (refl, refl, refl, refl, refl, refl, refl, refl, refl, refl, refl, refl, refl, refl, refl, refl, refl, refl, refl, refl, refl, refl, refl, refl, refl, refl, refl, refl, refl, refl, refl, refl, refl, refl, refl, refl, refl, refl, refl, refl, refl, refl, refl, refl, refl, refl, refl, refl, refl, refl, refl, refl, refl, refl, refl, refl, refl, refl, refl, refl, refl, refl, refl, refl, refl, refl, refl, refl)

@@ -9,7 +9,12 @@ use Rattle.rules.specs.State.{Entry, active, off, uninvoked}
 use Rattle.rules.specs.Serving.{push}
 use Rattle.rules.specs.Waiting.{leave}
 
--- "the named task and all its descendants", by rising number: a task is marked 1 if it is the named one, or if its
+-- "the named task and all its descendants": u is task t, or its controller is t or a descendant of t
+pub data Under (controller : ℕ → ℕ) (t : ℕ) : ℕ → Type 0 where
+  itself : Under controller t t
+  below : (u : ℕ) → Under controller t (controller u) → Under controller t u
+
+-- the same, computed by rising number: a task is marked 1 if it is the named one, or if its
 -- controller is marked. A controller has a lower number, so its mark stands before it is asked for (theorem family-is).
 abbrev pub markOne : (ℕ → ℕ) → ℕ → ℕ → List ℕ → List ℕ
 markOne controller t i marks =

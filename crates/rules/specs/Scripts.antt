@@ -3,7 +3,7 @@ use mathlib.Core.Bool.{cond}
 use mathlib.Core.List.{List, [], _∷_, _++_}
 use Prim.Native.Nat.{ℕ}
 use lib.Dec.{eqb}
-use lib.ListN.{length, getD, replicate}
+use lib.ListN.{length, getD, replicate, take}
 use Rattle.rules.specs.Rig.{Rig, Row, place}
 use Rattle.rules.specs.State.{State, withCount, chainOf, timeChain, stateOf, valueOf}
 use Rattle.rules.specs.Calls.{Call, schedule, finish, tick, waitFor, Step, step, start}
@@ -97,7 +97,8 @@ seen look r s (k ∷ ks) =
     look p ++ seen look r (p .next) ks
 
 -- looks: who runs; the answer's number; how many flags were served; how many bus words were written; the value that was
--- read; the lent buffer; the state of a task; the value of a flag; who waits in a chain, from its front, and a 0 behind them
+-- read; the lent buffer; the bus words in it; the state of a task; the value of its condition at a position; the value of a
+-- flag; who waits in a chain, from its front, and a 0 behind them
 unfoldable pub runs : Step → List ℕ
 runs p = p .next .running ∷ []
 
@@ -116,8 +117,14 @@ reads p = p .answer .report .value ∷ []
 unfoldable pub lends : Step → List ℕ
 lends p = p .lent
 
+unfoldable pub sends : Step → List ℕ
+sends p = take (p .answer .report .words) (p .lent)
+
 unfoldable pub stateIs : ℕ → Step → List ℕ
 stateIs t p = stateOf (p .next) t ∷ []
+
+unfoldable pub conditionIs : ℕ → ℕ → Step → List ℕ
+conditionIs t n p = getD (p .next .conds) (place t n) 0 ∷ []
 
 unfoldable pub valueIs : ℕ → Step → List ℕ
 valueIs f p = valueOf (p .next) f ∷ []

@@ -8,7 +8,7 @@ use Rattle.rules.specs.Rig.{Rig}
 use Rattle.rules.specs.State.{State, stateOf, waiting, dispatchable}
 use Rattle.rules.specs.Calls.{Call, schedule, cancel, terminate, finish, tick, waitUntil, waitFor, latched, unlatched, signal, readFlag, readBlock, writeBlock}
 use Rattle.rules.specs.Calls.{refusal, step, run}
-use Rattle.rules.specs.FamilyLaws.{Under}
+use Rattle.rules.specs.Family.{Under}
 
 -- call k, made at s, is accepted and terminates task t, or cancels it, itself or through an ancestor
 abbrev pub Struck : Rig → State → Call → ℕ → Type 0

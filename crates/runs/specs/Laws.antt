@@ -1,6 +1,6 @@
 -- Runs of the code keep to the rules; demand 3 of the code, and the waking clause.
 use mathlib.Core.Path.{_≡_, refl, sym, _∙_, ap, subst}
-use mathlib.Core.Logic.{_≢_, ⊎-elim, _↔_}
+use mathlib.Core.Logic.{_≢_, _⊎_, ⊎-elim, _↔_}
 use mathlib.Core.Bool.{Bool, cond}
 use mathlib.Core.List.{List, [], _∷_, _++_, reverse}
 use Prim.Native.Nat.{ℕ, suc, _+_, _≤_, _<_}
@@ -19,15 +19,16 @@ use Rattle.rules.specs.State.{timeChain}
 use Rattle.rules.specs.Calls as R
 use Rattle.rules.specs.Calls.{tick, waitUntil, waitFor, refusal}
 use Rattle.rules.specs.Proper.{ProperRun}
-use Rattle.rules.specs.Refusals.{code-is, refused-unchanged}
-use Rattle.rules.specs.Bound.{served-79, start-served}
-use Rattle.rules.specs.Demand.{flag-on, waits-in-one}
+use Rattle.rules_laws.specs.Refusals.{code-is, refused-unchanged}
+use Rattle.rules_laws.specs.Bound.{served-79, start-served}
+use Rattle.rules_laws.specs.Demand.{flag-on, waits-in-one}
 use Rattle.rules.specs.History.{History, untilCount, begins, notedIf, history, never, historyOf, InOrder}
 use Rattle.rules.specs.History as H
-use Rattle.rules.specs.InOrder.{chains-in-order}
+use Rattle.rules_laws.specs.InOrder.{chains-in-order}
 use Rattle.rules.specs.Waking.{Struck, Spared}
 use Rattle.rules.specs.Waking as W
-use Rattle.rules.specs.WakingLaws as WL
+use Rattle.rules_laws.specs.WakingLaws as WL
+use Rattle.rules_laws.specs.Activation.{BySchedule, ByService, activated-by}
 use Rattle.exec_state.specs.View.{rigOf}
 use Rattle.exec.specs.Sound.{rigIn, view, Sound}
 use Rattle.exec.specs.Call.{Follows, Meets, answerOf, refuse}
@@ -232,6 +233,16 @@ module _ (g : Rig) (table : List (List ℕ)) (x : Exec) (s : AcceptedStart g tab
           ahead = λ t i. h .state .chains .ahead t (subst (In t) (sym time) i);
           flags = λ c a n. subst (Ordered (H.Earlier (historyIn x ms))) (read y h c a) (ordered .flags c n);
         }
+
+    -- "A condition is tested for activation on schedule and on service of one of its flags.": a call that is made next and
+    -- activates a task does so by its schedule, or by a service of one of its flags, with all its conditions as desired
+    pub activated-only : (m : Made) → MadeOn y m → (t : ℕ) → S.active (stateIn y t) ≡ 0 → S.active (stateIn (m .step .exec) t) ≡ 1
+        → BySchedule (rigIn y) (view y) (m .call) t ⊎ ByService (rigIn y) (R.effect (rigIn y) (view y) (m .call)) t
+    activated-only m o t i n =
+        let h = there .sound in
+        let g = gives (rigIn y) (view y) y (record { sound = h; rig = refl; state = refl }) m o in
+        activated-by (rigIn y) (ok y h) (view y) (h .state) (m .call) (o .proper) t i
+        (ap (λ (s : S.State). S.active (S.stateOf s t)) (sym (g .next .state)) ∙ n)
 
     -- DEMAND 3
     pub demand : Demand x ms y

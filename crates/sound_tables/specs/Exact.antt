@@ -14,7 +14,7 @@ use Rattle.laws.specs.Tables.{has-place}
 use Rattle.rules.specs.State.{active}
 use Rattle.rules.specs.Calls.{noSuch}
 use Rattle.rules.specs.Soundness.{Within, Tree}
-use Rattle.rules.specs.Acceptance.{there-is}
+use Rattle.rules_laws.specs.Acceptance.{there-is}
 use Rattle.sound_tables.specs.Tests.{withinOne, withinB, emptyOne, emptyB, condOne, condsB, treeOne, treeB, waitOne, waitsB, flagOne, flagsB}
 
 -- a number that is none of 1 to many

@@ -14,7 +14,7 @@ use Rattle.laws.specs.All.{all, since, since-at}
 use Rattle.laws.specs.Largest.{top-next}
 use Rattle.laws.specs.Decides.{Is, is-eqb, is-leb, is-ltb, is-and, is-else, is-then, is-all, is-said, is-same}
 use Rattle.rules.specs.Calls.{noSuch}
-use Rattle.rules.specs.Acceptance.{there-is}
+use Rattle.rules_laws.specs.Acceptance.{there-is}
 use Rattle.sound_tables.specs.Tests.{withinOne, withinB, emptyB}
 use Rattle.sound_tables.specs.Exact.{no-such}
 

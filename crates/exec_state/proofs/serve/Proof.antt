@@ -6,7 +6,7 @@ use native.Mathlib.Omega.{arith}
 use lib.ListN.{getD, set}
 use Rattle.rig.specs.Forms.{noRig}
 use Rattle.rig.specs.declared.Rig.{Rig}
-use Rattle.rules.specs.Serve.{load}
+use Rattle.rules_laws.specs.Serve.{load}
 use Rattle.exec_state.specs.View.{workOf}
 use Rattle.exec_state.specs.Set.{putValue, putCond, putState, putLinks, withTables, withPlaces}
 use Rattle.exec_state.specs.Post.{FlagOk, Awoken, Served, workIn}

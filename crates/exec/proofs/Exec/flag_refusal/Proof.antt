@@ -2,7 +2,7 @@ use mathlib.Core.Path.{sym, _∙_}
 use mathlib.Core.Bool.{false≢true}
 use native.Mathlib.Omega.{arith}
 use borrow.Author.Tests.{not-true, not-false, eq-eqb, ne-eqb}
-use Rattle.rules.specs.Acceptance.{there-is}
+use Rattle.rules_laws.specs.Acceptance.{there-is}
 use Rattle.exec.specs.Sound.{Sound}
 use Rattle.exec.specs.Refusing.{none, here, past, twelve, by-table}
 use borrow.Author.Needs.{needs}

@@ -3,7 +3,7 @@ use mathlib.Core.List.{[]}
 use Prim.Native.Nat.{_+_}
 use native.Mathlib.Omega.{arith}
 use Rattle.rules.specs.Calls as R
-use Rattle.rules.specs.Acceptance.{somebody-runs}
+use Rattle.rules_laws.specs.Acceptance.{somebody-runs}
 use Rattle.exec.specs.Sound.{rigIn, view}
 use Rattle.exec.specs.Meeting.{silent-lent, silent-output, untouched}
 use Rattle.exec.specs.Refusing.{judged-sound, judged-none, judged-meets, for-table, count-there}

@@ -3,7 +3,7 @@ use mathlib.Core.List.{[]}
 use mathlib.Core.Bool.{_&&_}
 use lib.Dec.{eqb}
 use Prim.Native.Nat.{ℕ}
-use Rattle.rules.specs.Acceptance.{somebody-runs}
+use Rattle.rules_laws.specs.Acceptance.{somebody-runs}
 use Rattle.rules.specs.Waiting.{waitOn}
 use Rattle.exec.specs.Sound.{rigIn, view}
 use Rattle.exec.specs.Call.{bit}

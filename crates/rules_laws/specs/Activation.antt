@@ -1,0 +1,226 @@
+-- "A condition is tested for activation on schedule and on service of one of its flags.": NO OTHER RULE ACTIVATES.
+-- Over any call, a task that was not active before it and is after it was activated by its own schedule, or by the service of
+-- a flag in one of its conditions; and then all its conditions were as desired.
+use mathlib.Core.Path.{_≡_, refl, sym, ap, _∙_, subst}
+use mathlib.Core.Logic.{_≢_, _⊎_, inl, inr, ⊎-elim}
+use mathlib.Core.Bool.{Bool, true, false, cond, _&&_}
+use mathlib.Core.List.{List, [], _∷_}
+use Prim.Native.Nat.{ℕ, zero, suc, _+_, _≤_, _<_}
+use native.Mathlib.Omega.{arith}
+use native.Mathlib.Nat.{le-refl}
+use borrow.Author.Tests.{eqb-true}
+use lib.Dec.{eqb, leb}
+use lib.ListN.{length, getD, set}
+use lib.Seq.{getD-set-other}
+use Rattle.laws.specs.Cases.{by, dec-eq, and-true}
+use Rattle.laws.specs.Tables.{same-under, keeps-under}
+use Rattle.laws.specs.Members.{keep, in-keep}
+use Rattle.laws.specs.Stores.{stores-keep}
+use Rattle.rules.specs.Rig.{Rig, place}
+use Rattle.rules.specs.RigOk.{RigOk}
+use Rattle.rules.specs.State.{State, Work, Entry, stateOf, valueOf, active, inactive, dispatchable, chainOf, timeChain, withCount, withTables}
+use Rattle.rules.specs.Conditions.{relax, met, names}
+use Rattle.rules.specs.Serving.{activate, takes, wake, ready, offers, serveFlag, serving, serve, inactives}
+use Rattle.rules.specs.Waiting.{waitOn, waitUntilCount, isDue, wakeDue}
+use Rattle.rules.specs.Family.{family, isMarked, cleared}
+use Rattle.rules.specs.Running.{dispatch}
+use Rattle.rules.specs.Calls.{Call, schedule, cancel, terminate, finish, tick, waitUntil, waitFor, latched, unlatched, signal, readFlag, readBlock, writeBlock}
+use Rattle.rules.specs.Calls.{scheduled, finished, terminated, cancelled, ticked, quiet, effect, refusal, refusals, accepted, Step, step}
+use Rattle.rules.specs.Proper.{Proper}
+use Rattle.rules.specs.Soundness.{Sound}
+use Rattle.rules_laws.specs.ConditionLaws.{met-is, names-is}
+use Rattle.rules_laws.specs.Rousing.{rouse-one, rouse-same}
+use Rattle.rules_laws.specs.Offering.{called, offers-changed}
+use Rattle.rules_laws.specs.Serve.{load, serveFlag-load}
+use Rattle.rules_laws.specs.Good.{Good, Ready, clean-ready, serveFlag-clean}
+use Rattle.rules_laws.specs.Acceptance.{somebody-runs}
+use Rattle.rules_laws.specs.Refusals.{accepted-is, refused-is}
+use Rattle.rules_laws.specs.Steps.{effect-ready}
+use Rattle.rules_laws.specs.WhileServing.{Reached, begin, onward}
+
+-- ---- in the paper's words
+
+-- "all conditions as desired", by the values conds
+abbrev pub AsDesired : Rig → ℕ → List ℕ → Type 0
+AsDesired r t conds = (p : ℕ) → p < 16 → r .present (place t p) ≡ 1 → getD conds (place t p) 0 ≡ r .desired (place t p)
+
+-- task t has "that flag in a condition": an A line says so
+abbrev pub HasFlag : Rig → ℕ → ℕ → Type 0
+HasFlag r t f = (l : ℕ) × (l < r .lines) × ((r .lineTask l ≡ t) × (r .lineFlag l ≡ f))
+
+-- task t is activated by its schedule: its unlatched conditions have taken the undesired value, and still all are as desired
+pub record BySchedule (r : Rig) (s : State) (k : Call) (t : ℕ) : Type 0 where
+  pub call : k ≡ schedule t
+  pub desired : AsDesired r t (relax (r .present) (r .latched) (r .desired) t (s .conds))
+
+-- it is activated on the way of the serving that starts from w: a flag of one of its conditions is served, and with what the
+-- conditions then take it is inactive with all of them as desired
+pub record ByService (r : Rig) (w : Work) (t : ℕ) : Type 0 where
+  pub before : State
+  pub entry : Entry
+  pub behind : List Entry
+  pub reached : Reached r w (record { now = before; queue = entry ∷ behind })
+  pub was : stateOf before t ≡ inactive
+  pub flag : HasFlag r t (entry .flag)
+  pub desired : AsDesired r t (takes r entry before .conds)
+
+-- ---- the tests in these words
+
+as-desired : (r : Rig) (t : ℕ) (conds : List ℕ) → met (r .present) (r .desired) t conds ≡ true → AsDesired r t conds
+as-desired r t conds e p l c =
+    ⊎-elim (λ n. absurd (n c)) (λ q. q) (met-is (r .present) (r .latched) (r .desired) t conds .0 e p l)
+
+idle-busy : (n m : ℕ) → active n ≡ 0 → active m ≡ 1 → n ≡ m → ⊥
+idle-busy n m a b e = omega (arith, a, b, ap active e)
+
+busy : (n : ℕ) → active n ≢ 0 → active n ≡ 1
+busy zero h = absurd (h refl)
+busy (suc zero) h = absurd (h refl)
+busy (suc (suc n)) h = refl
+
+-- ---- one flag is served
+
+module _ (r : Rig) (e : Entry) (s : State) (q : List Entry) (g : Good r s (e ∷ q)) (t : ℕ) where
+  -- who is not active before the service, and is after it
+  record Turned : Type 0 where
+    was : stateOf s t ≡ inactive
+    flag : HasFlag r t (e .flag)
+    desired : AsDesired r t (takes r e s .conds)
+
+  woken : Work
+  woken = record { now = wake (chainOf (e .flag) (e .value)) (takes r e s); queue = q }
+
+  -- those who are woken were active before
+  still-idle : active (stateOf (woken .now) t) ≡ active (stateOf s t)
+  unfolding woken wake takes
+  still-idle =
+      let c = chainOf (e .flag) (e .value) in
+      rouse-same active (s .chains c) (s .states) (λ u i. sym (ap active (g .chains .listed .two u (c, i)))) t
+
+  turned : called r (e .flag) woken t ≡ true → Turned
+  unfolding woken wake takes ready
+  turned c =
+      let a = and-true (eqb (stateOf (woken .now) t) 1) (ready r (e .flag) t (woken .now)) c in
+      let b = and-true (names (r .lines) (r .lineTask) (r .lineFlag) t (e .flag)) (met (r .present) (r .desired) t (takes r e s .conds)) (a .1) in
+      record {
+        was = rouse-one t (s .chains (chainOf (e .flag) (e .value))) (s .states) (eqb-true _ 1 (a .0));
+        flag = names-is (r .lines) (r .lineTask) (r .lineFlag) t (e .flag) .0 (b .0);
+        desired = as-desired r t (takes r e s .conds) (b .1);
+      }
+
+  turn : active (stateOf s t) ≡ 0 → active (stateOf (serveFlag r e s q .now) t) ≡ 1 → Turned
+  unfolding serveFlag woken
+  turn i n = turned (offers-changed r (e .flag) woken t (λ same. omega (arith, i, n, still-idle, ap active same)))
+
+-- ---- the serving
+
+module _ (r : Rig) (ok : RigOk r) (w : Work) (t : ℕ) where
+  serving-activates : (k : ℕ) (s : State) (q : List Entry) → length q + inactives (s .states) ≤ k → Ready r (record { now = s; queue = q })
+      → Reached r w (record { now = s; queue = q }) → active (stateOf s t) ≡ 0 → active (stateOf (serving r k s q .now) t) ≡ 1 → ByService r w t
+  unfolding serving
+  serving-activates zero s q h c p i n = absurd (omega arith)
+  serving-activates (suc k) s [] h c p i n = absurd (omega arith)
+  serving-activates (suc k) s (e ∷ q) h c p i n =
+      let l = serveFlag-load r e s q in
+      let x = serveFlag-clean r ok e s q (c .good) (c .clear) in
+      go (dec-eq (active (stateOf (serveFlag r e s q .now) t)) 0)
+      (λ j. serving-activates k (serveFlag r e s q .now) (serveFlag r e s q .queue) (omega arith) (clean-ready r (serveFlag r e s q) x) (onward s e q p) j n)
+    where
+      go : Dec (active (stateOf (serveFlag r e s q .now) t) ≡ 0) → (active (stateOf (serveFlag r e s q .now) t) ≡ 0 → ByService r w t) → ByService r w t
+      go (yes j) later = later j
+      go (no j) later =
+          let d = turn r e s q (c .good) t i (busy (stateOf (serveFlag r e s q .now) t) j) in
+          record { before = s; entry = e; behind = q; reached = p; was = d .was; flag = d .flag; desired = d .desired }
+
+  -- a task that a serving activates
+  pub serve-activates : Ready r w → active (stateOf (w .now) t) ≡ 0 → active (stateOf (serve r w .now) t) ≡ 1 → ByService r w t
+  unfolding serve
+  serve-activates c i n = serving-activates (load w) (w .now) (w .queue) (le-refl _) c begin i n
+
+-- ---- what a call does before its queue is served
+
+module _ (r : Rig) (s : State) (h : Sound r s) (t : ℕ) (i : active (stateOf s t) ≡ 0) where
+  -- t is not active in x
+  abbrev Idle : State → Type 0
+  Idle x = active (stateOf x t) ≡ 0
+
+  -- the running task was active before it waits
+  wait-idle : s .running ≢ 0 → active (getD (set (s .states) (s .running) 2) t 0) ≡ 0
+  wait-idle n = same-under active (s .states) (s .running) t 2 (sym (ap active (h .runs .up n))) ∙ i
+
+  until-idle : (b : Bool) (c : ℕ) → s .running ≢ 0 → Idle (cond b s (waitUntilCount s c))
+  unfolding waitUntilCount
+  until-idle true c n = i
+  until-idle false c n = wait-idle n
+
+  on-idle : (b : Bool) (f v : ℕ) → s .running ≢ 0 → Idle (cond b s (waitOn s f v))
+  unfolding waitOn
+  on-idle true f v n = i
+  on-idle false f v n = wait-idle n
+
+  -- who is due was waiting
+  due-idle : (n : ℕ) → Idle (wakeDue (withCount s n))
+  unfolding wakeDue
+  due-idle n =
+      rouse-same active (keep (isDue (s .wakes) n) (s .chains timeChain)) (s .states)
+      (λ u m. sym (ap active (h .chains .listed .two u (timeChain, in-keep (isDue (s .wakes) n) u (s .chains timeChain) m)))) t
+      ∙ i
+
+  cleared-idle : (marks : List ℕ) → active (getD (cleared marks (s .states)) t 0) ≡ 0
+  unfolding cleared
+  cleared-idle marks =
+      stores-keep (λ i. isMarked marks (i + 1)) (λ i. i + 1) (λ i. 0) (λ m. active (getD m t 0) ≡ 0) 64
+      (λ j m a e g. keeps-under active 0 m (j + 1) t 0 refl g) (s .states) i
+
+  -- the task that is scheduled, if all its conditions are as desired, and no other
+  scheduled-idle : (u : ℕ) → Idle (scheduled r s u .now) ⊎ BySchedule r s (schedule u) t
+  unfolding scheduled activate
+  scheduled-idle u = go (met (r .present) (r .desired) u conds) refl (dec-eq t u)
+    where
+      conds : List ℕ
+      conds = relax (r .present) (r .latched) (r .desired) u (s .conds)
+
+      w : Work
+      w = quiet (withTables s conds (set (s .states) u 1))
+
+      one : active (getD (set (s .states) u 1) t 0) ≡ 0
+      one = keeps-under active 0 (s .states) u t 1 refl i
+
+      go : (b : Bool) → met (r .present) (r .desired) u conds ≡ b → Dec (t ≡ u) → Idle ((cond b (activate r u w) w) .now) ⊎ BySchedule r s (schedule u) t
+      go false e d = inl one
+      go true e (no d) = inl (ap active (getD-set-other (set (s .states) u 1) u t 3 0 d) ∙ one)
+      go true e (yes d) =
+          inr (subst (λ (v : ℕ). BySchedule r s (schedule u) v) (sym d) (record { call = refl; desired = as-desired r u conds e }))
+
+  effect-activates : (k : Call) → refusal r s k ≡ 0 → Idle (effect r s k .now) ⊎ BySchedule r s k t
+  unfolding effect refusal refusals finished terminated cancelled ticked
+  effect-activates (schedule u) e = scheduled-idle u
+  effect-activates (cancel u) e = inl (cleared-idle (family (r .controller) u))
+  effect-activates (terminate u) e = inl (keeps-under active 0 (s .states) u t 1 refl i)
+  effect-activates finish e = inl (keeps-under active 0 (s .states) (s .running) t 1 refl i)
+  effect-activates (tick buffer) e = inl (due-idle (suc (s .count)))
+  effect-activates (waitUntil c) e = inl (until-idle (leb c (s .count)) c (somebody-runs s _ e))
+  effect-activates (waitFor n) e = inl (until-idle (leb (s .count + n) (s .count)) (s .count + n) (somebody-runs s _ e))
+  effect-activates (latched f v) e = inl (on-idle (eqb (valueOf s f) v) f v (somebody-runs s _ e))
+  effect-activates (unlatched f v) e = inl (on-idle false f v (somebody-runs s _ e))
+  effect-activates (signal f v) e = inl i
+  effect-activates (readFlag f) e = inl i
+  effect-activates (readBlock k area buffer) e = inl i
+  effect-activates (writeBlock k area buffer) e = inl i
+
+-- ---- THE THEOREM
+
+pub activated-by : (r : Rig) → RigOk r → (s : State) → Sound r s → (k : Call) → Proper k → (t : ℕ)
+    → active (stateOf s t) ≡ 0 → active (stateOf (step r s k .next) t) ≡ 1
+    → BySchedule r s k t ⊎ ByService r (effect r s k) t
+unfolding accepted dispatch
+activated-by r ok s h k p t i n = go (refusal r s k) refl
+  where
+    served : refusal r s k ≡ 0 → active (stateOf (serve r (effect r s k) .now) t) ≡ 1
+    served e = ap (λ (x : Step). active (stateOf (x .next) t)) (sym (accepted-is r s k e)) ∙ n
+
+    go : (m : ℕ) → refusal r s k ≡ m → BySchedule r s k t ⊎ ByService r (effect r s k) t
+    go zero e =
+        ⊎-elim (λ j. inr (serve-activates r ok (effect r s k) t (effect-ready r ok s h k p e) j (served e))) (λ j. inl j)
+        (effect-activates r s h t i k e)
+    go (suc m) e = absurd (omega (arith, i, n, ap (λ (x : Step). active (stateOf (x .next) t)) (refused-is r s k m e)))

@@ -1,0 +1,1 @@
+// What follows from the rules of the executive: theorems in specs/; no code.
