@@ -1,11 +1,11 @@
-// The tests of a rig's conditions: their values, that A lines and conditions name each other, and conditions with a minor-cycle
-// flag. What would compare every A line with every other goes by a table of the conditions' last lines.
+// The tests of a rig's conditions: their values, and that A lines and conditions name each other. What would look for a line of every
+// condition goes by a table of marks.
 ghost use mathlib.Core.Path.{_≡_};
 ghost use Prim.Native.Nat.{_≤_};
 ghost use Rattle.laws.specs.All.{all};
-ghost use Rattle.laws.specs.Owners.{owners};
-ghost use Rattle.rig_tables.specs.Tests.{smallOne, conditionsB, placeOf};
-ghost use Rattle.rig_conditions.specs.Tables.{Placed, Owned, ZeroFrom, namedOwnerB, matchedB, minorTest, minorOwnerB};
+ghost use Rattle.rig_tables.specs.Tests.{namedB, smallOne, conditionsB};
+ghost use Rattle.rig_tables.specs.Lines.{Placed};
+ghost use Rattle.rig_conditions.specs.Tables.{ZeroFrom, placeMarks, matchedB};
 ghost use Rattle.rig_conditions.specs.Passes.{underOne};
 
 // Here and below a loop over a long table marks what fails and goes on: one that does not leave early tests many entries at
@@ -55,55 +55,31 @@ pub fn conditions<'a>(
     under(desired, present)
 }
 
-// The last A line of each condition, counted from 1; 0 for none.
-pub fn place_owners<'a>(n: usize, lineTask: &'a [u8; 1024], linePos: &'a [u8; 1024]) -> [u16; 1040]
+// The conditions that A lines name, marked by 1.
+pub fn place_marks<'a>(n: usize, lineTask: &'a [u8; 1024], linePos: &'a [u8; 1024]) -> [u8; 1040]
     requires { ⌜ Placed n (now lineTask) (now linePos) ⌝ }
-    ensures { λ r. ⌜ r ≡ owners n (placeOf (now (lineTask .entry)) (now (linePos .entry))) 1040 ⌝ }
+    ensures { λ r. ⌜ r ≡ placeMarks n (now (lineTask .entry)) (now (linePos .entry)) ⌝ }
 {
-    let mut table = [0u16; 1040];
+    let mut table = [0u8; 1040];
     let mut k: usize = 0;
     while k < n {
         let p = rig_tables::place_of(lineTask[k], linePos[k]);
-        table[p] = (k + 1) as u16;
+        table[p] = 1;
         k = k + 1;
     }
     table
 }
 
-// Each condition that an A line names has a C line.
-pub fn names_present<'a>(present: &'a [u8; 1040], table: &'a [u16; 1040]) -> bool
-    ensures { λ r. ⌜ r ≡ namedOwnerB (now (present .entry)) (now (table .entry)) ⌝ }
-{
-    let mut bad: u8 = 0;
-    let mut p: usize = 0;
-    while p < 1040 {
-        let has = present[p];
-        let owner = table[p];
-        if has != 1 {
-            if owner != 0 {
-                bad = 1;
-            }
-        }
-        p = p + 1;
-    }
-    bad == 0
-}
-
-// The owned places are the conditions: in one pass, that each condition has an owner too. From `end` on there is neither.
-pub fn matched<'a>(end: usize, present: &'a [u8; 1040], table: &'a [u16; 1040]) -> bool
+// The marked places are the conditions: each condition that an A line names has a C line, and each condition has an A line.
+// From `end` on there is neither.
+pub fn matched<'a>(end: usize, present: &'a [u8; 1040], table: &'a [u8; 1040]) -> bool
     requires { ⌜ (end ≤ 1040) × (ZeroFrom end (now present) × ZeroFrom end (now table)) ⌝ }
     ensures { λ r. ⌜ r ≡ matchedB (now (present .entry)) (now (table .entry)) ⌝ }
 {
     let mut bad: u8 = 0;
     let mut p: usize = 0;
     while p < end {
-        let has = present[p];
-        let owner = table[p];
-        let mut want: u8 = 0;
-        if owner != 0 {
-            want = 1;
-        }
-        if has != want {
+        if present[p] != table[p] {
             bad = 1;
         }
         p = p + 1;
@@ -111,53 +87,20 @@ pub fn matched<'a>(end: usize, present: &'a [u8; 1040], table: &'a [u16; 1040]) 
     bad == 0
 }
 
-// An A line whose own flag, or the flag of the condition's last line, is a minor-cycle flag.
-fn minor_ok(last: bool, mine: u8, other: u8, latched: u8, desired: u8) -> bool
-    ensures { λ r. ⌜ r ≡ minorTest last mine other latched desired ⌝ }
-{
-    if mine == 0 {
-        if last { true } else { other == 0 }
-    } else {
-        if last {
-            if latched == 0 { desired == 1 } else { false }
-        } else {
-            false
-        }
-    }
-}
-
-// A condition with a minor-cycle flag has no other flag, is unlatched and desires on; flags are the marks of minor-cycle
-// flags, table the conditions' last lines.
-pub fn minor_conditions<'a>(
+// Each condition that an A line names has a C line: which of the two rules is broken, where the marks are not the conditions.
+pub fn names_present<'a>(
     n: usize,
-    latched: &'a [u8; 1040],
-    desired: &'a [u8; 1040],
+    present: &'a [u8; 1040],
     lineTask: &'a [u8; 1024],
     linePos: &'a [u8; 1024],
-    lineFlag: &'a [u8; 1024],
-    flags: &'a [u8; 129],
-    table: &'a [u16; 1040],
 ) -> bool
-    requires { ⌜ Owned n (now lineTask) (now linePos) (now lineFlag) (now table) ⌝ }
-    ensures { λ r.
-        ⌜
-        r
-        ≡ minorOwnerB n (now (latched .entry)) (now (desired .entry)) (now (lineTask .entry)) (now (linePos .entry)) (now (lineFlag .entry)) (now (flags .entry)) (now (table .entry))
-        ⌝ }
+    requires { ⌜ Placed n (now lineTask) (now linePos) ⌝ }
+    ensures { λ r. ⌜ r ≡ namedB n (now (present .entry)) (now (lineTask .entry)) (now (linePos .entry)) ⌝ }
 {
     let mut k: usize = 0;
     while k < n {
         let p = rig_tables::place_of(lineTask[k], linePos[k]);
-        let owner = rig_tables::wide16(table[p]);
-        let mine = rig_tables::wide(lineFlag[k]);
-        let other = rig_tables::wide(lineFlag[owner - 1]);
-        if !minor_ok(
-            owner == k + 1,
-            flags[mine],
-            flags[other],
-            latched[p],
-            desired[p],
-        ) {
+        if present[p] != 1 {
             return false;
         }
         k = k + 1;

@@ -1,22 +1,23 @@
 -- A cycle that rises has nothing behind its first 0: what the loops that end there may leave out.
 use mathlib.Core.Path.{_≡_, refl, sym, _∙_, ap}
-use mathlib.Core.Bool.{true, false≢true}
-use mathlib.Core.List.{List}
-use Prim.Native.Nat.{ℕ, _+_, _≤_, _<_, zero, suc}
-use native.Mathlib.Omega.{arith}
-use lib.Dec.{eqb, ltb}
-use borrow.Author.Tests.{eqb-true, eqb-false, ltb-true, ltb-false, le-leb, eq-eqb}
-use Rattle.laws.specs.Cases.{by, and-go, or-yes}
-use Rattle.laws.specs.All.{all, all-at, all-all, and-right}
-use Rattle.laws.specs.Decides.{is-eqb, is-all, is-said, is-same}
 use mathlib.Core.Logic.{_≢_}
+use mathlib.Core.Bool.{Bool, true, false, not, _&&_, _||_, false≢true}
+use mathlib.Core.List.{List}
+use Prim.Native.Nat.{ℕ, zero, suc, _+_, _≤_, _<_}
+use native.Mathlib.Omega.{arith}
 use native.Mathlib.Numerals.{add-one}
+use lib.Bits.{bitOr, bitAnd, bitXor}
+use lib.Dec.{eqb, ltb}
 use lib.ListN.{length, set}
 use lib.Seq.{set-set, set-comm}
+use borrow.Author.Tests.{eqb-true, eqb-false, le-leb, ltb-true, ltb-false, lt-ltb, le-ltb}
+use Rattle.laws.specs.Cases.{by}
+use Rattle.laws.specs.All.{all, all-at, all-all, and-right}
+use Rattle.laws.specs.Bits.{bit}
+use Rattle.laws.specs.Faults.{bit-or, bit-and, bit-not}
 use Rattle.laws.specs.Iter.{iter}
 use Rattle.laws.specs.Owners.{markOne, marks}
 use Rattle.rig_tables.specs.Tests.{at, smallOne, flagTest, flagRises, cycleRises, cycleSmall}
-use Rattle.rig_tables.specs.Passes.{zeroOne}
 
 -- a table by flag, with nothing at 0
 abbrev pub flagsOnly : List ℕ → List ℕ
@@ -47,16 +48,22 @@ module _ (flags : List ℕ) (rises : all 14 (flagRises flags) ≡ true) (i : ℕ
       (λ e. next-zero (at flags k) (at flags (suc k)) (behind k (omega (arith, h, eqb-false i (suc k) e)) (omega (arith, b)))
       (rw (add-one k) at (all-at 14 (flagRises flags) rises k (omega (arith, b)))))
 
--- a cycle that begins with 0 rises exactly where it has no flag
-pub no-flags-law : (flags : List ℕ) → length flags ≡ 15 → at flags 0 ≡ 0 → all 15 (zeroOne flags) ≡ cycleRises flags
-unfolding cycleRises
-no-flags-law flags n z =
-    is-same
-    (is-said (is-all 15 (λ i h. is-eqb (at flags i) 0))
-    (λ f. all-all 14 (flagRises flags) (λ i h. sym (or-yes (eqb (at flags (i + 1)) 0) _ (eq-eqb (at flags (i + 1)) 0 (f (i + 1) (omega (arith, h)))))))
-    (λ e i h. behind flags e 0 z i (omega arith) h))
-    ((λ e. e), (λ e. e))
-    ∙ sym (and-go (eq-eqb (length flags) 15 n) refl)
+-- the fault of a place, as the code puts it together
+flag-not : (a b d : Bool) → (not a && (b || not d)) ≡ not (a || (not b && d))
+flag-not true b d = refl
+flag-not false true true = refl
+flag-not false true false = refl
+flag-not false false true = refl
+flag-not false false false = refl
+
+some-is : (h : ℕ) → ltb 0 h ≡ not (eqb h 0)
+some-is h = by (eqb h 0) (λ e. rw (e, le-ltb 0 h (omega (arith, eqb-true h 0 e)))) (λ e. rw (e, lt-ltb 0 h (omega (arith, eqb-false h 0 e))))
+
+pub fault-is : (f h : ℕ) {some none-before rises : ℕ} → some ≡ bit (ltb 0 h) → none-before ≡ bit (eqb f 0) → rises ≡ bit (ltb f h)
+    → bitAnd some (bitOr none-before (bitXor 1 rises)) ≡ bit (not (flagTest f h))
+fault-is f h a b d =
+    rw (a, b, d, bit-not (ltb f h), bit-or (eqb f 0) (not (ltb f h)), bit-and (ltb 0 h) (eqb f 0 || not (ltb f h)))
+    (rw (some-is h) (ap bit (flag-not (eqb h 0) (eqb f 0) (ltb f h))))
 
 rises-pairs : (flags : List ℕ) → cycleRises flags ≡ true → all 14 (flagRises flags) ≡ true
 unfolding cycleRises

@@ -1,76 +1,60 @@
 // The tests of minor cycles: the flags of each rise and are small enough, and the marks of minor-cycle flags.
 use rig::Cycle;
 ghost use mathlib.Core.Path.{_≡_};
-ghost use mathlib.Core.Bool.{true};
+ghost use mathlib.Core.Bool.{true, not};
 ghost use Prim.Native.Nat.{ℕ, _≤_, _<_};
-ghost use Rattle.laws.specs.All.{all};
+ghost use Rattle.laws.specs.Bits.{bit};
 ghost use lib.ListN.{length};
 ghost use Rattle.laws.specs.Owners.{marks};
 ghost use Rattle.rig_tables.specs.Tests.{at, flagTest, cycleRises, cycleSmall};
-ghost use Rattle.rig_tables.specs.Passes.{zeroOne};
 ghost use Rattle.rig_cycles.specs.Cycles.{flagsOnly};
 ghost use Rattle.rig.specs.Rules.{flagAt};
 ghost use Rattle.rig_cycles.specs.Tests.{cyclesRiseB, cyclesSmallB, minorMarks};
 
-fn flag_rises(f: u8, h: u8) -> bool
-    ensures { λ r. ⌜ r ≡ flagTest f h ⌝ }
+// 1 where flag h may not stand behind f, else 0: a flag stands behind a lower one, and 0 is none. No part of it is left out by a
+// branch: so all places of a cycle are compared at once.
+fn fault(f: u8, h: u8) -> u8
+    ensures { λ r. ⌜ r ≡ bit (not (flagTest f h)) ⌝ }
 {
-    if h == 0 {
-        true
-    } else {
-        if f != 0 { f < h } else { false }
-    }
+    let some = rig_tables::below(0, h);
+    let none_before = rig_tables::same(f, 0);
+    let rises = rig_tables::below(f, h);
+    some & (none_before | (1 ^ rises))
 }
 
-// All fifteen places are 0.
-fn no_flags(flags: &[u8; 15]) -> bool
-    ensures { λ r. ⌜ r ≡ all 15 (zeroOne (now (flags .entry))) ⌝ }
-{
-    let mut k: usize = 0;
-    while k < 15 {
-        if flags[k] != 0 {
-            return false;
-        }
-        k = k + 1;
-    }
-    true
-}
-
-// The flags of one cycle rise, and nothing stands behind the last. A cycle that begins with 0 must have no flag at all, which
-// is seen without comparing neighbours.
+// The flags of one cycle rise, and nothing stands behind the last.
 pub fn cycle_rises(flags: &[u8; 15]) -> bool
     requires { ⌜ length (now flags) ≡ 15 ⌝ }
     ensures { λ r. ⌜ r ≡ cycleRises (now (flags .entry)) ⌝ }
 {
-    if flags[0] == 0 {
-        return no_flags(flags);
-    }
+    let mut faults: u8 = 0;
     let mut i: usize = 0;
     while i < 14 {
-        if !flag_rises(flags[i], flags[i + 1]) {
-            return false;
-        }
+        let x = fault(flags[i], flags[i + 1]);
+        faults = faults | x;
         i = i + 1;
     }
-    true
+    faults == 0
 }
 
-// No flag of a cycle is above top. Behind the first 0 of a cycle that rises there is no flag.
+// No flag of a cycle is above top: the largest is not. A cycle that rises and begins with 0 has no flag.
 pub fn cycle_small(top: u8, flags: &[u8; 15]) -> bool
     requires { ⌜ cycleRises (now flags) ≡ true ⌝ }
     ensures { λ r. ⌜ r ≡ cycleSmall top (now (flags .entry)) ⌝ }
 {
+    if flags[0] == 0 {
+        return true;
+    }
+    let mut most: u8 = 0;
     let mut i: usize = 0;
     while i < 15 {
-        if flags[i] == 0 {
-            return true;
-        }
-        if top < flags[i] {
-            return false;
+        let x = flags[i];
+        if most < x {
+            most = x;
         }
         i = i + 1;
     }
-    true
+    most <= top
 }
 
 // Marks each flag of one cycle that rises, up to its first 0. No flag has the number 0, so what is said of the table leaves

@@ -2,6 +2,8 @@
 // rules ask of the tables, as tests; the crates rig_conditions, rig_a_lines, rig_zeros, rig_cycles, rig_controllers and
 // rig_activation compute them, each by loops over lent arrays in time linear in the tables.
 ghost use mathlib.Core.Path.{_≡_};
+ghost use lib.Dec.{eqb, ltb};
+ghost use Rattle.laws.specs.Bits.{bit};
 ghost use Rattle.rig_tables.specs.Tests.{place, within, smallB};
 
 pub fn wide(x: u8) -> usize
@@ -26,6 +28,20 @@ pub fn in_range(low: u8, n: u8, high: u8) -> bool
     ensures { λ r. ⌜ r ≡ within low n high ⌝ }
 {
     if low <= n { n <= high } else { false }
+}
+
+// 1 where a is below b, else 0: a fault, or a part of one, without a branch.
+pub fn below(a: u8, b: u8) -> u8
+    ensures { λ r. ⌜ r ≡ bit (ltb a b) ⌝ }
+{
+    if a < b { 1 } else { 0 }
+}
+
+// 1 where a is b, else 0.
+pub fn same(a: u8, b: u8) -> u8
+    ensures { λ r. ⌜ r ≡ bit (eqb a b) ⌝ }
+{
+    if a == b { 1 } else { 0 }
 }
 
 // Each entry is at most top: the largest is. A loop that keeps the largest goes over many entries at once.

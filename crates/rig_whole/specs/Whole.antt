@@ -1,22 +1,23 @@
 -- `rightB` is true of exactly the right rigs, and the number that `firstBroken` gives is that of a rule which does not hold.
 use mathlib.Core.Bool.{Bool, true}
 use mathlib.Core.List.{List, [], _∷_}
-use Prim.Native.Nat.{ℕ, _≤_, _<_}
+use Prim.Native.Nat.{ℕ, _+_, _≤_, _<_}
 use lib.Dec.{eqb}
 use lib.ListN.{length}
 use Rattle.laws.specs.All.{allOf, allOf-at, allOf-cons, allOf-nil}
 use Rattle.laws.specs.First.{firstFalse, first-all, all-first}
-use Rattle.rig_tables.specs.Tests.{at, controllersB, servesOneB, namedB, usedB, marked}
+use Rattle.rig_tables.specs.Tests.{at, controllersB, servesOneB, namedB, usedB, marked, place, linesRiseB}
 use mathlib.Core.Path.{_≡_, sym, _∙_, ap}
-use mathlib.Core.Logic.{_↔_}
+use mathlib.Core.Logic.{_↔_, ⊎-elim}
 use native.Mathlib.Omega.{arith}
 use borrow.Author.Tests.{eqb-true, eqb-false, eq-eqb, leb-true, le-leb}
 use Rattle.laws.specs.Cases.{by}
 use Rattle.laws.specs.Decides.{is-eqb, is-said}
-use Rattle.rig_conditions.specs.Tables.{LinesFit, Ends}
+use Rattle.rig_tables.specs.Lines.{LinesFit, Together}
+use Rattle.rig_conditions.specs.Tables.{Ends}
 use Rattle.rig.specs.declared.Cycle.{Cycle}
 use Rattle.rig.specs.declared.Rig.{Rig}
-use Rattle.rig.specs.Rules.{flagAt, Shaped, Right}
+use Rattle.rig.specs.Rules.{flagAt, Shaped, Right, Rises}
 use Rattle.rig_cycles.specs.Tests.{cyclesRiseB, minorMarks}
 use Rattle.rig_cycles.specs.Marks.{not-minor-law, minor-conditions-law}
 use Rattle.rig_whole.specs.Tests.{shapedTests, countTests, orderTests, numberTests, taskTests, lineTests, taskGroup, lineGroup, tests, firstBroken, rightB}
@@ -161,20 +162,28 @@ counted tasks flags master lines rows r e z =
     }
 
 pub risen : (lines : ℕ) (lineTask linePos lineFlag : List ℕ) (cycles : List Cycle) (r : ℕ) → r ≡ firstFalse 10 (orderTests lines lineTask linePos lineFlag cycles)
-    → r ≡ 0 → cyclesRiseB cycles ≡ true
+    → r ≡ 0 → (linesRiseB lines lineTask linePos lineFlag ≡ true) × (cyclesRiseB cycles ≡ true)
 risen lines lineTask linePos lineFlag cycles r e z =
-    allOf-at (orderTests lines lineTask linePos lineFlag cycles) (first-all 10 (orderTests lines lineTask linePos lineFlag cycles) (omega arith) (sym e ∙ z)) 1
+    let k = allOf-at (orderTests lines lineTask linePos lineFlag cycles) (first-all 10 (orderTests lines lineTask linePos lineFlag cycles) (omega arith) (sym e ∙ z)) in
+    (k 0, k 1)
 
 pub record Numbered (g : Rig) (cycles : List Cycle) : Type 0 where
   pub activation : (t : ℕ) → t < 65 → at (g .activation) t ≤ 128
   pub fit : LinesFit (g .lines) (g .lineTask) (g .linePos) (g .lineFlag)
+  pub together : Together (g .lines) (g .lineTask) (g .linePos)
   pub ends : Ends (g .tasks) (g .lines) (g .present) (g .lineTask) (g .linePos)
   pub minor : (c : ℕ) → c < 64 → (i : ℕ) → i < 15 → flagAt cycles c i ≤ 128
 
+-- lines that rise, with positions of 15 at most, have places that do not fall
+place-le : (t p f u q h : ℕ) → p ≤ 15 → Rises t p f u q h → place t p ≤ place u q
+place-le t p f u q h b =
+    ⊎-elim (λ w. omega (arith, w, b)) (λ w. ⊎-elim (λ v. omega (arith, w .0, v)) (λ v. omega (arith, w .0, v .0)) (w .1))
+
 pub numbered : (g : Rig) (cycles : List Cycle) (r : ℕ) → Counted (g .tasks) (g .flags) (g .lines) (g .rows)
+    → linesRiseB (g .lines) (g .lineTask) (g .linePos) (g .lineFlag) ≡ true
     → r ≡ firstFalse 12 (numberTests (g .tasks) (g .flags) (g .lines) (g .activation) (g .present) (g .lineTask) (g .linePos) (g .lineFlag) cycles) → r ≡ 0
     → Numbered g cycles
-numbered g cycles r n e z =
+numbered g cycles r n order e z =
     let l : List Bool = numberTests (g .tasks) (g .flags) (g .lines) (g .activation) (g .present) (g .lineTask) (g .linePos) (g .lineFlag) cycles in
     let k = allOf-at l (first-all 12 l (omega arith) (sym e ∙ z)) in
     let lines = lines-is g cycles .0 (k 2) in
@@ -189,6 +198,11 @@ numbered g cycles r n e z =
                 };
             flags = λ i h. omega (arith, lines i h .flag .1, n .flags-le);
           };
+      together =
+          λ k h.
+          place-le (at (g .lineTask) k) (at (g .linePos) k) (at (g .lineFlag) k) (at (g .lineTask) (k + 1)) (at (g .linePos) (k + 1)) (at (g .lineFlag) (k + 1))
+          (lines k (omega (arith, h)) .position)
+          (line-order-is g cycles .0 order k h);
       ends =
           record {
             few = n .tasks-le;

@@ -8,7 +8,8 @@ ghost use Rattle.laws.specs.First.{firstFalse};
 ghost use Rattle.rig_tables.specs.Tests.{at, marked};
 ghost use mathlib.Core.Path.{_≡_};
 ghost use mathlib.Core.Bool.{true};
-ghost use Rattle.rig_conditions.specs.Tables.{LinesFit, Ends};
+ghost use Rattle.rig_tables.specs.Lines.{LinesFit, Together};
+ghost use Rattle.rig_conditions.specs.Tables.{Ends};
 ghost use Rattle.rig.specs.Forms.{rigOf};
 ghost use Rattle.rig_cycles.specs.Tests.{cyclesRiseB};
 ghost use Rattle.rig_whole.specs.Tests.{shapedTests, countTests, sizeTests, orderTests, numberTests, taskTests, lineTests, restTests, firstBroken, rightB};
@@ -157,31 +158,22 @@ fn line_rules<'a>(
     lineFlag: &'a [u8; 1024],
     flags: &'a [u8; 129],
 ) -> u8
-    requires { ⌜ LinesFit lines (now lineTask) (now linePos) (now lineFlag) × Ends tasks lines (now present) (now lineTask) (now linePos) ⌝ }
+    requires { ⌜ LinesFit lines (now lineTask) (now linePos) (now lineFlag) × (Together lines (now lineTask) (now linePos) × Ends tasks lines (now present) (now lineTask) (now linePos)) ⌝ }
     ensures { λ r.
         ⌜
         r
         ≡ firstFalse 19 (lineTests lines (now (present .entry)) (now (latched .entry)) (now (desired .entry)) (now (lineTask .entry)) (now (linePos .entry)) (now (lineFlag .entry)) (marked (now (flags .entry))))
         ⌝ }
 {
-    let table = rig_conditions::place_owners(lines, lineTask, linePos);
+    let table = rig_conditions::place_marks(lines, lineTask, linePos);
     // one pass for both rules; where it fails, which
     if !rig_conditions::matched(16 * (tasks + 1), present, &table) {
-        if !rig_conditions::names_present(present, &table) {
+        if !rig_conditions::names_present(lines, present, lineTask, linePos) {
             return 19;
         }
         return 20;
     }
-    if !rig_conditions::minor_conditions(
-        lines,
-        latched,
-        desired,
-        lineTask,
-        linePos,
-        lineFlag,
-        flags,
-        &table,
-    ) {
+    if !rig_minor::minor_conditions(lines, latched, desired, lineTask, linePos, lineFlag, flags) {
         return 21;
     }
     0

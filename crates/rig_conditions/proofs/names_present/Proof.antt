@@ -1,60 +1,58 @@
 use borrow.Author.Needs.{needs}
-use mathlib.Core.Logic.{⊎-elim}
-use mathlib.Core.Path.{_≡_, refl, sym, _∙_}
-use mathlib.Core.Bool.{Bool, true, false, _||_}
+use mathlib.Core.Path.{_≡_, sym, _∙_, ap}
+use mathlib.Core.Bool.{true}
 use borrow.Author.Tests.{eq-eqb, ne-eqb}
-use Prim.Native.Nat.{_≤_, _-_}
+use Prim.Native.Nat.{ℕ, _≤_, _-_}
 use native.Mathlib.Omega.{arith}
 use lib.Dec.{eqb}
-use Rattle.laws.specs.All.{Passed, passed-none, passed-next, passed-not}
-use Rattle.laws.specs.Cases.{or-skip, or-yes}
-use Rattle.rig_tables.specs.Tests.{at}
-use Rattle.rig_conditions.specs.Tables.{namedOwnerOne, namedOwnerB}
+use Rattle.laws.specs.All.{all, all-zero, all-next, all-not}
+use Rattle.rig_tables.specs.Tests.{at, namedOne, namedB}
 use Rattle.rig_conditions.proofs.names_present.Statement.{statement}
 use Rattle.rig_conditions.proofs.names_present.Tie as tie
 
 abbrev Inv-loop : tie.InvT-loop
-Inv-loop present table bad₀ p₀ bad p = Passed bad p (namedOwnerOne present table) × (p ≤ 1040)
+Inv-loop n present lineTask linePos k₀ k = (all k (namedOne present lineTask linePos) ≡ true) × (k ≤ n)
 
 abbrev μ-loop : tie.MeasureT-loop
-μ-loop present table bad₀ p₀ bad p = 1040 - p
-
-or-last : (a b : Bool) → b ≡ true → (a || b) ≡ true
-or-last true b e = refl
-or-last false b e = e
+μ-loop n present lineTask linePos k₀ k = n - k
 
 loop-holds : tie.Need-loop-holds Inv-loop μ-loop
-loop-holds c = (passed-none _, search needs)
+loop-holds c = (all-zero _, search needs)
 
-element-copy-out-has : tie.Need-element-copy-out-has Inv-loop μ-loop
-element-copy-out-has c = search needs
+element-copy-out-place-of : tie.Need-element-copy-out-place-of Inv-loop μ-loop
+element-copy-out-place-of c = omega (arith, c .before .before .pre .few)
 
-mul-owner : tie.Need-mul-owner Inv-loop μ-loop
-mul-owner c = search needs
+element-copy-out-place-of-2 : tie.Need-element-copy-out-place-of-2 Inv-loop μ-loop
+element-copy-out-place-of-2 c = omega (arith, c .before .before .before .pre .few)
 
-element-copy-out-owner : tie.Need-element-copy-out-owner Inv-loop μ-loop
-element-copy-out-owner c = search needs
+place-of-requires : tie.Need-place-of-requires Inv-loop μ-loop
+place-of-requires c κs = search needs
 
-add-p : tie.Need-add-p Inv-loop μ-loop
-add-p c = search needs
+element-copy-out-if1 : tie.Need-element-copy-out-if1 Inv-loop μ-loop
+element-copy-out-if1 c = omega (arith, c .place-of .ensures, c .before .before .before .before .before .pre .low (c .before .before .before .before .loop .k) (c .before .before .before .loop-test .taken))
+
+returns : tie.Need-returns Inv-loop μ-loop
+unfolding namedB
+returns c =
+    let s = c .before .before .before .before .before .before .before .args in
+    sym (all-not _ _ (c .before .before .before .before .before .before .loop .k) (c .before .before .before .before .before .loop-test .taken) (ap (λ (p : ℕ). eqb (at (s .present .now) p) 1) (sym (c .before .before .place-of .ensures)) ∙ ne-eqb _ _ (c .if1 .taken)))
+
+add-k : tie.Need-add-k Inv-loop μ-loop
+add-k c = omega (arith, c .before .before .before .before .before .before .before .pre .few)
 
 loop-less : tie.Need-loop-less Inv-loop μ-loop
 loop-less c = search needs
 
 loop-again : tie.Need-loop-again Inv-loop μ-loop
-loop-again c = (
-  ⊎-elim (λ w. passed-not _ _ (sym (or-skip _ _ (ne-eqb _ 0 (w .1 .taken))) ∙ ne-eqb _ 1 (w .0 .taken)) (w .2))
-      (⊎-elim (λ w. passed-next _ _ (c .before .before .before .before .loop .inv .0) (sym (or-yes _ _ (eq-eqb _ 0 (w .1 .left)))) (w .2))
-      (λ w. passed-next _ _ (c .before .before .before .before .loop .inv .0) (or-last (eqb (at (c .before .before .before .before .before .args .table .now) (c .before .before .before .before .loop .p)) 0) _ (eq-eqb _ 1 (w .0 .left))) (w .1)))
-      (c .if1 .came),
-  search needs,
-)
+loop-again c =
+    let s = c .before .before .before .before .before .before .before .args in
+    (all-next _ _ (c .before .before .before .before .before .before .loop .inv .0) (ap (λ (p : ℕ). eqb (at (s .present .now) p) 1) (sym (c .before .before .place-of .ensures)) ∙ eq-eqb _ _ (c .if1 .left)), search needs)
 
-returns : tie.Need-returns Inv-loop μ-loop
-unfolding namedOwnerB
-returns c =
-    let e : c .before .loop .p ≡ 1040 = omega arith in
-    rw e at (c .before .loop .inv .0)
+returns-2 : tie.Need-returns-2 Inv-loop μ-loop
+unfolding namedB
+returns-2 c =
+    let e : c .before .loop .k ≡ c .before .before .args .n = omega arith in
+    sym (rw e at (c .before .loop .inv .0))
 
 pub names-present-spec : {M : Type 1} → statement M
 names-present-spec =
@@ -63,10 +61,12 @@ names-present-spec =
     Inv-loop
     μ-loop
     loop-holds
-    element-copy-out-has
-    mul-owner
-    element-copy-out-owner
-    add-p
+    element-copy-out-place-of
+    element-copy-out-place-of-2
+    place-of-requires
+    element-copy-out-if1
+    returns
+    add-k
     loop-less
     loop-again
-    returns)
+    returns-2)

@@ -5,6 +5,7 @@ use Rattle.laws.specs.All.{allOf}
 use Rattle.laws.specs.First.{firstFalse, first-found, first-passed, first-last}
 use Rattle.rig.specs.declared.Rig.{Rig}
 use Rattle.rig.specs.Forms.{rigOf}
+use Rattle.rig_tables.specs.Tests.{linesRiseB}
 use Rattle.rig_cycles.specs.Tests.{cyclesRiseB}
 use Rattle.rig_whole.specs.Tests.{shapedTests, countGroup, sizeGroup, orderGroup, numberGroup, taskGroup, lineGroup, restGroup, fromSizes, fromOrders, fromNumbers, fromTasks, fromLines, fromRest, tests, firstBroken}
 use Rattle.rig_whole.specs.Whole.{Counted, counted, risen, Numbered, numbered, task-answer, line-answer}
@@ -23,14 +24,14 @@ counted-at c =
     let a = c .before .before .args in
     counted (a .tasks) (a .flags) (a .master) (a .lines) (a .rows) (c .before .counts .result) (c .before .counts .ensures) (c .if1 .left)
 
-risen-at : (c : tie.Else3) → cyclesRiseB (c .before .before .before .before .before .before .args .cycles) ≡ true
+risen-at : (c : tie.Else3) → (linesRiseB (c .before .before .before .before .before .before .args .lines) (c .before .before .before .before .before .before .args .lineTask .now) (c .before .before .before .before .before .before .args .linePos .now) (c .before .before .before .before .before .before .args .lineFlag .now) ≡ true) × (cyclesRiseB (c .before .before .before .before .before .before .args .cycles) ≡ true)
 risen-at c =
     let a = c .before .before .before .before .before .before .args in
     risen (a .lines) (a .lineTask .now) (a .linePos .now) (a .lineFlag .now) (a .cycles) (c .before .orders .result) (c .before .orders .ensures) (c .if3 .left)
 
 numbered-at : (c : tie.Else4) → Numbered (rig-at (c .before .before .before .before .before .before .before .before)) (c .before .before .before .before .before .before .before .before .args .cycles)
 numbered-at c =
-    numbered (rig-at (c .before .before .before .before .before .before .before .before)) (c .before .before .before .before .before .before .before .before .args .cycles) (c .before .numbers .result) (counted-at (c .before .before .before .before .before .before)) (c .before .numbers .ensures) (c .if4 .left)
+    numbered (rig-at (c .before .before .before .before .before .before .before .before)) (c .before .before .before .before .before .before .before .before .args .cycles) (c .before .numbers .result) (counted-at (c .before .before .before .before .before .before)) (risen-at (c .before .before) .0) (c .before .numbers .ensures) (c .if4 .left)
 
 -- past each group the rest decides
 past1 : (c : tie.Else1) → firstBroken (rig-at (c .before .before)) (c .before .before .args .cycles) ≡ firstFalse 6 (fromSizes (rig-at (c .before .before)) (c .before .before .args .cycles))
@@ -103,7 +104,7 @@ returns-3 c =
     first-found 10 (orderGroup (rig-at s) (s .args .cycles)) (fromNumbers (rig-at s) (s .args .cycles)) (c .before .orders .result) (c .before .orders .ensures) (c .if3 .taken) ∙ sym (past2 (c .before .before))
 
 numbers-requires : tie.Need-numbers-requires
-numbers-requires c κs = (counted-at (c .before .before .before .before) .lines-le, risen-at c)
+numbers-requires c κs = (counted-at (c .before .before .before .before) .lines-le, risen-at c .1)
 
 returns-4 : tie.Need-returns-4
 returns-4 c =
@@ -111,7 +112,7 @@ returns-4 c =
     first-found 12 (numberGroup (rig-at s) (s .args .cycles)) (fromTasks (rig-at s) (s .args .cycles)) (c .before .numbers .result) (c .before .numbers .ensures) (c .if4 .taken) ∙ sym (past3 (c .before .before))
 
 minor-marks-requires : tie.Need-minor-marks-requires
-minor-marks-requires c κs = (risen-at (c .before .before), numbered-at c .minor)
+minor-marks-requires c κs = (risen-at (c .before .before) .1, numbered-at c .minor)
 
 task-rules-requires : tie.Need-task-rules-requires
 task-rules-requires c κs = (counted-at (c .before .before .before .before .before .before .before .before) .some, (counted-at (c .before .before .before .before .before .before .before .before) .tasks-le, numbered-at (c .before .before) .activation))
@@ -124,7 +125,7 @@ returns-5 c =
 line-rules-requires : tie.Need-line-rules-requires
 line-rules-requires c κs =
     let n = numbered-at (c .before .before .before .before .before) in
-    (n .fit, n .ends)
+    (n .fit, (n .together, n .ends))
 
 returns-6 : tie.Need-returns-6
 returns-6 c =

@@ -1,16 +1,17 @@
 use borrow.Author.Needs.{needs}
 use mathlib.Core.Path.{_≡_, sym, _∙_, ap}
-use Prim.Native.Nat.{ℕ, _≤_, _-_, _+_}
+use Prim.Native.Nat.{ℕ, _≤_, _-_}
 use native.Mathlib.Omega.{arith}
 use lib.ListN.{replicate, set}
 use Rattle.laws.specs.Iter.{iter, iter-zero, iter-step}
-use Rattle.laws.specs.Owners.{ownOne, owners}
+use Rattle.laws.specs.Owners.{markOne, marks}
 use Rattle.rig_tables.specs.Tests.{placeOf}
-use Rattle.rig_conditions.proofs.place_owners.Statement.{statement}
-use Rattle.rig_conditions.proofs.place_owners.Tie as tie
+use Rattle.rig_conditions.specs.Tables.{placeMarks}
+use Rattle.rig_conditions.proofs.place_marks.Statement.{statement}
+use Rattle.rig_conditions.proofs.place_marks.Tie as tie
 
 abbrev Inv-loop : tie.InvT-loop
-Inv-loop n lineTask linePos table₀ k₀ table k = (table ≡ iter k (ownOne (placeOf lineTask linePos)) (replicate 1040 0)) × (k ≤ n)
+Inv-loop n lineTask linePos table₀ k₀ table k = (table ≡ iter k (markOne (placeOf lineTask linePos)) (replicate 1040 0)) × (k ≤ n)
 
 abbrev μ-loop : tie.MeasureT-loop
 μ-loop n lineTask linePos table₀ k₀ table k = n - k
@@ -27,15 +28,6 @@ element-copy-out-place-of-2 c = omega (arith, c .before .before .before .pre .fe
 place-of-requires : tie.Need-place-of-requires Inv-loop μ-loop
 place-of-requires c κs = search needs
 
-add-table : tie.Need-add-table Inv-loop μ-loop
-add-table c = omega (arith, c .before .before .before .before .before .pre .few)
-
-cast-table : tie.Need-cast-table Inv-loop μ-loop
-cast-table c = omega (arith, c .before .before .before .before .before .pre .few)
-
-mul-table : tie.Need-mul-table Inv-loop μ-loop
-mul-table c = omega (arith, c .place-of .ensures, c .before .before .before .before .before .pre .low (c .before .before .before .before .loop .k) (c .before .before .before .loop-test .taken))
-
 array-write-table : tie.Need-array-write-table Inv-loop μ-loop
 array-write-table c = omega (arith, c .place-of .ensures, c .before .before .before .before .before .pre .low (c .before .before .before .before .loop .k) (c .before .before .before .loop-test .taken))
 
@@ -47,18 +39,18 @@ loop-less c = search needs
 
 loop-again : tie.Need-loop-again Inv-loop μ-loop
 loop-again c =
-    let d = c .before .before .before .before in
-    let a = d .before .args in
-    (ap (λ (p : ℕ). set (d .loop .table) p (d .loop .k + 1)) (c .place-of .ensures) ∙ iter-step (d .loop .k) (ownOne (placeOf (a .lineTask .now) (a .linePos .now))) (replicate 1040 0) (d .loop .table) (d .loop .inv .0), search needs)
+    let l = c .before .before .before .before .loop in
+    let s = c .before .before .before .before .before .args in
+    (ap (λ (p : ℕ). set (l .table) p 1) (c .place-of .ensures) ∙ iter-step (l .k) (markOne (placeOf (s .lineTask .now) (s .linePos .now))) (replicate 1040 0) (l .table) (l .inv .0), search needs)
 
 returns : tie.Need-returns Inv-loop μ-loop
-unfolding owners
+unfolding placeMarks marks
 returns c =
     let e : c .before .loop .k ≡ c .before .before .args .n = omega arith in
     rw e at (c .before .loop .inv .0)
 
-pub place-owners-spec : {M : Type 1} → statement M
-place-owners-spec =
+pub place-marks-spec : {M : Type 1} → statement M
+place-marks-spec =
     tie.close
     (tie.spec
     Inv-loop
@@ -67,9 +59,6 @@ place-owners-spec =
     element-copy-out-place-of
     element-copy-out-place-of-2
     place-of-requires
-    add-table
-    cast-table
-    mul-table
     array-write-table
     add-k
     loop-less
