@@ -70,7 +70,7 @@ pub fn start(rig: Rig, cycles: [[u8; 15]; 64]) -> Step
     ensures { λ r. ⌜ Starts rig cycles r ⌝ }
 {
     let rows = rig::cycles_of(cycles);
-    if !rig::right(rig, rows) {
+    if !rig_whole::right(rig, rows) {
         return none().refuse(4);
     }
     let w = State::blank().scheduled(rig, 1);

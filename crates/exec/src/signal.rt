@@ -1,8 +1,8 @@
 // "Signal: the flag and value are queued."
 use crate::Exec;
 use crate::Step;
+use exec_flags::Queue;
 use exec_state::Work;
-use exec_tables::Queue;
 ghost use mathlib.Core.List.{[]};
 ghost use Rattle.rules.specs.Calls.{signal};
 ghost use Rattle.exec.specs.Call.{bit, Meets};

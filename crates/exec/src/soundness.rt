@@ -64,7 +64,7 @@ fn tables_ok<'a>(
     if 64 < n {
         return false;
     }
-    n == exec_tables::chosen(privileged, priority, state, n)
+    n == exec_running::chosen(privileged, priority, state, n)
 }
 
 // The links hold chains, and the time chain is in order of waking count, all above the count.
@@ -94,7 +94,7 @@ impl Exec {
         let rig = self.rig;
         let row = rig.row;
         let cycles = self.cycles;
-        if rig::broken_in(
+        if rig_whole::broken_in(
             rig.tasks,
             rig.flags,
             rig.master,

@@ -9,9 +9,10 @@ use Rattle.laws.specs.Order.{Sorted}
 use Rattle.chains.specs.Held.{at, Sound, Sized}
 use Rattle.chains.specs.Read.{chainsOf}
 use Rattle.chains.specs.declared.Links.{Links}
-use Rattle.exec_tables.specs.Post.{Lines, Controllers}
-use Rattle.exec_tables.specs.View.{entriesOf}
-use Rattle.exec_tables.specs.declared.Queue.{Queue}
+use Rattle.exec_conditions.specs.Lines.{Lines}
+use Rattle.exec_family.specs.Post.{Controllers}
+use Rattle.exec_flags.specs.View.{entriesOf}
+use Rattle.exec_flags.specs.declared.Queue.{Queue}
 use Rattle.rig.specs.declared.Cycle.{Cycle}
 use Rattle.rig.specs.declared.Rig.{Rig}
 use Rattle.rules.specs.State.{Entry, timeChain, blank}

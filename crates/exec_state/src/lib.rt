@@ -1,6 +1,6 @@
 // The state of the executive, and what the calls do to it: each method with its rule as contract.
 use chains::Links;
-use exec_tables::Queue;
+use exec_flags::Queue;
 use rig::Cycle;
 use rig::Rig;
 ghost use Prim.Native.Nat.{_+_, _<_, _≤_};
@@ -105,7 +105,7 @@ impl State {
         ensures { λ r. ⌜ ((g : Rig) → Dispatched self (withRanks (now (privileged .entry)) (now (priority .entry)) g) r) ⌝ }
     {
         let n = self.running as usize;
-        let c = exec_tables::chosen(privileged, priority, &self.state, n);
+        let c = exec_running::chosen(privileged, priority, &self.state, n);
         self.running = c as u8;
         self
     }
@@ -131,7 +131,7 @@ impl State {
     {
         let f = rig.activation[t];
         let q = Queue::empty().push(f, 0);
-        let l = exec_tables::leave(self.links, t);
+        let l = exec_family::leave(self.links, t);
         self.state[t] = 1;
         self.links = l;
         Work { st: self, queue: q }
@@ -144,10 +144,10 @@ impl State {
         requires { ⌜ CancelOk rig ⌝ }
         ensures { λ r. ⌜ Cancelled self rig t r ⌝ }
     {
-        let marks = exec_tables::family(&rig.controller, t);
+        let marks = exec_family::family(&rig.controller, t);
         let q = Queue::of_offs(&rig.activation, &marks, &self.state);
-        exec_tables::uninvoke(&marks, &mut self.state);
-        let l = exec_tables::desert(self.links, marks);
+        exec_family::uninvoke(&marks, &mut self.state);
+        let l = exec_family::desert(self.links, marks);
         self.links = l;
         Work { st: self, queue: q }
     }
@@ -158,9 +158,9 @@ impl State {
         ensures { λ r. ⌜ Scheduled self rig t r ⌝ }
     {
         let none = Queue::empty();
-        exec_tables::relax(&rig.present, &rig.latched, &rig.desired, t, &mut self.cond);
+        exec_conditions::relax(&rig.present, &rig.latched, &rig.desired, t, &mut self.cond);
         self.state[t] = 1;
-        if !exec_tables::met(&rig.present, &rig.desired, t, &self.cond) {
+        if !exec_conditions::met(&rig.present, &rig.desired, t, &self.cond) {
             return Work {
                 st: self,
                 queue: none,
@@ -169,7 +169,7 @@ impl State {
         let f = rig.activation[t];
         let q = none.push(f, 1);
         self.state[t] = 3;
-        exec_tables::relax(&rig.present, &rig.latched, &rig.desired, t, &mut self.cond);
+        exec_conditions::relax(&rig.present, &rig.latched, &rig.desired, t, &mut self.cond);
         Work { st: self, queue: q }
     }
 
@@ -212,9 +212,9 @@ pub fn offers<'a>(
     while i < 64 {
         let t = i + 1;
         let a = state[t];
-        if exec_tables::ready(present, desired, lineTask, lineFlag, n, t, f, &*cond, a) {
+        if exec_conditions::ready(present, desired, lineTask, lineFlag, n, t, f, &*cond, a) {
             state[t] = 3;
-            exec_tables::relax(present, latched, desired, t, &mut *cond);
+            exec_conditions::relax(present, latched, desired, t, &mut *cond);
             let g = activation[t];
             q = q.push(g, 1);
         }
@@ -267,7 +267,7 @@ pub fn serve<'a>(
         let v = q.value[j];
         q.n = j;
         st.value[f as usize] = v;
-        exec_tables::drive(lineTask, linePos, lineFlag, n, f, v, &mut st.cond);
+        exec_conditions::drive(lineTask, linePos, lineFlag, n, f, v, &mut st.cond);
         let c = 64 + 2 * (f as usize) + (v as usize);
         if links.next[c] as usize != c {
             links = wake(links, &mut state, c);

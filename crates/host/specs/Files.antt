@@ -14,8 +14,8 @@ use Rattle.rig.specs.declared.Cycle.{Cycle}
 use Rattle.rig.specs.declared.Rig.{Rig}
 use Rattle.rig.specs.Rules.{Right}
 use Rattle.rig.specs.Forms.{cyclesOf}
-use Rattle.rig.specs.Tests.{firstBroken}
-use Rattle.rig.specs.Whole.{broken-none}
+use Rattle.rig_whole.specs.Tests.{firstBroken}
+use Rattle.rig_whole.specs.Whole.{broken-none}
 use Rattle.rig_lines.specs.Line.{lineOf, placed, judge}
 use Rattle.rig_lines.specs.File.{Fault, fault, firstFault, faultOf, linesOf}
 use Rattle.rig_build.specs.declared.Answer.{Answer}

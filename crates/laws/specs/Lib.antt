@@ -14,5 +14,6 @@ pub mod Stores
 pub mod Bits
 pub mod Ordered
 pub mod Decides
+pub mod Faults
 pub mod Owners
 pub mod Mapped

@@ -3,7 +3,7 @@
 use mathlib.Core.Path.{_≡_, refl, sym, _∙_, ap}
 use mathlib.Core.Logic.{_⊎_, inl, inr, ⊎-elim, _≢_}
 use mathlib.Core.List.{List, [], _∷_}
-use Prim.Native.Nat.{ℕ, zero, suc, _+_, _<_}
+use Prim.Native.Nat.{ℕ, zero, suc, _+_, _≤_, _<_}
 use native.Mathlib.Omega.{arith}
 use lib.Dec.{eqb}
 use lib.ListN.{length, getD, set, replicate, length-set, length-replicate}
@@ -76,6 +76,14 @@ module _ (key : ℕ → ℕ) (l : List ℕ) (f : ℕ) where
       ⊎-elim (λ w. inr (k, omega arith, sym (w .0)))
       (λ e. ⊎-elim (λ y. inl y) (λ w. inr (w .0, omega (arith, w .1), w .2)) (h (λ q. z (sym e ∙ q))))
       (set-cases r (key k) f 1 (getD (set r (key k) 1) f 0) refl))
+      n
+
+  -- a table of 0 and 1 stays one
+  pub marks-bit : (n : ℕ) → getD l f 0 ≤ 1 → getD (marks n key l) f 0 ≤ 1
+  unfolding marks
+  marks-bit n h =
+      iter-ind (λ k r. getD r f 0 ≤ 1) (markOne key) l h
+      (λ k r g. ⊎-elim (λ w. omega (arith, w .1)) (λ e. omega (arith, e, g)) (set-cases r (key k) f 1 (getD (set r (key k) 1) f 0) refl))
       n
 
   pub marks-it : (n : ℕ) → f < length l → (getD l f 0 ≢ 0) ⊎ ((i : ℕ) × (i < n) × (key i ≡ f)) → getD (marks n key l) f 0 ≢ 0

@@ -11,7 +11,7 @@ use borrow.Author.Tests.{ne-eqb, eq-eqb, lt-ltb, le-ltb}
 use Rattle.laws.specs.All.{all}
 use Rattle.laws.specs.First.{firstFalse}
 use Rattle.rig.specs.Forms.{cyclesOf}
-use Rattle.rig.specs.Tests.{firstBroken}
+use Rattle.rig_whole.specs.Tests.{firstBroken}
 use Rattle.rig_lines.specs.File.{fault, faultOf, linesOf}
 use Rattle.rig_build.specs.declared.Marks.{Marks}
 use Rattle.rig_build.specs.Built.{Built, numbers, store}

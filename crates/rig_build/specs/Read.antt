@@ -9,7 +9,7 @@ use Rattle.laws.specs.First.{firstFalse}
 use Rattle.rig.specs.declared.Cycle.{Cycle}
 use Rattle.rig.specs.declared.Rig.{Rig}
 use Rattle.rig.specs.Forms.{noRig, noCycles, cyclesOf}
-use Rattle.rig.specs.Tests.{firstBroken}
+use Rattle.rig_whole.specs.Tests.{firstBroken}
 use Rattle.rig_lines.specs.Kinds.{countOf}
 use Rattle.rig_lines.specs.Line.{Line}
 use Rattle.rig_lines.specs.File.{faultOf, linesOf}

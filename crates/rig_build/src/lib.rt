@@ -211,7 +211,7 @@ pub fn whole(g: rig::Rig, table: [[u8; 15]; 64], marks: Marks) -> Answer
         return refused(4, 0, rule);
     }
     let cycles = rig::cycles_of(table);
-    let broken = rig::broken(g, cycles);
+    let broken = rig_whole::broken(g, cycles);
     if broken != 0 {
         return refused(4, 0, behind(broken));
     }

@@ -12,8 +12,8 @@ use Rattle.rig.specs.declared.Cycle.{Cycle}
 use Rattle.rig.specs.declared.Rig.{Rig}
 use Rattle.rig.specs.Rules.{Right}
 use Rattle.rig.specs.Forms.{cyclesOf, tableOf}
-use Rattle.rig.specs.Tests.{firstBroken, rightB}
-use Rattle.rig.specs.Whole.{right-is}
+use Rattle.rig_whole.specs.Tests.{firstBroken, rightB}
+use Rattle.rig_whole.specs.Whole.{right-is}
 use Rattle.rig_lines.specs.Line.{Line}
 use Rattle.rig_lines.specs.Text.{text, Faultless}
 use Rattle.rig_lines.specs.File.{Fault, faultOf, linesOf}

@@ -1,6 +1,3 @@
 pub mod Tests
-pub mod Tables
-pub mod Climb
+pub mod Lines
 pub mod Passes
-pub mod Cycles
-pub mod Laws

@@ -1,12 +1,12 @@
 -- THE TESTS OF A RIG'S TABLES of numbers: what the rules ask of them, as Bools that a program can compute. The rules in words are
--- those of crate rig, which says what each test stands for.
+-- those of crate rig; crate rig_whole says of each test that it is true exactly when its rule holds.
 -- Tables are read by number: task t at place t, flag f at place f, the condition of a task at `place task position`.
-use mathlib.Core.Bool.{Bool, not, cond, _&&_, _||_}
+use mathlib.Core.Bool.{Bool, cond, _&&_, _||_, not}
 use mathlib.Core.List.{List}
-use Prim.Native.Nat.{ℕ, zero, suc, _+_, _-_, _*_}
+use Prim.Native.Nat.{ℕ, _+_, _-_, _*_, zero, suc}
 use lib.Dec.{eqb, leb, ltb}
-use lib.ListN.{length, getD}
 use Rattle.laws.specs.All.{all}
+use lib.ListN.{length, getD}
 use Rattle.laws.specs.Any.{any}
 
 -- what a table holds at a number; 0 past its end
@@ -173,3 +173,7 @@ lineZeroOne n lineTask linePos lineFlag k = ltb k n || (eqb (at lineTask k) 0 &&
 
 unfoldable pub lineZerosB : ℕ → List ℕ → List ℕ → List ℕ → Bool
 lineZerosB n lineTask linePos lineFlag = all 1024 (lineZeroOne n lineTask linePos lineFlag)
+
+-- a flag that is marked
+abbrev pub marked : List ℕ → ℕ → Bool
+marked table f = not (eqb (at table f) 0)

@@ -16,8 +16,8 @@ use Rattle.rig.specs.declared.Cycle.{Cycle}
 use Rattle.rig.specs.declared.Rig.{Rig}
 use Rattle.rig.specs.Rules.{Right}
 use Rattle.rig.specs.Forms.{tableOf}
-use Rattle.rig.specs.Tests.{rightB}
-use Rattle.rig.specs.Whole.{right-is}
+use Rattle.rig_whole.specs.Tests.{rightB}
+use Rattle.rig_whole.specs.Whole.{right-is}
 use Rattle.rig_write.specs.File.{fileOf}
 use Rattle.rig_write.specs.Fits.{file-fits}
 use Rattle.rig_write.specs.declared.Written.{Written}

@@ -8,7 +8,7 @@ use Rattle.laws.specs.Put.{put}
 use Rattle.rig.specs.declared.Cycle.{Cycle}
 use Rattle.rig.specs.declared.Rig.{Rig}
 use Rattle.rig.specs.Forms.{tableOf}
-use Rattle.rig.specs.Tests.{rightB}
+use Rattle.rig_whole.specs.Tests.{rightB}
 use Rattle.rig_write.specs.File.{fileOf}
 use Rattle.rig_write.specs.declared.Written.{Written}
 use Rattle.rig_write.specs.declared.Written.the-variants.{Done, Refused}

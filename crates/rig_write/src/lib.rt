@@ -277,7 +277,7 @@ pub enum Written {
 pub fn write(buf: &mut [u8], g: rig::Rig, cycles: [rig::Cycle; 64]) -> Written
     ensures { λ r. ⌜ (writtenReport r ≡ writtenOf g cycles (length (now (buf .entry)))) × (now (buf .exit) ≡ bufferOf g cycles (now (buf .entry))) ⌝ }
 {
-    if !rig::right(g, cycles) {
+    if !rig_whole::right(g, cycles) {
         return Written::Refused(4);
     }
     let table = rig::table_of(cycles);

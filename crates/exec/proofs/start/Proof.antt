@@ -4,7 +4,7 @@ use mathlib.Core.Bool.{false≢true}
 use mathlib.Core.List.{List}
 use borrow.Author.Tests.{not-true, not-false}
 use Rattle.rig.specs.Rules.{Right}
-use Rattle.rig.specs.Whole.{right-is}
+use Rattle.rig_whole.specs.Whole.{right-is}
 use Rattle.rig.specs.declared.Cycle.{Cycle}
 use Rattle.exec.specs.Call.{refuse}
 use Rattle.exec.specs.Meeting.{servedOnly}

@@ -1,7 +1,7 @@
 use mathlib.Core.Path.{sym, ap, _∙_}
 use Rattle.rig_build.specs.Laws.{judged-lines, judged-rig, judged-right}
 use Rattle.rig_build.specs.Built.{built}
-use Rattle.rig.specs.Tests.{firstBroken}
+use Rattle.rig_whole.specs.Tests.{firstBroken}
 use Rattle.rig_build.specs.Read.{accepted}
 use borrow.Author.Needs.{needs}
 use Rattle.rig_build.proofs.whole.Statement.{statement}

@@ -5,8 +5,8 @@ use borrow.Author.Tests.{not-true, not-false}
 use Rattle.laws.specs.All.{allOf}
 use Rattle.chains.specs.Held.{Sized}
 use Rattle.rig.specs.Rules.{Right}
-use Rattle.rig.specs.Tests.{shapedTests}
-use Rattle.rig.specs.Whole.{lengths-hold, broken-none}
+use Rattle.rig_whole.specs.Tests.{shapedTests}
+use Rattle.rig_whole.specs.Whole.{lengths-hold, broken-none}
 use Rattle.exec.specs.Check.{Sizes, tableTests, tests-sound, sound-tests, sound-order, placed, count-low}
 use Rattle.exec.proofs.Exec.sound.Statement.{statement}
 use Rattle.exec.proofs.Exec.sound.Tie as tie

@@ -1,0 +1,24 @@
+-- What the loops over a family ask, and what leaving gives.
+use mathlib.Core.Path.{_≡_}
+use Prim.Native.Nat.{_≤_, ℕ}
+use Rattle.chains.specs.Held.{Sound}
+use mathlib.Core.List.{List}
+use lib.ListN.{getD}
+use Rattle.chains.specs.Read.{chainsOf}
+use Rattle.chains.specs.declared.Links.{Links}
+use Rattle.rules.specs.Waiting.{leave}
+use Rattle.rules.specs.Family.{deserted}
+
+-- controllers are tasks, or 0
+abbrev pub Controllers : List ℕ → Type 0
+Controllers controller = (t : ℕ) → getD controller t 0 ≤ 64
+
+-- task t has left its chain
+pub record Left (l : Links) (t : ℕ) (r : Links) : Type 0 where
+  pub is : chainsOf r ≡ leave t (chainsOf l)
+  pub sound : Sound r
+
+-- the marked tasks have left their chains
+pub record Deserted (l : Links) (marks : List ℕ) (r : Links) : Type 0 where
+  pub is : chainsOf r ≡ deserted marks (chainsOf l)
+  pub sound : Sound r

@@ -1,0 +1,5 @@
+pub mod Tests
+pub mod Tree
+pub mod Exact
+pub mod Whole
+pub mod Which
