@@ -7,9 +7,9 @@ use native.Mathlib.Omega.{arith}
 use Rattle.rules.specs.State as S
 use Rattle.rules.specs.Serving.{push}
 use Rattle.rules.specs.Calls as R
-use Rattle.exec_flags.specs.View.{entriesOf}
-use Rattle.exec_flags.specs.Post.{Pushed}
-use Rattle.exec_flags.specs.declared.Queue.{Queue}
+use Rattle.exec_queue.specs.View.{entriesOf}
+use Rattle.exec_queue.specs.Post.{Pushed}
+use Rattle.exec_queue.specs.declared.Queue.{Queue}
 use Rattle.exec_state.specs.View.{workOf}
 use Rattle.exec_state.specs.Effects.{pushed-one}
 use Rattle.exec.specs.Sound.{rigIn, view}

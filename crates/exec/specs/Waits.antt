@@ -17,8 +17,8 @@ use Rattle.rules.specs.Proper as P
 use Rattle.rules.specs.Waiting.{waitOn, waitUntilCount}
 use Rattle.rules.specs.Calls as R
 use Rattle.rules_laws.specs.Acceptance.{flagged-is}
-use Rattle.exec_flags.specs.View.{entriesOf}
-use Rattle.exec_flags.specs.declared.Queue.{Queue}
+use Rattle.exec_queue.specs.View.{entriesOf}
+use Rattle.exec_queue.specs.declared.Queue.{Queue}
 use Rattle.exec_state.specs.View.{viewOf, workOf}
 use Rattle.exec_state.specs.Post.{MayWait, FlagOk}
 use Rattle.exec_state.specs.declared.State.{State}

@@ -60,7 +60,7 @@ impl Exec {
             return 6;
         }
         let cycles = self.cycles;
-        if exec_flags::is_minor(cycles, flag as u8) {
+        if exec_queue::is_minor(cycles, flag as u8) {
             return 7;
         }
         0
@@ -75,7 +75,7 @@ impl Exec {
             return n;
         }
         let rig = self.rig;
-        if exec_flags::is_activation(&rig.activation, flag as u8) {
+        if exec_queue::is_activation(&rig.activation, flag as u8) {
             return 7;
         }
         0

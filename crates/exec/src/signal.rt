@@ -1,7 +1,7 @@
 // "Signal: the flag and value are queued."
 use crate::Exec;
 use crate::Step;
-use exec_flags::Queue;
+use exec_queue::Queue;
 use exec_state::Work;
 ghost use mathlib.Core.List.{[]};
 ghost use Rattle.rules.specs.Calls.{signal};

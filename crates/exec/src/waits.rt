@@ -1,7 +1,7 @@
 // Waits of the running task: until a count, for a number of cycles, for a flag's value.
 use crate::Exec;
 use crate::Step;
-use exec_flags::Queue;
+use exec_queue::Queue;
 use exec_state::Work;
 ghost use mathlib.Core.Path.{_≡_};
 ghost use mathlib.Core.Bool.{_&&_};

@@ -11,9 +11,9 @@ use Rattle.chains.specs.Held.{at, Empty}
 use Rattle.chains.specs.Read.{chainsOf, held-chains}
 use Rattle.chains.specs.declared.Links.{Links}
 use Rattle.exec_family.specs.Post.{Left, Deserted}
-use Rattle.exec_flags.specs.Post.{Pushed}
-use Rattle.exec_flags.specs.View.{entriesOf, minorOf}
-use Rattle.exec_flags.specs.declared.Queue.{Queue}
+use Rattle.exec_queue.specs.Post.{Pushed}
+use Rattle.exec_queue.specs.View.{entriesOf, minorOf}
+use Rattle.exec_queue.specs.declared.Queue.{Queue}
 use Rattle.rig.specs.declared.Cycle.{Cycle}
 use Rattle.rig.specs.declared.Rig.{Rig}
 use Rattle.rules.specs.State as S

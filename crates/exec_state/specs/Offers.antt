@@ -16,10 +16,10 @@ use Rattle.rules.specs.State.{Entry}
 use Rattle.rules.specs.Conditions.{relax, met, names}
 use Rattle.rules.specs.Serving.{push, activate, ready, offer, offerNext, offers}
 use Rattle.rules_laws.specs.Serve.{load, offers-load}
-use Rattle.exec_flags.specs.View.{entriesOf}
-use Rattle.exec_flags.specs.Queued.{entries-length}
-use Rattle.exec_flags.specs.Post.{Pushed}
-use Rattle.exec_flags.specs.declared.Queue.{Queue}
+use Rattle.exec_queue.specs.View.{entriesOf}
+use Rattle.exec_queue.specs.Queued.{entries-length}
+use Rattle.exec_queue.specs.Post.{Pushed}
+use Rattle.exec_queue.specs.declared.Queue.{Queue}
 use Rattle.exec_state.specs.View.{rigOf, viewOf, workOf}
 use Rattle.exec_state.specs.Set.{putState, putCond}
 use Rattle.exec_state.specs.Post.{Offered}

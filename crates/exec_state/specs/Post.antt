@@ -11,8 +11,8 @@ use Rattle.chains.specs.Read.{chainsOf}
 use Rattle.chains.specs.declared.Links.{Links}
 use Rattle.exec_conditions.specs.Lines.{Lines}
 use Rattle.exec_family.specs.Post.{Controllers}
-use Rattle.exec_flags.specs.View.{entriesOf}
-use Rattle.exec_flags.specs.declared.Queue.{Queue}
+use Rattle.exec_queue.specs.View.{entriesOf}
+use Rattle.exec_queue.specs.declared.Queue.{Queue}
 use Rattle.rig.specs.declared.Cycle.{Cycle}
 use Rattle.rig.specs.declared.Rig.{Rig}
 use Rattle.rules.specs.State.{Entry, timeChain, blank}

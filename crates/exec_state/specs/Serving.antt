@@ -18,9 +18,9 @@ use Rattle.rules.specs.Conditions.{drive}
 use Rattle.rules.specs.Serving.{push, activate, ready, takes, wake, offer, offerNext, offers, serveFlag, another, serve, inactives}
 use Rattle.rules_laws.specs.Serve.{load, wake-load, serveFlag-load, serve-nil, serve-cons}
 use Rattle.rules_laws.specs.Queued.{Fine}
-use Rattle.exec_flags.specs.View.{entriesOf, entries}
-use Rattle.exec_flags.specs.Queued.{entries-length, entries-pop}
-use Rattle.exec_flags.specs.declared.Queue.{Queue}
+use Rattle.exec_queue.specs.View.{entriesOf, entries}
+use Rattle.exec_queue.specs.Queued.{entries-length, entries-pop}
+use Rattle.exec_queue.specs.declared.Queue.{Queue}
 use Rattle.exec_state.specs.View.{rigOf, viewOf, workOf}
 use Rattle.exec_state.specs.Set.{putValue, putCond}
 use Rattle.exec_state.specs.Post.{FlagOk, Servable, Woken, Offered, Served, Emptied}

@@ -7,8 +7,8 @@ use Rattle.rig.specs.declared.Cycle.{Cycle}
 use Rattle.rig.specs.declared.Rig.{Rig}
 use Rattle.rules.specs.Rig as G
 use Rattle.rules.specs.State as S
-use Rattle.exec_flags.specs.View.{minorOf, entriesOf}
-use Rattle.exec_flags.specs.declared.Queue.{Queue}
+use Rattle.exec_queue.specs.View.{minorOf, entriesOf}
+use Rattle.exec_queue.specs.declared.Queue.{Queue}
 use Rattle.exec_state.specs.declared.State.{State}
 use Rattle.exec_state.specs.declared.Work.{Work}
 use Rattle.exec_state.specs.declared.Done.{Done}

@@ -1,6 +1,6 @@
 // The state of the executive, and what the calls do to it: each method with its rule as contract.
 use chains::Links;
-use exec_flags::Queue;
+use exec_queue::Queue;
 use rig::Cycle;
 use rig::Rig;
 ghost use Prim.Native.Nat.{_+_, _<_, _≤_};

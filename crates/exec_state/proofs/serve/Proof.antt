@@ -14,7 +14,7 @@ use Rattle.exec_state.specs.Waking.{waking-none, waking-next}
 use Rattle.exec_state.specs.Serving.{Turned, turned-start, short, last-ok, rest-room, turned-falls, turned-step, turned-done, served-room, served-is}
 use Rattle.exec_state.specs.declared.State.{State}
 use Rattle.exec_state.specs.declared.Work.{Work}
-use Rattle.exec_flags.specs.declared.Queue.{Queue}
+use Rattle.exec_queue.specs.declared.Queue.{Queue}
 use Rattle.exec_state.proofs.serve.Statement.{statement}
 use Rattle.exec_state.proofs.serve.Tie as tie
 

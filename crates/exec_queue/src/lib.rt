@@ -9,8 +9,8 @@ ghost use Rattle.chains.specs.Held.{at};
 ghost use Rattle.rules.specs.Calls.{isActivation, inCycle, isMinor, cycleQueue};
 ghost use Rattle.rules.specs.State.{active};
 ghost use Rattle.rules.specs.Family.{offs};
-ghost use Rattle.exec_flags.specs.View.{minorOf, entriesOf};
-ghost use Rattle.exec_flags.specs.Post.{Pushed};
+ghost use Rattle.exec_queue.specs.View.{minorOf, entriesOf};
+ghost use Rattle.exec_queue.specs.Post.{Pushed};
 
 // Whether f is some task's activation flag.
 pub fn is_activation(activation: &[u8; 65], f: u8) -> bool

@@ -7,8 +7,8 @@ use borrow.Author.Tests.{eq-eqb, ne-eqb}
 use Rattle.laws.specs.Any.{any, any-zero, any-next, any-at}
 use Rattle.chains.specs.Held.{at}
 use Rattle.rules.specs.Calls.{inCycle, inCycleOne}
-use Rattle.exec_flags.proofs.in_cycle.Statement.{statement}
-use Rattle.exec_flags.proofs.in_cycle.Tie as tie
+use Rattle.exec_queue.proofs.in_cycle.Statement.{statement}
+use Rattle.exec_queue.proofs.in_cycle.Tie as tie
 
 abbrev Inv-loop : tie.InvT-loop
 Inv-loop f cycle i₀ i = (any i (inCycleOne (at (cycle .flags)) f) ≡ false) × (i ≤ 15)

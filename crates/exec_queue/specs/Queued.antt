@@ -11,7 +11,7 @@ use borrow.Author.Tests.{lt-ltb}
 use Rattle.rules.specs.Serving.{push}
 use native.Mathlib.Numerals.{add-one}
 use lib.Seq.{getD-set-same, getD-set-other}
-use Rattle.exec_flags.specs.View.{entries}
+use Rattle.exec_queue.specs.View.{entries}
 
 pub entries-length : (fs vs : List ℕ) (n : ℕ) → length (entries fs vs n) ≡ n
 unfolding entries

@@ -2,11 +2,11 @@ use mathlib.Core.Path.{sym, ap}
 use native.Mathlib.Omega.{arith}
 use Prim.Native.Nat.{ℕ}
 use Rattle.rules.specs.Serving.{push}
-use Rattle.exec_flags.specs.View.{entriesOf}
-use Rattle.exec_flags.specs.Queued.{entries-push}
+use Rattle.exec_queue.specs.View.{entriesOf}
+use Rattle.exec_queue.specs.Queued.{entries-push}
 use borrow.Author.Needs.{needs}
-use Rattle.exec_flags.proofs.Queue.push.Statement.{statement}
-use Rattle.exec_flags.proofs.Queue.push.Tie as tie
+use Rattle.exec_queue.proofs.Queue.push.Statement.{statement}
+use Rattle.exec_queue.proofs.Queue.push.Tie as tie
 
 returns : tie.Need-returns
 returns c = record { is = ap (λ (f : ℕ). push f (c .before .args .v) (entriesOf (c .before .args .t1))) (sym (c .if1 .taken)); more = omega arith }

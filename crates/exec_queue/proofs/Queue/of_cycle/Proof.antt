@@ -6,9 +6,9 @@ use native.Mathlib.Omega.{arith}
 use Rattle.laws.specs.Iter.{iter, iter-zero, iter-step}
 use Rattle.chains.specs.Held.{at}
 use Rattle.rules.specs.Calls.{cycleQueue, queueOne}
-use Rattle.exec_flags.specs.View.{entriesOf}
-use Rattle.exec_flags.proofs.Queue.of_cycle.Statement.{statement}
-use Rattle.exec_flags.proofs.Queue.of_cycle.Tie as tie
+use Rattle.exec_queue.specs.View.{entriesOf}
+use Rattle.exec_queue.proofs.Queue.of_cycle.Statement.{statement}
+use Rattle.exec_queue.proofs.Queue.of_cycle.Tie as tie
 
 abbrev Inv-loop : tie.InvT-loop
 Inv-loop cycle q₀ i₀ q i = (entriesOf q ≡ iter i (queueOne (at (cycle .flags))) []) × (q .n ≤ i) × (i ≤ 15)

@@ -8,10 +8,10 @@ use Rattle.laws.specs.Cases.{if-yes, if-no}
 use Rattle.laws.specs.Iter.{iter, iter-zero, iter-step}
 use Rattle.chains.specs.Held.{at}
 use Rattle.rules.specs.Family.{offs, offOne}
-use Rattle.exec_flags.specs.View.{entriesOf}
-use Rattle.exec_flags.specs.declared.Queue.{Queue}
-use Rattle.exec_flags.proofs.Queue.of_offs.Statement.{statement}
-use Rattle.exec_flags.proofs.Queue.of_offs.Tie as tie
+use Rattle.exec_queue.specs.View.{entriesOf}
+use Rattle.exec_queue.specs.declared.Queue.{Queue}
+use Rattle.exec_queue.proofs.Queue.of_offs.Statement.{statement}
+use Rattle.exec_queue.proofs.Queue.of_offs.Tie as tie
 
 abbrev Inv-loop : tie.InvT-loop
 Inv-loop activation marks state q₀ i₀ q i = (entriesOf q ≡ iter i (offOne (at activation) marks state) []) × (q .n ≤ i) × (i ≤ 64)

@@ -6,7 +6,7 @@ use Prim.Native.Nat.{ℕ, zero, suc}
 use Rattle.rig.specs.Rules.{noCycle}
 use Rattle.rig.specs.declared.Cycle.{Cycle}
 use Rattle.rules.specs.State.{Entry}
-use Rattle.exec_flags.specs.declared.Queue.{Queue}
+use Rattle.exec_queue.specs.declared.Queue.{Queue}
 
 -- the flag at a place of a cycle's list
 abbrev pub minorOf : List Cycle → ℕ → ℕ → ℕ

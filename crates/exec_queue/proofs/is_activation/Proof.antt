@@ -7,8 +7,8 @@ use borrow.Author.Tests.{eq-eqb, ne-eqb}
 use Rattle.laws.specs.Any.{any, any-zero, any-next, any-at}
 use Rattle.chains.specs.Held.{at}
 use Rattle.rules.specs.Calls.{isActivation, activationOne}
-use Rattle.exec_flags.proofs.is_activation.Statement.{statement}
-use Rattle.exec_flags.proofs.is_activation.Tie as tie
+use Rattle.exec_queue.proofs.is_activation.Statement.{statement}
+use Rattle.exec_queue.proofs.is_activation.Tie as tie
 
 abbrev Inv-loop : tie.InvT-loop
 Inv-loop activation f i₀ i = (any i (activationOne (at activation) f) ≡ false) × (i ≤ 64)

@@ -1,7 +1,7 @@
 use borrow.Author.Tests.{eq-eqb, ne-eqb}
-use Rattle.exec_flags.specs.Queued.{active-is}
-use Rattle.exec_flags.proofs.struck.Statement.{statement}
-use Rattle.exec_flags.proofs.struck.Tie as tie
+use Rattle.exec_queue.specs.Queued.{active-is}
+use Rattle.exec_queue.proofs.struck.Statement.{statement}
+use Rattle.exec_queue.proofs.struck.Tie as tie
 
 returns : tie.Need-returns
 returns c = simp (eq-eqb _ _ (c .if1 .taken)) (active-is (c .before .args .state))

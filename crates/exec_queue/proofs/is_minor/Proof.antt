@@ -5,9 +5,9 @@ use Prim.Native.Nat.{_≤_, _-_}
 use native.Mathlib.Omega.{arith}
 use Rattle.laws.specs.Any.{any, any-zero, any-next, any-at}
 use Rattle.rules.specs.Calls.{isMinor, minorOne}
-use Rattle.exec_flags.specs.View.{minorOf}
-use Rattle.exec_flags.proofs.is_minor.Statement.{statement}
-use Rattle.exec_flags.proofs.is_minor.Tie as tie
+use Rattle.exec_queue.specs.View.{minorOf}
+use Rattle.exec_queue.proofs.is_minor.Statement.{statement}
+use Rattle.exec_queue.proofs.is_minor.Tie as tie
 
 abbrev Inv-loop : tie.InvT-loop
 Inv-loop f cycles c₀ c = (any c (minorOne (minorOf cycles) f) ≡ false) × (c ≤ 64)
