@@ -2,10 +2,11 @@
 -- record.
 use mathlib.Core.Path.{_≡_}
 use mathlib.Core.Logic.{_≢_, _⊎_}
-use mathlib.Core.Bool.{Bool, true, false}
+use mathlib.Core.Bool.{Bool}
 use mathlib.Core.List.{List}
-use Prim.Native.Nat.{ℕ}
+use Prim.Native.Nat.{ℕ, zero, suc}
 use Rattle.rules.specs.Calls as R
+use Rattle.exec_refusals.specs.Bits.{bit as valueNumber}
 use Rattle.exec.specs.Sound.{rigIn, view, Sound}
 use Rattle.exec.specs.declared.Exec.{Exec}
 use Rattle.exec.specs.declared.Report.{Report}
@@ -15,8 +16,7 @@ use Rattle.exec.specs.declared.Answer.the-variants.{Accepted, Refused}
 
 -- a value as a number
 abbrev pub bit : Bool → ℕ
-bit true = 1
-bit false = 0
+bit = valueNumber
 
 abbrev pub reportOf : Report → R.Report
 reportOf p = record { served = p .served; words = p .words; value = p .value }
@@ -25,6 +25,11 @@ reportOf p = record { served = p .served; words = p .words; value = p .value }
 abbrev pub answerOf : Answer → R.Answer
 answerOf (Accepted p) = record { code = 0; report = reportOf p }
 answerOf (Refused n) = record { code = n; report = R.nothing }
+
+-- the answer of a number and of what is told: accepted where the number is 0
+abbrev pub answerFrom : ℕ → Report → Answer
+answerFrom zero p = Accepted p
+answerFrom (suc n) p = Refused (suc n)
 
 -- 0 is no refusal's number
 abbrev pub Proper : Answer → Type 0

@@ -1,16 +1,6 @@
 pub mod Sound
 pub mod Call
 pub mod Unique
-pub mod RightRig
-pub mod Check
 pub mod Meeting
-pub mod Refusing
-pub mod Settling
-pub mod Signal
-pub mod Reading
-pub mod Waits
-pub mod Tasks
-pub mod Tick
-pub mod Blocks
 pub mod Starting
 pub mod Promises

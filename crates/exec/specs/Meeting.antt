@@ -1,168 +1,99 @@
--- How a call meets what it owes: refused by 12, refused by its table, or accepted.
+-- What a call came to, as the next record and the answer, meets what the call owes.
 use mathlib.Core.Path.{_≡_, refl, sym, _∙_, ap, subst}
-use mathlib.Core.Logic.{_≢_, inl, inr}
-use mathlib.Core.List.{List, []}
+use mathlib.Core.Logic.{_≢_, ⊎-elim, inl, inr}
+use mathlib.Core.List.{List}
 use Prim.Native.Nat.{ℕ, zero, suc}
 use native.Mathlib.Omega.{arith}
-use Rattle.chains.specs.Held.{Sized}
-use Rattle.chains.specs.Held as L
 use Rattle.rules.specs.Rig as G
 use Rattle.rules.specs.State as S
 use Rattle.rules.specs.Calls as R
-use Rattle.rules.specs.Proper as P
-use Rattle.rules.specs.Soundness as Rules
-use Rattle.rules.specs.Serving.{serve}
-use Rattle.rules_laws.specs.Serve.{serve-nil}
-use Rattle.rules.specs.Running.{dispatch}
-use Rattle.rules_laws.specs.Steps.{accepted-sound, dispatch-same}
-use Rattle.exec_state.specs.View.{viewOf}
 use Rattle.exec_state.specs.declared.State.{State}
+use Rattle.exec_outcome.specs.Outcome.{answerIn, refusedBy, Tells}
+use Rattle.exec_outcome.specs.declared.Outcome.{Outcome}
 use Rattle.exec.specs.Sound.{rigIn, view, Sound}
-use Rattle.exec.specs.Call.{Follows, Meets, reportOf, refuse}
-use Rattle.exec.specs.RightRig.{rig-ok}
+use Rattle.exec.specs.Call.{Follows, Meets, Proper, answerOf, answerFrom, refuse}
 use Rattle.exec.specs.declared.Exec.{Exec}
 use Rattle.exec.specs.declared.Report.{Report}
 use Rattle.exec.specs.declared.Step.{Step}
-use Rattle.exec.specs.declared.Answer.the-variants.{Accepted}
+use Rattle.exec.specs.declared.Answer.{Answer}
+use Rattle.exec.specs.declared.Answer.the-variants.{Accepted, Refused}
 
 -- the record with another state
 abbrev pub withState : Exec → State → Exec
 withState x s = record { rig = x .rig; cycles = x .cycles; st = s }
 
--- a new state, and what is reported of it
-abbrev pub accept : Exec → State → Report → Step
-accept x s p = record { exec = withState x s; answer = Accepted p }
+abbrev pub reportFrom : Outcome → Report
+reportFrom o = record { served = o .served; words = o .words; value = o .value }
 
--- only flags were served
-abbrev pub servedOnly : ℕ → Report
-servedOnly n = record { served = n; words = 0; value = 0 }
+abbrev pub stepFrom : Exec → Outcome → Step
+stepFrom x o = record { exec = withState x (o .st); answer = answerFrom (o .refusal) (reportFrom o) }
+
+-- what is told of a refused call is nothing
+pub refused-tells-nothing : (r : G.Rig) (s : S.State) (k : R.Call) → R.step r s k .answer .code ≢ 0 → R.step r s k .answer .report ≡ R.nothing
+unfolding R.step R.after R.accepted
+refused-tells-nothing r s k = go (R.refusal r s k)
+  where
+    go : (n : ℕ) → R.after n r s k .answer .code ≢ 0 → R.after n r s k .answer .report ≡ R.nothing
+    go zero z = absurd (z refl)
+    go (suc n) z = refl
+
+-- the answer gives the number and what is told, where a number other than 0 tells nothing
+pub same-answer : (n : ℕ) (p : Report) (a : R.Answer) → record { code = n; report = record { served = p .served; words = p .words; value = p .value } } ≡ a
+    → (a .code ≢ 0 → a .report ≡ R.nothing) → answerOf (answerFrom n p) ≡ a
+same-answer zero p a e f = e
+same-answer (suc n) p a e f =
+    let c : suc n ≡ a .code = λ i. e i .code in
+    let t = f (λ z. omega (arith, c, z)) in
+    λ i. record { code = c i; report = sym t i }
+
+-- an answer's case by its number
+pub answer-refused : (n : ℕ) (p : Report) → n ≢ 0 → Refused n ≡ answerFrom n p
+answer-refused zero p z = absurd (z refl)
+answer-refused (suc n) p z = refl
+
+pub answer-accepted : (n : ℕ) (p : Report) → n ≡ 0 → Accepted p ≡ answerFrom n p
+answer-accepted n p z = sym (ap (λ (m : ℕ). answerFrom m p) z)
+
+pub proper-answer : (n : ℕ) (p : Report) → Proper (answerFrom n p)
+proper-answer zero p = tt
+proper-answer (suc n) p = λ q. omega arith
 
 module _ (x : Exec) (k : R.Call) where
-  pub unsound : (Sound x → ⊥) → (r : Step) → r ≡ refuse x 12 → (after : List ℕ) → after ≡ R.lent k → Meets x k r after
-  unsound n r e after f = record { is = inr (n, e, f) }
+  pub tells-meets : (o : Outcome) (after : List ℕ) → Tells (x .rig) (x .cycles) (x .st) k o after → Meets x k (stepFrom x o) after
+  tells-meets o after t =
+      ⊎-elim
+      (λ p. record {
+        is = inl (
+          p .0,
+          record {
+            next = p .1 .next;
+            answer = same-answer (o .refusal) (reportFrom o) _ (p .1 .answer) (refused-tells-nothing (rigIn x) (view x) k);
+            lent = p .1 .lent;
+            proper = proper-answer (o .refusal) (reportFrom o);
+            rig = refl;
+            cycles = refl;
+            sound = p .1 .sound;
+          },
+        );
+      })
+      (λ p. record { is = inr (p .0, ap (stepFrom x) (p .1), p .2) })
+      (t .is)
 
-  follows-refused : (n : ℕ) → Sound x → R.refusal (rigIn x) (view x) k ≡ suc n → Follows x k (refuse x (suc n)) (R.lent k)
+  -- a sound record that is refused by its table
+  pub refused : Sound x → (n : ℕ) → suc n ≡ R.refusal (rigIn x) (view x) k → Meets x k (refuse x (suc n)) (R.lent k)
   unfolding R.step R.after
-  follows-refused n h e =
-      record {
-        next = sym (ap (λ (m : ℕ). R.after m (rigIn x) (view x) k .next) e);
-        answer = sym (ap (λ (m : ℕ). R.after m (rigIn x) (view x) k .answer) e);
-        lent = sym (ap (λ (m : ℕ). R.after m (rigIn x) (view x) k .lent) e);
-        proper = λ q. omega arith;
-        rig = refl;
-        cycles = refl;
-        sound = h;
-      }
-
-  pub refused : Sound x → (n : ℕ) → n ≡ R.refusal (rigIn x) (view x) k → n ≢ 0 → (r : Step) → r ≡ refuse x n
-      → (after : List ℕ) → after ≡ R.lent k → Meets x k r after
-  refused h zero e z r q after f = absurd (z refl)
-  refused h (suc n) e z r q after f = rw (q, f) (record { is = inl (h, follows-refused n h (sym e)) })
-
-  -- an accepted call: the state that it leaves shows what the rules give, its links are sound
-  pub accepted : Sound x → P.Proper k → 0 ≡ R.refusal (rigIn x) (view x) k → (s : State) (p : Report) (after : List ℕ)
-      → viewOf s ≡ R.accepted (rigIn x) (view x) k .next
-      → reportOf p ≡ R.accepted (rigIn x) (view x) k .answer .report
-      → after ≡ R.accepted (rigIn x) (view x) k .lent
-      → L.Sound (s .links) → Sized (s .links)
-      → Meets x k (accept x s p) after
-  unfolding R.step R.after R.accepted
-  accepted h q z s p after e f g l y =
-      let a : R.step (rigIn x) (view x) k ≡ R.accepted (rigIn x) (view x) k = ap (λ (n : ℕ). R.after n (rigIn x) (view x) k) (sym z) in
+  refused h n e =
       record {
         is = inl (
           h,
           record {
-            next = e ∙ sym (ap (λ (w : R.Step). w .next) a);
-            answer = ap (λ (w : R.Report). record { code = 0; report = w }) f ∙ sym (ap (λ (w : R.Step). w .answer) a);
-            lent = g ∙ sym (ap (λ (w : R.Step). w .lent) a);
-            proper = tt;
+            next = ap (λ (m : ℕ). R.after m (rigIn x) (view x) k .next) e;
+            answer = ap (λ (m : ℕ). R.after m (rigIn x) (view x) k .answer) e;
+            lent = ap (λ (m : ℕ). R.after m (rigIn x) (view x) k .lent) e;
+            proper = λ q. omega arith;
             rig = refl;
             cycles = refl;
-            sound =
-                record {
-                  rig = h .rig;
-                  links = l;
-                  sized = y;
-                  state =
-                      subst (λ (w : S.State). Rules.Sound (rigIn x) w) (sym e)
-                      (accepted-sound (rigIn x) (rig-ok (x .rig) (x .cycles) (h .rig)) (view x) (h .state) k q (sym z));
-                };
+            sound = h;
           },
         );
       }
-
--- ---- calls that leave the state as it is
-
-module _ (x : Exec) (k : R.Call) (h : Sound x) (q : R.effect (rigIn x) (view x) k ≡ R.quiet (view x)) where
-  quiet-served : serve (rigIn x) (R.effect (rigIn x) (view x) k) ≡ record { now = view x; served = 0 }
-  quiet-served = ap (serve (rigIn x)) q ∙ serve-nil (rigIn x) (view x)
-
-  stays : view x ≡ R.accepted (rigIn x) (view x) k .next
-  unfolding R.accepted
-  stays = sym (ap (λ (d : S.Done). dispatch (rigIn x) (d .now)) quiet-served ∙ dispatch-same (rigIn x) (view x) (h .state))
-
-  none-served : 0 ≡ R.accepted (rigIn x) (view x) k .answer .report .served
-  unfolding R.accepted
-  none-served = sym (ap (λ (d : S.Done). d .served) quiet-served)
-
-  -- the record as it was, and what the call puts out
-  pub untouched : P.Proper k → 0 ≡ R.refusal (rigIn x) (view x) k → (v : ℕ) (after : List ℕ)
-      → R.output (rigIn x) (view x) k ≡ record { words = 0; value = v; lent = after }
-      → Meets x k (accept x (x .st) (record { served = 0; words = 0; value = v })) after
-  unfolding R.accepted
-  untouched p z v after o =
-      let u : R.output (rigIn x) (R.accepted (rigIn x) (view x) k .next) k ≡ record { words = 0; value = v; lent = after } =
-      ap (λ (s : S.State). R.output (rigIn x) s k) (sym stays) ∙ o in
-      accepted x k h p z (x .st) (record { served = 0; words = 0; value = v }) after stays
-      (λ i. record { served = none-served i; words = sym u i .words; value = sym u i .value })
-      (λ i. sym u i .lent) (h .links) (h .sized)
-
--- ---- calls that answer only the number of flags served, and lend nothing
-
-abbrev pub Silent : R.Call → Type 0
-Silent (R.schedule t) = Unit {0}
-Silent (R.cancel t) = Unit {0}
-Silent (R.terminate t) = Unit {0}
-Silent R.finish = Unit {0}
-Silent (R.tick buffer) = ⊥
-Silent (R.waitUntil t) = Unit {0}
-Silent (R.waitFor n) = Unit {0}
-Silent (R.latched f v) = Unit {0}
-Silent (R.unlatched f v) = Unit {0}
-Silent (R.signal f v) = Unit {0}
-Silent (R.readFlag f) = ⊥
-Silent (R.readBlock k area buffer) = ⊥
-Silent (R.writeBlock k area buffer) = ⊥
-
-pub silent-lent : (k : R.Call) → Silent k → [] ≡ R.lent k
-unfolding R.lent
-silent-lent (R.schedule t) h = refl
-silent-lent (R.cancel t) h = refl
-silent-lent (R.terminate t) h = refl
-silent-lent R.finish h = refl
-silent-lent (R.tick buffer) h = absurd h
-silent-lent (R.waitUntil t) h = refl
-silent-lent (R.waitFor n) h = refl
-silent-lent (R.latched f v) h = refl
-silent-lent (R.unlatched f v) h = refl
-silent-lent (R.signal f v) h = refl
-silent-lent (R.readFlag f) h = absurd h
-silent-lent (R.readBlock k area buffer) h = absurd h
-silent-lent (R.writeBlock k area buffer) h = absurd h
-
-pub silent-output : (r : G.Rig) (s : S.State) (k : R.Call) → Silent k → R.output r s k ≡ R.silent
-unfolding R.output
-silent-output r s (R.schedule t) h = refl
-silent-output r s (R.cancel t) h = refl
-silent-output r s (R.terminate t) h = refl
-silent-output r s R.finish h = refl
-silent-output r s (R.tick buffer) h = absurd h
-silent-output r s (R.waitUntil t) h = refl
-silent-output r s (R.waitFor n) h = refl
-silent-output r s (R.latched f v) h = refl
-silent-output r s (R.unlatched f v) h = refl
-silent-output r s (R.signal f v) h = refl
-silent-output r s (R.readFlag f) h = absurd h
-silent-output r s (R.readBlock k area buffer) h = absurd h
-silent-output r s (R.writeBlock k area buffer) h = absurd h

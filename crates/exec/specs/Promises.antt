@@ -1,5 +1,5 @@
 -- FOR THE READER: what a call's statement comes to.
-use mathlib.Core.Path.{_≡_, refl, sym, ap}
+use mathlib.Core.Path.{_≡_, sym, ap}
 use mathlib.Core.Logic.{_⊎_, ⊎-elim, _↔_}
 use mathlib.Core.Bool.{Bool, true, false, cond}
 use mathlib.Core.List.{List, [], _∷_}
@@ -65,7 +65,7 @@ module _ (x : Exec) (k : R.Call) (r : Step) (after : List ℕ) (m : Meets x k r 
   pub refused-unchanged : Sound x → (n : ℕ) → R.refusal (rigIn x) (view x) k ≡ suc n → (r ≡ refuse x (suc n)) × (after ≡ R.lent k)
   refused-unchanged h n e =
       meets-same x k r (refuse x (suc n)) after (R.lent k) m
-      (refused x k h (suc n) (sym e) (λ q. omega arith) (refuse x (suc n)) refl (R.lent k) refl)
+      (refused x k h n (sym e))
 
   -- "every call keeps it so"
   pub stays-sound : Sound x → Sound (r .exec)

@@ -1,35 +1,25 @@
 -- THE START, and the record of all zeros that a refused start returns.
 use mathlib.Core.Path.{_≡_, refl, sym, _∙_, ap, subst}
-use mathlib.Core.Logic.{_⊎_, ⊎-elim}
+use mathlib.Core.Logic.{_≢_, _⊎_, ⊎-elim, inl, inr}
 use mathlib.Core.List.{List}
-use Prim.Native.Nat.{ℕ, _≤_}
+use Prim.Native.Nat.{ℕ}
 use native.Mathlib.Omega.{arith}
-use lib.ListN.{replicate, length-replicate}
-use Rattle.chains.specs.Held as L
+use lib.ListN.{replicate}
 use Rattle.rig.specs.Rules.{Right}
 use Rattle.rig.specs.Forms.{cyclesOf, noRig, noCycles}
 use Rattle.rig.specs.declared.Cycle.{Cycle}
 use Rattle.rig.specs.declared.Rig.{Rig}
-use Rattle.rules.specs.State as S
-use Rattle.rules.specs.Serving.{serve}
-use Rattle.rules.specs.Running.{dispatch}
 use Rattle.rules.specs.Calls as R
-use Rattle.rules.specs.Soundness as Rules
-use Rattle.rules_laws.specs.Serve.{load}
-use Rattle.rules_laws.specs.Bound.{scheduled-load}
-use Rattle.rules_laws.specs.Steps.{started-ready, start-sound}
-use Rattle.exec_state.specs.View.{rigOf, viewOf, workOf}
-use Rattle.exec_state.specs.Post.{Servable, Blank, Scheduled}
+use Rattle.exec_state.specs.View.{rigOf}
 use Rattle.exec_state.specs.declared.State.{State}
-use Rattle.exec_state.specs.declared.Work.{Work}
-use Rattle.exec_state.specs.declared.Done.{Done}
 use Rattle.exec.specs.Sound.{view, Sound}
-use Rattle.exec.specs.Call.{Meets, refuse}
+use Rattle.exec_outcome.specs.declared.Outcome.{Outcome}
+use Rattle.exec_tasks.specs.Starting.{Began, Begins}
+use Rattle.exec.specs.Call.{Meets, answerFrom, refuse}
 use Rattle.exec.specs.Unique.{record-same}
-use Rattle.exec.specs.RightRig.{rig-ok}
-use Rattle.exec.specs.Meeting.{servedOnly}
-use Rattle.exec.specs.Settling.{Settles, Settled, fits, servable, effect-low}
+use Rattle.exec.specs.Meeting.{reportFrom}
 use Rattle.exec.specs.declared.Exec.{Exec}
+use Rattle.exec.specs.declared.Report.{Report}
 use Rattle.exec.specs.declared.Step.{Step}
 use Rattle.exec.specs.declared.Answer.the-variants.{Accepted}
 
@@ -48,6 +38,10 @@ noState =
 -- "a record of all zeros"
 abbrev pub noExec : Exec
 noExec = record { rig = noRig; cycles = noCycles; st = noState }
+
+-- only flags were served
+abbrev pub servedOnly : ℕ → Report
+servedOnly n = record { served = n; words = 0; value = 0 }
 
 -- the rules' start: the state that the record shows, the flags served; the rig and its cycles are those given, and the
 -- record is sound
@@ -85,51 +79,40 @@ zeros-unsound h = omega (arith, h .rig .task-count .0)
 pub zeros-refused : (k : R.Call) (r : Step) (after : List ℕ) → Meets noExec k r after → (r ≡ refuse noExec 12) × (after ≡ R.lent k)
 zeros-refused k r after m = ⊎-elim (λ p. absurd (zeros-unsound (p .0))) (λ p. (p .1, p .2)) (m .is)
 
--- ---- what the code does
+-- ---- what the code does: the cycles as the record has them, and the start of its parts
 
-module _ (g : Rig) (cycles : List Cycle) (h : Right g cycles) (s : State) (b : Blank s) (w : Work) (m : Scheduled s g 1 w) where
-  start-work : workOf (w .st) (w .queue) ≡ R.scheduled (rigOf g cycles) S.blank 1
-  start-work = m .is cycles ∙ ap (λ (v : S.State). R.scheduled (rigOf g cycles) v 1) (b .is)
+module _ (g : Rig) (table : List (List ℕ)) (rows : List Cycle) (e : rows ≡ cyclesOf table) (o : Outcome) (b : Begins g rows o) where
+  -- a number: the rig breaks a rule, and the number is 4
+  pub refused-start : o .refusal ≢ 0 → (r : Step) → r ≡ record { exec = noExec; answer = answerFrom (o .refusal) (reportFrom o) } → Starts g table r
+  refused-start n r q =
+      ⊎-elim
+      (λ p. absurd (n (λ i. p .1 .answer i .code)))
+      (λ p. record {
+        is = inr (
+          (λ h. p .0 (subst (Right g) (sym e) h)),
+          q ∙ ap (λ (m : ℕ). record { exec = noExec; answer = answerFrom m (reportFrom o) }) (p .1),
+        );
+      })
+      (b .is)
 
-  blank-low : R.scheduled (rigOf g cycles) S.blank 1 .now .running ≤ 64
-  unfolding S.blank R.effect
-  blank-low = effect-low (rigOf g cycles) S.blank (omega arith) (R.schedule 1)
-
-  blank-load : load (R.scheduled (rigOf g cycles) S.blank 1) ≤ 79
-  unfolding S.blank
-  blank-load = scheduled-load (rigOf g cycles) S.blank (length-replicate {A = ℕ} 65 0) 1
-
-  pub start-settles : Settles g w
-  start-settles =
+  began-started : Began g rows o → Started g rows (record { exec = record { rig = g; cycles = rows; st = o .st }; answer = answerFrom (o .refusal) (reportFrom o) })
+  began-started w =
+      let a = w .answer in
       record {
-        begins =
-            record {
-              fits = fits g cycles h;
-              room = subst (λ (y : S.Work). load y ≤ 79) (sym start-work) blank-load;
-              sound = subst L.Sound (sym (m .links)) (b .sound);
-              entries =
-                  subst (λ (y : S.Work). Servable (y .queue)) (sym start-work)
-                  (servable (rigOf g cycles) (h .flag-count .1) (R.scheduled (rigOf g cycles) S.blank 1 .queue) (started-ready (rigOf g cycles) (rig-ok g cycles h) .good .fine));
-            };
-        low = subst (λ (y : S.Work). y .now .running ≤ 64) (sym start-work) blank-low;
-      }
-
-  pub started-is : (d : Done) → Settled g w d
-      → Started g cycles (record { exec = record { rig = g; cycles = cycles; st = d .st }; answer = Accepted (servedOnly (d .served)) })
-  unfolding R.start R.started
-  started-is d k =
-      let e : viewOf (d .st) ≡ R.start (rigOf g cycles) =
-      k .now cycles ∙ ap (λ (y : S.Work). dispatch (rigOf g cycles) (serve (rigOf g cycles) y .now)) start-work in
-      record {
-        next = e;
-        answer = ap (λ (n : ℕ). Accepted (servedOnly n)) (k .served cycles ∙ ap (λ (y : S.Work). serve (rigOf g cycles) y .served) start-work);
+        next = w .next;
+        answer =
+            ap (λ (m : ℕ). answerFrom m (reportFrom o)) (λ i. a i .code)
+            ∙ (λ i. Accepted (record { served = a i .report .served; words = a i .report .words; value = a i .report .value }));
         rig = refl;
         cycles = refl;
-        sound =
-            record {
-              rig = h;
-              links = k .sound;
-              sized = k .sized;
-              state = subst (λ (y : S.State). Rules.Sound (rigOf g cycles) y) (sym e) (start-sound (rigOf g cycles) (rig-ok g cycles h));
-            };
+        sound = w .sound;
       }
+
+  -- none: the rules' start
+  pub accepted-start : o .refusal ≡ 0 → (r : Step)
+      → r ≡ record { exec = record { rig = g; cycles = rows; st = o .st }; answer = answerFrom (o .refusal) (reportFrom o) } → Starts g table r
+  accepted-start n r q =
+      ⊎-elim
+      (λ p. record { is = inl (subst (Right g) e (p .0), subst (λ (l : List Cycle). Started g l r) e (rw q (began-started (p .1)))) })
+      (λ p. absurd (omega (arith, n, p .1)))
+      (b .is)

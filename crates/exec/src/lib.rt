@@ -1,13 +1,7 @@
-// The executive: the record, and every call on it by value.
+// The executive: the record, and every call on it by value. What a call does to the record's parts stands in crates of its
+// own (exec_tasks, exec_waits, exec_flags, exec_bus); here it becomes the next record and the answer.
 mod answers;
-mod blocks;
-mod flags;
-mod refusals;
-mod signal;
-mod soundness;
-mod tasks;
-mod tick;
-mod waits;
+mod calls;
 
 use chains::Links;
 use exec_state::State;
@@ -70,22 +64,21 @@ pub fn start(rig: Rig, cycles: [[u8; 15]; 64]) -> Step
     ensures { λ r. ⌜ Starts rig cycles r ⌝ }
 {
     let rows = rig::cycles_of(cycles);
-    if !rig_whole::right(rig, rows) {
-        return none().refuse(4);
+    let o = exec_tasks::start(rig, rows);
+    let answer = answers::answer_of(o.refusal, o.served, o.words, o.value);
+    if o.refusal != 0 {
+        return Step {
+            exec: none(),
+            answer,
+        };
     }
-    let w = State::blank().scheduled(rig, 1);
-    let d = answers::settled(w, rig);
-    let st = d.st;
+    let st = o.st;
     Step {
         exec: Exec {
             rig,
             cycles: rows,
             st,
         },
-        answer: Answer::Accepted(Report {
-            served: d.served,
-            words: 0,
-            value: 0,
-        }),
+        answer,
     }
 }

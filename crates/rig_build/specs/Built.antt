@@ -7,7 +7,7 @@ use lib.ListN.{getD, set, replicate}
 use Rattle.laws.specs.All.{all}
 use Rattle.rig.specs.declared.Row.{Row}
 use Rattle.rig.specs.declared.Rig.{Rig}
-use Rattle.rig.specs.Rules.{place}
+use Rattle.rig_tables.specs.Tests.{place}
 use Rattle.rig.specs.Forms.{noRig}
 use Rattle.rig_lines.specs.Kinds.{countOf, under}
 use Rattle.rig_lines.specs.Line.{Line}

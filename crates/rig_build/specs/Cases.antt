@@ -8,7 +8,7 @@ use lib.ListN.{getD}
 use borrow.Author.Tests.{eqb-true, eqb-false, ltb-true, ltb-false}
 use Rattle.laws.specs.Cases.{by}
 use Rattle.rig.specs.declared.Rig.{Rig}
-use Rattle.rig.specs.Rules.{place}
+use Rattle.rig_tables.specs.Tests.{place}
 use Rattle.rig_build.specs.declared.Marks.{Marks}
 use Rattle.rig_build.specs.Built.{Built, built, withCounts, withTask, withCondition, withLine, rowOf, withRow, hasLine, manyLines, manyRows, manyFlags, oneFlag, putFlag, byKind}
 

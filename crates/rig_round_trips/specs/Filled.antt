@@ -14,7 +14,8 @@ use Rattle.laws.specs.Cases.{by}
 use Rattle.laws.specs.All.{all, and-left, and-right}
 use Rattle.rig.specs.declared.Cycle.{Cycle}
 use Rattle.rig.specs.declared.Rig.{Rig}
-use Rattle.rig.specs.Rules.{noRow, noCycle, place, Right}
+use Rattle.rig.specs.Rules.{noRow, noCycle, Right}
+use Rattle.rig_tables.specs.Tests.{place}
 use Rattle.rig_whole.specs.Tree.{controllers-low}
 use Rattle.rig.specs.Forms.{flagsOf, tableOf}
 use Rattle.rig_lines.specs.Kinds.{counts, countOf, sorts, sortOf, under}

@@ -17,7 +17,8 @@ use Rattle.laws.specs.All.{all, all-at, allOf-at, and-left, and-right}
 use Rattle.laws.specs.First.{firstFalse, first-all}
 use Rattle.rig.specs.declared.Cycle.{Cycle}
 use Rattle.rig.specs.declared.Rig.{Rig}
-use Rattle.rig.specs.Rules.{noRow, place}
+use Rattle.rig.specs.Rules.{noRow}
+use Rattle.rig_tables.specs.Tests.{place}
 use Rattle.rig.specs.Forms.{cyclesOf, tableOf}
 use Rattle.rig_lines.specs.Kinds.{counts, countOf, keys, keysOf, lows, lowOf, highs, highOf, keyed, rank}
 use Rattle.rig_lines.specs.Line.{Line, placed, judge}

@@ -14,7 +14,8 @@ use Rattle.laws.specs.Cases.{by}
 use Rattle.laws.specs.All.{all}
 use Rattle.rig.specs.declared.Row.{Row}
 use Rattle.rig.specs.declared.Rig.{Rig}
-use Rattle.rig.specs.Rules.{noRow, place}
+use Rattle.rig.specs.Rules.{noRow}
+use Rattle.rig_tables.specs.Tests.{place}
 use Rattle.rig_lines.specs.Kinds.{counts, countOf, keys, keysOf, lows, lowOf, highs, highOf, sorts, sortOf, under, keyed, rank, follows}
 use Rattle.rig_lines.specs.KindLaws.{within-is}
 use Rattle.rig_lines.specs.Line.{Line, placed, ordered, judge}

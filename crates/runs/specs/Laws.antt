@@ -33,7 +33,7 @@ use Rattle.exec_state.specs.View.{rigOf}
 use Rattle.exec.specs.Sound.{rigIn, view, Sound}
 use Rattle.exec.specs.Call.{Follows, Meets, answerOf, refuse}
 use Rattle.exec.specs.Unique.{record-same}
-use Rattle.exec.specs.RightRig.{rig-ok}
+use Rattle.exec_sound.specs.RightRig.{rig-ok}
 use Rattle.exec.specs.Promises.{twelve-exactly}
 use Rattle.exec.specs.Starting.{Started, noExec}
 use Rattle.runs.specs.Runs.{Made, MadeOn, Ran, callsOf, codeOf, servedOf, AcceptedStart, noting, historyIn, SparedIn}

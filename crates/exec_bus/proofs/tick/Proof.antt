@@ -1,0 +1,83 @@
+use mathlib.Core.Path.{_≡_, refl, _∙_}
+use mathlib.Core.Bool.{not}
+use native.Mathlib.Omega.{arith}
+use lib.ListN.{length}
+use borrow.Author.Needs.{needs}
+use Rattle.rules.specs.Calls as R
+use Rattle.exec_state.specs.View.{rigOf, viewOf}
+use Rattle.exec_sound.specs.Sound.{SoundParts}
+use Rattle.exec_refusals.specs.Rows.{tickRows}
+use Rattle.exec_outcome.specs.Meeting.{judged-sound, judged-none, judged-tells}
+use Rattle.exec_outcome.specs.Tables.{tick-table}
+use Rattle.exec_outcome.specs.Settling.{settles}
+use Rattle.exec_bus.specs.Tick.{tick-ok, tick-room, rows-fit, bus-fits, ticked-work, tick-tells}
+use Rattle.exec_bus.proofs.tick.Statement.{statement}
+use Rattle.exec_bus.proofs.tick.Tie as tie
+
+-- the table of the call
+table : (c : tie.After-of-tick) → R.decide (tickRows (c .before .before .before .args .st .count) (length (c .before .before .before .args .out .now))) ≡ R.refusal (rigOf (c .before .before .before .args .rig) (c .before .before .before .args .cycles)) (viewOf (c .before .before .before .args .st)) (R.tick (c .before .before .before .args .out .now))
+table c = tick-table (c .before .before .before .args .rig) (c .before .before .before .args .cycles) (c .before .before .before .args .st) (c .before .before .before .args .out .now)
+
+-- past the test the record is sound, and the call is not refused
+sound : (c : tie.Else1) → SoundParts (c .before .before .before .before .args .rig) (c .before .before .before .before .args .cycles) (c .before .before .before .before .args .st)
+sound c = judged-sound (c .before .before .before .before .args .rig) (c .before .before .before .before .args .cycles) (c .before .before .before .before .args .st) (c .before .before .sound .result) (c .before .before .sound .ensures) _ (c .before .of-tick .result) (c .before .of-tick .ensures) (c .if1 .left)
+
+quiet : (c : tie.Else1) → 0 ≡ R.decide (tickRows (c .before .before .before .before .args .st .count) (length (c .before .before .before .before .args .out .now)))
+quiet c = judged-none (c .before .before .before .before .args .rig) (c .before .before .before .before .args .cycles) (c .before .before .before .before .args .st) (c .before .before .sound .result) (c .before .before .sound .ensures) _ (c .before .of-tick .result) (c .before .of-tick .ensures) (c .if1 .left)
+
+none : (c : tie.Else1) → 0 ≡ R.refusal (rigOf (c .before .before .before .before .args .rig) (c .before .before .before .before .args .cycles)) (viewOf (c .before .before .before .before .args .st)) (R.tick (c .before .before .before .before .args .out .now))
+none c = quiet c ∙ table (c .before)
+
+sound-requires : tie.Need-sound-requires
+sound-requires c κs = search needs
+
+of-tick-requires : tie.Need-of-tick-requires
+of-tick-requires c κs = search needs
+
+refused-requires : tie.Need-refused-requires
+refused-requires c κs = search needs
+
+returns : tie.Need-returns
+unfolding R.lent
+returns c =
+    judged-tells (c .before .before .before .before .before .args .rig) (c .before .before .before .before .before .args .cycles) (c .before .before .before .before .before .args .st) (c .before .before .before .sound .result) (c .before .before .before .sound .ensures) _ (c .before .before .of-tick .result) (c .before .before .of-tick .ensures) (R.tick (c .before .before .before .before .before .args .out .now)) (table (c .before .before)) (c .before .if1 .taken)
+    (c .refused .result) (c .refused .ensures) (c .before .before .before .before .before .args .out .now) (refl)
+
+ticked-requires : tie.Need-ticked-requires
+ticked-requires c κs = (sound c .links, tick-ok (c .before .before .before .before .args .rig) (c .before .before .before .before .args .cycles) (c .before .before .before .before .args .st) (sound c) (length (c .before .before .before .before .args .out .now)) (quiet c))
+
+settle-requires : tie.Need-settle-requires
+settle-requires c κs = settles (c .before .before .before .before .before .args .rig) (c .before .before .before .before .before .args .cycles) (c .before .before .before .before .before .args .st) (sound (c .before)) (R.tick (c .before .before .before .before .before .args .out .now)) tt (none (c .before)) (c .ticked .result) (ticked-work (c .before .before .before .before .before .args .rig) (c .before .before .before .before .before .args .cycles) (c .before .before .before .before .before .args .st) (sound (c .before)) (c .ticked .result) (c .ticked .ensures) (c .before .before .before .before .before .args .out .now)) (c .ticked .ensures .sound)
+
+cast-bus-words : tie.Need-cast-bus-words
+cast-bus-words c = search needs
+
+bus-words-requires : tie.Need-bus-words-requires
+bus-words-requires c κs = (rows-fit (c .before .before .before .before .before .before .before .before .before .args .rig) (c .before .before .before .before .before .before .before .before .before .args .cycles) (sound (c .before .before .before .before .before) .rig), tick-room (c .before .before .before .before .before .before .before .before .before .args .rig) (c .before .before .before .before .before .before .before .before .before .args .cycles) (c .before .before .before .before .before .before .before .before .before .args .st) (sound (c .before .before .before .before .before)) (length (c .before .before .before .before .before .before .before .before .before .args .out .now)) (quiet (c .before .before .before .before .before)))
+
+cast-o : tie.Need-cast-o
+cast-o c = omega (arith, bus-fits _ _ _ _ (c .before .before .bus-words .result) (c .before .before .bus-words .ensures .0) (sound (c .before .before .before .before .before .before .before .before) .rig .row-count))
+
+same-length : tie.Need-same-length
+same-length c = search needs
+
+returns-2 : tie.Need-returns-2
+returns-2 c =
+    tick-tells (c .before .before .before .before .before .before .before .before .before .before .before .before .args .rig) (c .before .before .before .before .before .before .before .before .before .before .before .before .args .cycles) (c .before .before .before .before .before .before .before .before .before .before .before .before .args .st) (sound (c .before .before .before .before .before .before .before .before)) (c .before .before .before .before .before .before .before .ticked .result) (c .before .before .before .before .before .before .before .ticked .ensures) (c .before .before .before .before .before .before .before .before .before .before .before .before .args .out .now) (none (c .before .before .before .before .before .before .before .before)) (c .before .before .before .before .before .before .settle .result) (c .before .before .before .before .before .before .settle .ensures) (c .before .before .bus-words .result)
+    (c .before .before .bus-words .last .1 .1 .1 .1 .0) (c .before .before .bus-words .ensures .0) (c .before .before .bus-words .ensures .1)
+
+pub tick-spec : {M : Type 1} → statement M
+tick-spec =
+    tie.close
+    (tie.spec
+    sound-requires
+    of-tick-requires
+    refused-requires
+    returns
+    ticked-requires
+    settle-requires
+    cast-bus-words
+    bus-words-requires
+    cast-o
+    same-length
+    returns-2)

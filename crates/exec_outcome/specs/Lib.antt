@@ -1,0 +1,4 @@
+pub mod Outcome
+pub mod Meeting
+pub mod Tables
+pub mod Settling

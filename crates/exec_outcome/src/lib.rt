@@ -1,0 +1,72 @@
+// What a call comes to: the state after it, its refusal's number, and what it tells.
+use exec_state::State;
+use exec_state::Work;
+use rig::Rig;
+ghost use mathlib.Core.Path.{_≡_};
+ghost use Rattle.exec_outcome.specs.Outcome.{refusedBy, keptWith};
+ghost use Rattle.exec_outcome.specs.Settling.{Settles, Settled};
+
+// The refusal's number is 0 for an accepted call. What a refused call tells is 0, and its state is as it was.
+pub struct Outcome {
+    pub st: State,
+    pub refusal: u8,
+    pub served: u32,
+    pub words: u32,
+    pub value: u32,
+}
+
+// The state as it is, and a refusal's number.
+pub fn refused(st: State, refusal: u8) -> Outcome
+    ensures { λ r. ⌜ r ≡ refusedBy st refusal ⌝ }
+{
+    Outcome {
+        st,
+        refusal,
+        served: 0,
+        words: 0,
+        value: 0,
+    }
+}
+
+// The state as it is, with no flag served, and the value that was asked for.
+pub fn kept(st: State, value: u32) -> Outcome
+    ensures { λ r. ⌜ r ≡ keptWith st value ⌝ }
+{
+    Outcome {
+        st,
+        refusal: 0,
+        served: 0,
+        words: 0,
+        value,
+    }
+}
+
+// What a call has queued is served, and then it is decided who runs.
+pub fn settle(rig: Rig, w: Work) -> Outcome
+    requires { ⌜ Settles rig w ⌝ }
+    ensures { λ r. ⌜ Settled rig w r ⌝ }
+{
+    let st = w.st;
+    let queue = w.queue;
+    let d = exec_state::serve(
+        st,
+        queue,
+        rig.lines as usize,
+        &rig.present,
+        &rig.latched,
+        &rig.desired,
+        &rig.lineTask,
+        &rig.linePos,
+        &rig.lineFlag,
+        &rig.activation,
+    );
+    let served = d.served;
+    let st = d.st.dispatched(&rig.privileged, &rig.priority);
+    Outcome {
+        st,
+        refusal: 0,
+        served,
+        words: 0,
+        value: 0,
+    }
+}

@@ -1,0 +1,3 @@
+pub mod Sound
+pub mod RightRig
+pub mod Check
