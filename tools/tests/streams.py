@@ -24,6 +24,8 @@ import time
 RIG = b"RIG\t1\t1\t1\t0\nT\t1\t0\t0\t0\t0\nRUN\n"
 STARTED = b"START\t0\t0\t1\n"
 LATE = 0.3  # seconds that a reader or a writer is late
+STUCK_WORK = 1.0  # seconds of processor time in which a program surely comes to its next write
+STUCK_SLEEP = 1.0  # seconds without any: it sleeps
 MANY_TICKS = 12000  # their answers are more than a pipe holds
 PIECE = 65536
 SMALL_PIPE = 4096  # bytes, the least that a pipe can be made to hold
@@ -251,6 +253,23 @@ def wait_until_full(descriptor):
         unread = struct.unpack("i", fcntl.ioctl(descriptor, termios.FIONREAD, b"\0\0\0\0"))[0]
 
 
+def processor_seconds(program):
+    with open("/proc/%d/stat" % program.pid, encoding="ascii", errors="replace") as f:
+        fields = f.read().rsplit(")", 1)[1].split()
+    return (int(fields[11]) + int(fields[12])) / os.sysconf("SC_CLK_TCK")
+
+
+def wait_until_stuck(program):
+    """Until the program has ended, sleeps, or has tried for a while: on a busy machine it may come to its next write late."""
+    begin = last = processor_seconds(program)
+    changed = time.monotonic()
+    while program.poll() is None and last - begin < STUCK_WORK and time.monotonic() - changed < STUCK_SLEEP:
+        time.sleep(LATE / 10)
+        now = processor_seconds(program)
+        if now != last:
+            last, changed = now, time.monotonic()
+
+
 def late_reader_gets_every_byte(command):
     with pipe() as back, file_of(RIG + b"K\n" * MANY_TICKS) as script:
         make_non_blocking(back[1])
@@ -258,7 +277,7 @@ def late_reader_gets_every_byte(command):
         with started(command, script, back[1]) as program:
             close(back, 1)
             wait_until_full(back[0])
-            time.sleep(LATE)
+            wait_until_stuck(program)
             must_be(receive_all(back[0]), ticks(MANY_TICKS))
             must_end_well(program)
 
