@@ -2,16 +2,17 @@
  * The random comparison: another runner against the second program, output
  * byte for byte.
  *
- *   compare [--also COMMAND] [--entries COMMAND] [--words COMMAND] [--keep DIR] [--most N] COMMAND [SEED [COUNT]]
+ *   compare [--also COMMAND] [--entries COMMAND] [--only PART] [--keep DIR] [--most N] COMMAND [SEED [COUNT]]
  *
  * COMMAND is the other runner; it is split at spaces and run once for each
  * input, with the input as standard input.  The right output is made in this
- * process.  --also names one more runner, for the same inputs.  --entries
+ * process.  --also names one more runner, for the same inputs.  There are
+ * COUNT inputs, and one tenth of that more that try the stream: long lines,
+ * outputs that pass a room's end, input that comes in pieces.  --entries
  * names a program that reads the lines of entries.h (one twentieth of COUNT
- * inputs more), --words one that prints what wordlist.h says.  Without
- * --entries the second program's own block and tick entries are run in this
- * process alone, to be counted.  Where COMMAND is - no runner is compared,
- * and only the lines of entries.h must be hit often enough.
+ * inputs more).  Without it the second program's own block and tick entries
+ * are run in this process alone, to be counted.  --only leaves the other
+ * parts out: PART is inputs, streams or entries; for entries COMMAND is -.
  *
  * A failing input is kept in DIR (the present one without --keep) beside the
  * output it must have and the output it got; after N differences (5 without
@@ -19,122 +20,32 @@
  * COUNT at least the default, everything was hit often enough; 1 if outputs
  * differ; 2 if the comparison could not run; 3 if something was hit too seldom.
  */
-#define _POSIX_C_SOURCE 200809L
-#include <errno.h>
-#include <fcntl.h>
 #include <stdio.h>
-#include <stdlib.h>
 #include <string.h>
-#include <sys/stat.h>
-#include <sys/wait.h>
-#include <unistd.h>
 
 #include "gen.h"
+#include "numbers.h"
+#include "other.h"
 #include "tally.h"
-#include "wordlist.h"
 
 enum {
     DEFAULT_COUNT = 2500,
+    LEAST_COUNT = 1,
     LEAST_HITS = 50,
+    STREAM_SHARE = 10,  /* one input for the stream for each so many others */
     ENTRIES_SHARE = 20, /* one input of entries for each so many others */
-    SECONDS_A_RUN = 60,
-    WORDS_MAX = 32,     /* of a command */
-    PATH_ROOM = 512
+    NAME_ROOM = 64
 };
 
-typedef struct {
-    char *word[WORDS_MAX + 1];
-} command;
+#define MOST_COUNT UINT32_MAX
 
 typedef struct {
     const char *keep;
-    char folder[PATH_ROOM]; /* for the input and output of a run */
-    char input_path[PATH_ROOM + 8];
-    char output_path[PATH_ROOM + 8];
+    workplace place; /* for the input and output of a run */
     uint64_t seed;
     unsigned differences;
     unsigned most; /* differences, then it ends */
 } comparison;
-
-static void die(const char *what)
-{
-    fprintf(stderr, "compare: %s: %s\n", what, strerror(errno));
-    exit(2);
-}
-
-/* ---- Files ---- */
-
-static void save(const char *path, const uint8_t *bytes, size_t length)
-{
-    FILE *f = fopen(path, "wb");
-    if (f == NULL || (length > 0 && fwrite(bytes, 1, length, f) != length) || fclose(f) != 0)
-        die(path);
-}
-
-static void load(const char *path, text *out)
-{
-    char part[65536];
-    size_t n;
-    FILE *f = fopen(path, "rb");
-    if (f == NULL)
-        die(path);
-    while ((n = fread(part, 1, sizeof part, f)) > 0)
-        text_add(out, part, n);
-    fclose(f);
-}
-
-/* ---- Running the other program ---- */
-
-static command split(char *line)
-{
-    command c = {{NULL}};
-    unsigned n = 0;
-    for (char *word = strtok(line, " "); word != NULL && n < WORDS_MAX; word = strtok(NULL, " "))
-        c.word[n++] = word;
-    return c;
-}
-
-static bool is_given(const command *c)
-{
-    return c->word[0] != NULL;
-}
-
-static void become(const command *c, const char *input, const char *output)
-{
-    int in = open(input, O_RDONLY);
-    int out = open(output, O_WRONLY | O_CREAT | O_TRUNC, 0600);
-    if (in < 0 || out < 0 || dup2(in, 0) < 0 || dup2(out, 1) < 0)
-        _exit(126);
-    alarm(SECONDS_A_RUN); /* a program that hangs is ended */
-    execvp(c->word[0], c->word);
-    _exit(127);
-}
-
-/* Runs the command and takes its output; false with a message if it ended badly. */
-static bool run_other(comparison *k, const command *c, const text *input, text *output)
-{
-    int status;
-    save(k->input_path, input->bytes, input->length);
-    pid_t child = fork();
-    if (child < 0)
-        die("fork");
-    if (child == 0)
-        become(c, k->input_path, k->output_path);
-    if (waitpid(child, &status, 0) < 0)
-        die("waitpid");
-    load(k->output_path, output);
-    if (WIFEXITED(status) && WEXITSTATUS(status) == 127) {
-        fprintf(stderr, "compare: %s could not be run\n", c->word[0]);
-        exit(2);
-    }
-    if (WIFEXITED(status) && WEXITSTATUS(status) == 0)
-        return true;
-    if (WIFEXITED(status))
-        printf("%s ended with status %d\n", c->word[0], WEXITSTATUS(status));
-    else
-        printf("%s was ended by signal %d\n", c->word[0], WTERMSIG(status));
-    return false;
-}
 
 /* ---- Telling a difference ---- */
 
@@ -167,39 +78,48 @@ static void keep_failure(comparison *k, const char *name, const text *input, con
 {
     char path[PATH_ROOM + 64];
     snprintf(path, sizeof path, "%s/%s.right", k->keep, name);
-    save(path, right->bytes, right->length);
+    save_file(path, right->bytes, right->length);
     snprintf(path, sizeof path, "%s/%s.got", k->keep, name);
-    save(path, got->bytes, got->length);
+    save_file(path, got->bytes, got->length);
     snprintf(path, sizeof path, "%s/%s.rig", k->keep, name);
-    save(path, input->bytes, input->length);
+    save_file(path, input->bytes, input->length);
     printf("    kept as %s, with .right and .got beside it\n", path);
 }
 
-/* Compares one input's output with what the command prints for it. */
-static void compare_one(comparison *k, const command *c, const char *name, const char *kind, const text *input,
-                        const text *right)
+/* One input: what it is called, how it is fed, and the output it must have. */
+typedef struct {
+    char name[NAME_ROOM];
+    const char *kind;
+    feeding fed;
+    chance sizes;
+    const text *bytes, *right;
+} one_input;
+
+/* Compares an input's output with what the command prints for it. */
+static void compare_one(comparison *k, const command *c, const one_input *input)
 {
     static text got;
     text_clear(&got);
-    bool ended_well = run_other(k, c, input, &got);
-    if (ended_well && got.length == right->length && memcmp(got.bytes, right->bytes, got.length) == 0)
+    bool ended_well = run_other(&k->place, c, input->bytes, input->fed, input->sizes, &got);
+    if (ended_well && got.length == input->right->length && memcmp(got.bytes, input->right->bytes, got.length) == 0)
         return;
     k->differences++;
-    printf("DIFFERENT: %s (%s)\n    of:", name, kind);
+    printf("DIFFERENT: %s (%s)\n    of:", input->name, input->kind);
     for (char *const *word = c->word; *word != NULL; word++)
         printf(" %s", *word);
     printf("\n");
-    print_first_difference(right, &got);
-    keep_failure(k, name, input, right, &got);
+    print_first_difference(input->right, &got);
+    keep_failure(k, input->name, input->bytes, input->right, &got);
 }
 
 /* ---- The parts of a comparison ---- */
 
 /* A kind of generated inputs: how one is made, what it is called, and the programs that must print the same for it. */
 typedef struct {
+    const char *label;
     void (*make)(uint64_t seed, uint64_t index, text *out);
     const char *(*kind_name)(uint64_t index);
-    const char *label;
+    feeding (*feeding_of)(uint64_t index);
     bool entries;
     const command *other[2];
 } input_kind;
@@ -210,80 +130,84 @@ static const char *entries_name(uint64_t index)
     return "entries";
 }
 
-static void compare_inputs(comparison *k, const input_kind *kind, uint64_t count, tally *t)
+static feeding as_file(uint64_t index)
 {
-    static text input, right;
-    for (uint64_t i = 0; i < count && k->differences < k->most; i++) {
-        text_clear(&input);
-        text_clear(&right);
-        kind->make(k->seed, i, &input);
-        tally_run(t, &input, kind->entries, &right);
-        for (unsigned n = 0; n < sizeof kind->other / sizeof kind->other[0]; n++) {
-            char name[64];
-            snprintf(name, sizeof name, "failing-%s%s%llu-%llu", n > 0 ? "also-" : "", kind->label,
-                     (unsigned long long)k->seed, (unsigned long long)i);
-            if (is_given(kind->other[n]))
-                compare_one(k, kind->other[n], name, kind->kind_name(i), &input, &right);
-        }
+    (void)index;
+    return FED_AS_FILE;
+}
+
+static void compare_input(comparison *k, const input_kind *kind, uint64_t index, tally *t)
+{
+    static text bytes, right;
+    one_input input = {.kind = kind->kind_name(index), .fed = kind->feeding_of(index)};
+    text_clear(&bytes);
+    text_clear(&right);
+    kind->make(k->seed, index, &bytes);
+    tally_run(t, &bytes, kind->entries, &right);
+    t->stream.fed[input.fed]++;
+    input.sizes = chance_of(k->seed, index);
+    input.bytes = &bytes;
+    input.right = &right;
+    for (unsigned n = 0; n < sizeof kind->other / sizeof kind->other[0]; n++) {
+        snprintf(input.name, sizeof input.name, "failing-%s%s%llu-%llu", n > 0 ? "also-" : "", kind->label,
+                 (unsigned long long)k->seed, (unsigned long long)index);
+        if (is_given(kind->other[n]))
+            compare_one(k, kind->other[n], &input);
     }
 }
 
-static void compare_words(comparison *k, const command *c)
+static void compare_inputs(comparison *k, const input_kind *kind, uint64_t count, tally *t)
 {
-    static text input, right;
-    int out = open(k->output_path, O_WRONLY | O_CREAT | O_TRUNC, 0600);
-    if (out < 0 || wordlist_print(out) != 0 || close(out) != 0)
-        die(k->output_path);
-    load(k->output_path, &right);
-    compare_one(k, c, "failing-words", "all words and images", &input, &right);
-}
-
-/* ---- Beginning and end ---- */
-
-static void open_folder(comparison *k)
-{
-    const char *place = getenv("TMPDIR");
-    snprintf(k->folder, sizeof k->folder, "%s/compare-XXXXXX", place != NULL ? place : "/tmp");
-    if (mkdtemp(k->folder) == NULL)
-        die(k->folder);
-    snprintf(k->input_path, sizeof k->input_path, "%s/in", k->folder);
-    snprintf(k->output_path, sizeof k->output_path, "%s/out", k->folder);
-}
-
-static void remove_folder(const comparison *k)
-{
-    unlink(k->input_path);
-    unlink(k->output_path);
-    rmdir(k->folder);
+    for (uint64_t i = 0; i < count && k->differences < k->most; i++)
+        compare_input(k, kind, i, t);
 }
 
 /* ---- The command line ---- */
 
+enum part { INPUTS, STREAMS, ENTRIES, PARTS, ALL_PARTS = PARTS };
+
+static const char *const part_names[PARTS] = {"inputs", "streams", "entries"};
+
 typedef struct {
-    command runner, also, entries, words;
+    command runner, also, entries;
+    enum part only;
     uint64_t count;
 } wishes;
 
-static int usage(void)
+static bool wants(const wishes *w, enum part part)
 {
-    fputs("usage: compare [--also COMMAND] [--entries COMMAND] [--words COMMAND] [--keep DIR] [--most N]\n"
-          "               COMMAND [SEED [COUNT]]\n",
-          stderr);
-    return 2;
+    return w->only == part || w->only == ALL_PARTS;
+}
+
+static const char usage[] =
+    "usage: compare [--also COMMAND] [--entries COMMAND] [--only inputs|streams|entries] [--keep DIR] [--most N]\n"
+    "               COMMAND [SEED [COUNT]]\n"
+    "SEED, COUNT and N are decimal numbers without spare zeros; COUNT and N are at least 1.\n"
+    "With --only entries COMMAND is -.\n";
+
+static bool take_part(const char *name, wishes *w)
+{
+    for (enum part p = INPUTS; p < PARTS; p++) {
+        if (strcmp(name, part_names[p]) == 0) {
+            w->only = p;
+            return true;
+        }
+    }
+    return false;
 }
 
 static bool take_option(const char *name, char *value, wishes *w, comparison *k)
 {
+    if (strcmp(name, "--most") == 0)
+        return small_number_of(value, 1, UINT32_MAX, &k->most);
+    if (strcmp(name, "--only") == 0)
+        return take_part(value, w);
     if (strcmp(name, "--also") == 0)
-        w->also = split(value);
+        w->also = command_of(value);
     else if (strcmp(name, "--entries") == 0)
-        w->entries = split(value);
-    else if (strcmp(name, "--words") == 0)
-        w->words = split(value);
+        w->entries = command_of(value);
     else if (strcmp(name, "--keep") == 0)
         k->keep = value;
-    else if (strcmp(name, "--most") == 0)
-        k->most = (unsigned)strtoul(value, NULL, 10);
     else
         return false;
     return true;
@@ -295,48 +219,74 @@ static bool take_words(int argc, char **argv, wishes *w, comparison *k)
     for (; at + 1 < argc && strncmp(argv[at], "--", 2) == 0; at += 2)
         if (!take_option(argv[at], argv[at + 1], w, k))
             return false;
-    if (at >= argc || argc - at > 3)
+    int left = argc - at;
+    if (left < 1 || left > 3)
         return false;
-    if (strcmp(argv[at], "-") != 0) {
-        w->runner = split(argv[at]);
-        if (!is_given(&w->runner))
-            return false;
-    }
-    k->seed = argc - at > 1 ? strtoull(argv[at + 1], NULL, 10) : 1;
-    w->count = argc - at > 2 ? strtoull(argv[at + 2], NULL, 10) : DEFAULT_COUNT;
-    return true;
+    if (strcmp(argv[at], "-") != 0)
+        w->runner = command_of(argv[at]);
+    if (is_given(&w->runner) == (w->only == ENTRIES))
+        return false;
+    return (left < 2 || number_of(argv[at + 1], 0, UINT64_MAX, &k->seed)) &&
+           (left < 3 || number_of(argv[at + 2], LEAST_COUNT, MOST_COUNT, &w->count));
+}
+
+/* ---- The end ---- */
+
+static unsigned print_seldom(const tally *t, const wishes *w)
+{
+    unsigned n = 0;
+    if (wants(w, INPUTS))
+        n += tally_missing(t, LEAST_HITS, stdout);
+    if (wants(w, STREAMS))
+        n += tally_stream_missing(&t->stream, LEAST_HITS, stdout);
+    if (wants(w, ENTRIES))
+        n += tally_missing_calls(t, "WDJ", LEAST_HITS, stdout);
+    return n;
 }
 
 static int report(const comparison *k, const tally *t, const wishes *w)
 {
     unsigned seldom = 0;
     tally_print(t, stdout);
-    if (!is_given(&w->entries))
+    if (wants(w, ENTRIES) && !is_given(&w->entries))
         printf("(W, D and J were run in this process alone: no --entries)\n");
     if (k->differences == 0 && w->count >= DEFAULT_COUNT)
-        seldom = is_given(&w->runner) ? tally_missing(t, LEAST_HITS, stdout)
-                                      : tally_missing_calls(t, "WDJ", LEAST_HITS, stdout);
+        seldom = print_seldom(t, w);
     printf("seed %llu: %llu inputs, %u different%s\n", (unsigned long long)k->seed, (unsigned long long)t->inputs,
            k->differences, seldom > 0 ? ", not all hit often enough" : "");
     return k->differences > 0 ? 1 : seldom > 0 ? 3 : 0;
 }
 
+static void compare_all(comparison *k, const wishes *w, tally *t)
+{
+    static const command none;
+    const input_kind inputs = {"", gen_input, gen_kind_name, as_file, false, {&w->runner, &w->also}};
+    const input_kind streams = {"stream-", gen_stream_input, gen_stream_name, gen_stream_feeding, false,
+                                {&w->runner, &w->also}};
+    const input_kind entries = {"entries-", gen_entries_input, entries_name, as_file, true, {&w->entries, &none}};
+    if (wants(w, INPUTS))
+        compare_inputs(k, &inputs, w->count, t);
+    if (wants(w, STREAMS))
+        compare_inputs(k, &streams, (w->count + STREAM_SHARE - 1) / STREAM_SHARE, t);
+    if (wants(w, ENTRIES))
+        compare_inputs(k, &entries, (w->count + ENTRIES_SHARE - 1) / ENTRIES_SHARE, t);
+}
+
 int main(int argc, char **argv)
 {
     static tally t;
-    static const command none;
-    comparison k = {.keep = ".", .most = 5};
-    wishes w = {.count = 0};
-    if (!take_words(argc, argv, &w, &k))
-        return usage();
-    const input_kind runs = {gen_input, gen_kind_name, "", false, {&w.runner, &w.also}};
-    const input_kind entries = {gen_entries_input, entries_name, "entries-", true, {&w.entries, &none}};
-    open_folder(&k);
-    if (is_given(&w.runner))
-        compare_inputs(&k, &runs, w.count, &t);
-    compare_inputs(&k, &entries, w.count / ENTRIES_SHARE, &t);
-    if (is_given(&w.words) && k.differences < k.most)
-        compare_words(&k, &w.words);
-    remove_folder(&k);
+    comparison k = {.keep = ".", .seed = 1, .most = 5};
+    wishes w = {.only = ALL_PARTS, .count = DEFAULT_COUNT};
+    if (argc == 2 && strcmp(argv[1], "--help") == 0) {
+        fputs(usage, stdout);
+        return 0;
+    }
+    if (!take_words(argc, argv, &w, &k)) {
+        fputs(usage, stderr);
+        return 2;
+    }
+    open_workplace(&k.place);
+    compare_all(&k, &w, &t);
+    close_workplace(&k.place);
     return report(&k, &t, &w);
 }

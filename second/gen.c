@@ -35,26 +35,7 @@ static const uint8_t kinds[] = {
 
 enum { ROUND = sizeof kinds };
 
-static const char *const kind_names[] = {
-    [SMALL] = "small rig", [MEDIUM] = "medium rig", [FULL] = "full-size rig",
-    [LONG_SCRIPT] = "long script", [RESTARTS] = "restarting tasks", [FAMILIES] = "families",
-    [RACES] = "races",
-    [SERVES_79] = "79 served", [SCRIPT_DAMAGED] = "damaged script", [LINE_SHAPE] = "line of wrong shape",
-    [LINE_SIZE] = "number outside its size", [LINE_ORDER] = "line out of order", [FUZZED] = "fuzzed rig",
-    [FILE_LENGTH] = "file length", [NO_RUN] = "no RUN line"};
-
-unsigned gen_round(void)
-{
-    return ROUND;
-}
-
-const char *gen_kind_name(uint64_t index)
-{
-    unsigned kind = kinds[index % ROUND];
-    return kind >= RULE_BROKEN ? rig_rule_text[kind - RULE_BROKEN] : kind_names[kind];
-}
-
-static void add_run(text *out)
+void gen_add_run(text *out)
 {
     text_print(out, "RUN\n");
 }
@@ -62,43 +43,79 @@ static void add_run(text *out)
 static void right_input(chance *c, const rig *r, const script_form *form, text *out)
 {
     gen_print_rig(r, out);
-    add_run(out);
+    gen_add_run(out);
     gen_script(c, r, form, out);
 }
 
-static void sized_input(chance *c, rig_size size, unsigned lines, text *out)
+typedef struct {
+    rig_size size;
+    unsigned least, most; /* script lines */
+} sized;
+
+static void sized_input(chance *c, const sized *s, text *out)
 {
     static rig r;
+    unsigned lines = pick(c, s->least, s->most);
     script_form form = {.lines = lines, .wild = pick(c, 2, 12), .damaged = likely(c, 30) ? 2 : 0};
-    gen_rig(c, size, &r);
+    gen_rig(c, s->size, &r);
     right_input(c, &r, &form, out);
+}
+
+static void small_input(chance *c, text *out)
+{
+    sized_input(c, &(sized){SIZE_SMALL, 50, 300}, out);
+}
+
+static void medium_input(chance *c, text *out)
+{
+    sized_input(c, &(sized){SIZE_MEDIUM, 100, 500}, out);
+}
+
+static void full_input(chance *c, text *out)
+{
+    sized_input(c, &(sized){SIZE_FULL, 200, 600}, out);
+}
+
+static void long_script_input(chance *c, text *out)
+{
+    sized_input(c, &(sized){likely(c, 80) ? SIZE_SMALL : SIZE_MEDIUM, 6000, 6000}, out);
 }
 
 /* A refused rig prints its line and ends, whatever follows. */
 static void end_refused(chance *c, text *out)
 {
     if (likely(c, 60)) {
-        add_run(out);
+        gen_add_run(out);
         text_print(out, "K\nF\n");
     }
 }
 
-static void purpose_input(chance *c, enum input_kind kind, text *out)
+static script_form purpose_form(chance *c, unsigned damaged)
+{
+    return (script_form){.lines = pick(c, 150, 350), .wild = 3, .damaged = damaged};
+}
+
+static void restarts_input(chance *c, text *out)
 {
     static rig r;
-    script_form form = {.lines = pick(c, 150, 350), .wild = 3, .damaged = 0};
-    switch (kind) {
-    case RESTARTS:
-        gen_restarting_rig(c, &r);
-        break;
-    case FAMILIES:
-        gen_family_rig(c, &r);
-        break;
-    default:
-        gen_rig(c, likely(c, 70) ? SIZE_SMALL : SIZE_MEDIUM, &r);
-        form.damaged = 40;
-        break;
-    }
+    script_form form = purpose_form(c, 0);
+    gen_restarting_rig(c, &r);
+    right_input(c, &r, &form, out);
+}
+
+static void families_input(chance *c, text *out)
+{
+    static rig r;
+    script_form form = purpose_form(c, 0);
+    gen_family_rig(c, &r);
+    right_input(c, &r, &form, out);
+}
+
+static void damaged_script_input(chance *c, text *out)
+{
+    static rig r;
+    script_form form = purpose_form(c, 40);
+    gen_rig(c, likely(c, 70) ? SIZE_SMALL : SIZE_MEDIUM, &r);
     right_input(c, &r, &form, out);
 }
 
@@ -107,7 +124,7 @@ static void race_input(chance *c, text *out)
     static rig r;
     gen_race_rig(c, &r);
     gen_print_rig(&r, out);
-    add_run(out);
+    gen_add_run(out);
     gen_race_script(c, &r, pick(c, 150, 350), out);
 }
 
@@ -116,7 +133,7 @@ static void full_serving_input(chance *c, text *out)
     static rig r;
     gen_full_serving_rig(c, &r);
     gen_print_rig(&r, out);
-    add_run(out);
+    gen_add_run(out);
     gen_full_serving_script(c, &r, out);
 }
 
@@ -139,55 +156,80 @@ static void no_run_input(chance *c, text *out)
         text_print(out, likely(c, 50) ? "RUN" : "RUN\r\nK\n");
 }
 
+static void bad_line_input(chance *c, enum refusal refusal, text *out)
+{
+    gen_bad_line_rig(c, refusal, out);
+    end_refused(c, out);
+}
+
+static void shape_input(chance *c, text *out)
+{
+    bad_line_input(c, BAD_SHAPE, out);
+}
+
+static void size_input(chance *c, text *out)
+{
+    bad_line_input(c, BAD_SIZE, out);
+}
+
+static void order_input(chance *c, text *out)
+{
+    bad_line_input(c, BAD_ORDER, out);
+}
+
+static void fuzzed_input(chance *c, text *out)
+{
+    gen_fuzzed_rig(c, out);
+    end_refused(c, out);
+}
+
+static void broken_rule_input(chance *c, rig_rule rule, text *out)
+{
+    gen_bad_rule_rig(c, rule, out);
+    end_refused(c, out);
+}
+
+/* ---- Kinds of inputs ---- */
+
+static const struct {
+    const char *name;
+    void (*make)(chance *c, text *out);
+} makers[RULE_BROKEN] = {
+    [SMALL] = {"small rig", small_input},
+    [MEDIUM] = {"medium rig", medium_input},
+    [FULL] = {"full-size rig", full_input},
+    [LONG_SCRIPT] = {"long script", long_script_input},
+    [RESTARTS] = {"restarting tasks", restarts_input},
+    [FAMILIES] = {"families", families_input},
+    [RACES] = {"races", race_input},
+    [SERVES_79] = {"79 served", full_serving_input},
+    [SCRIPT_DAMAGED] = {"damaged script", damaged_script_input},
+    [LINE_SHAPE] = {"line of wrong shape", shape_input},
+    [LINE_SIZE] = {"number outside its size", size_input},
+    [LINE_ORDER] = {"line out of order", order_input},
+    [FUZZED] = {"fuzzed rig", fuzzed_input},
+    [FILE_LENGTH] = {"file length", file_length_input},
+    [NO_RUN] = {"no RUN line", no_run_input}};
+
+unsigned gen_round(void)
+{
+    return ROUND;
+}
+
+const char *gen_kind_name(uint64_t index)
+{
+    unsigned kind = kinds[index % ROUND];
+    return kind >= RULE_BROKEN ? rig_rule_text[kind - RULE_BROKEN] : makers[kind].name;
+}
+
 void gen_input(uint64_t seed, uint64_t index, text *out)
 {
-    chance own = chance_of(seed, index), *c = &own;
+    chance c = chance_of(seed, index);
     unsigned kind = kinds[index % ROUND];
-    switch (kind) {
-    case SMALL:
-        sized_input(c, SIZE_SMALL, pick(c, 50, 300), out);
-        break;
-    case MEDIUM:
-        sized_input(c, SIZE_MEDIUM, pick(c, 100, 500), out);
-        break;
-    case FULL:
-        sized_input(c, SIZE_FULL, pick(c, 200, 600), out);
-        break;
-    case LONG_SCRIPT:
-        sized_input(c, likely(c, 80) ? SIZE_SMALL : SIZE_MEDIUM, 6000, out);
-        break;
-    case RACES:
-        race_input(c, out);
-        break;
-    case SERVES_79:
-        full_serving_input(c, out);
-        break;
-    case LINE_SHAPE:
-    case LINE_SIZE:
-    case LINE_ORDER:
-        gen_bad_line_rig(c, (enum refusal)(BAD_SHAPE + (kind - LINE_SHAPE)), out);
-        end_refused(c, out);
-        break;
-    case FUZZED:
-        gen_fuzzed_rig(c, out);
-        end_refused(c, out);
-        break;
-    case FILE_LENGTH:
-        file_length_input(c, out);
-        break;
-    case NO_RUN:
-        no_run_input(c, out);
-        break;
-    case RESTARTS:
-    case FAMILIES:
-    case SCRIPT_DAMAGED:
-        purpose_input(c, kind, out);
-        break;
-    default:
-        gen_bad_rule_rig(c, (rig_rule)(kind - RULE_BROKEN), out);
-        end_refused(c, out);
-        break;
-    }
+    if (kind >= RULE_BROKEN)
+        broken_rule_input(&c, (rig_rule)(kind - RULE_BROKEN), out);
+    else
+        makers[kind].make(&c, out);
 }
 
 void gen_entries_input(uint64_t seed, uint64_t index, text *out)
@@ -196,7 +238,7 @@ void gen_entries_input(uint64_t seed, uint64_t index, text *out)
     chance c = chance_of(seed ^ UINT64_C(0x656e747269657331), index);
     gen_rig(&c, (rig_size)(index % 3), &r);
     gen_print_rig(&r, out);
-    add_run(out);
+    gen_add_run(out);
     gen_entries_script(&c, &r, pick(&c, 100, 300), out);
 }
 
@@ -215,7 +257,7 @@ void gen_ticks_load(uint64_t seed, unsigned ticks, text *out)
     static rig r;
     fullest_rig(seed, &r);
     gen_print_rig(&r, out);
-    add_run(out);
+    gen_add_run(out);
     while (ticks-- > 0)
         text_print(out, "K\n");
 }
@@ -226,7 +268,7 @@ void gen_mixed_load(uint64_t seed, unsigned lines, text *out)
     chance c = chance_of(seed, 0);
     gen_race_rig(&c, &r);
     gen_print_rig(&r, out);
-    add_run(out);
+    gen_add_run(out);
     gen_race_script(&c, &r, lines, out);
 }
 
@@ -236,6 +278,6 @@ void gen_growth_load(uint64_t seed, unsigned lines, const growth *size, text *ou
     chance c = chance_of(seed, 0);
     gen_growth_rig(&c, size, &r);
     gen_print_rig(&r, out);
-    add_run(out);
+    gen_add_run(out);
     gen_growth_script(&c, &r, lines, out);
 }

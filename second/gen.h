@@ -22,6 +22,22 @@ unsigned gen_round(void);
 /* The same for the lines of entries.h. */
 void gen_entries_input(uint64_t seed, uint64_t index, text *out);
 
+/* ---- Inputs for the stream (gen_stream.c) ---- */
+
+enum {
+    USUAL_ROOM = 65536, /* bytes that a runner is likely to have room for, of input and of output */
+    NEAR_ROOM = 16,     /* lengths so many bytes below and above it are of interest */
+    FAR_LINE = 4096,    /* a fault past it is far */
+    SHORT_INPUT = 6000  /* bytes: short enough to be fed one by one */
+};
+
+/* How an input comes to the program. */
+typedef enum { FED_AS_FILE, FED_IN_PIECES, FED_BYTE_BY_BYTE, FEEDINGS } feeding;
+
+void gen_stream_input(uint64_t seed, uint64_t index, text *out);
+const char *gen_stream_name(uint64_t index);
+feeding gen_stream_feeding(uint64_t index);
+
 /* Loads for measuring: a full-size rig with so many ticks; a small rig with about so many mixed lines. */
 void gen_ticks_load(uint64_t seed, unsigned ticks, text *out);
 void gen_mixed_load(uint64_t seed, unsigned lines, text *out);
@@ -62,6 +78,9 @@ enum { SIGNALLED_MAX = 40, NEVER_SIGNALLED = FLAGS_MAX }; /* flags of a growth r
 bool growth_stays(unsigned task);
 
 void gen_print_rig(const rig *r, text *out);
+
+/* The line RUN. */
+void gen_add_run(text *out);
 
 /* ---- Scripts (gen_script.c) ---- */
 

@@ -367,7 +367,7 @@ void gen_bad_line_rig(chance *c, enum refusal refusal, text *out)
 
 /* ---- Whole-file rules ---- */
 
-static void break_task_above(chance *c, page *p, const rig *r)
+static void break_task_above(chance *c, page *p, rig *r)
 {
     unsigned above = pick(c, r->tasks + 1u, TASKS_MAX);
     switch (pick(c, 0, 3)) {
@@ -387,7 +387,7 @@ static void break_task_above(chance *c, page *p, const rig *r)
     }
 }
 
-static void break_flag_above(chance *c, page *p, const rig *r)
+static void break_flag_above(chance *c, page *p, rig *r)
 {
     unsigned above = pick(c, r->flags + 1u, FLAGS_MAX);
     switch (pick(c, 0, 2)) {
@@ -404,7 +404,7 @@ static void break_flag_above(chance *c, page *p, const rig *r)
 }
 
 /* Conditions and their flags anew: more than 1,024 A lines on flags that are on no M line. */
-static void break_a_lines(chance *c, page *p, const rig *r)
+static void break_a_lines(chance *c, page *p, rig *r)
 {
     flag_set minor;
     unsigned wanted = A_LINES_MAX + (likely(c, 50) ? 1 : pick(c, 2, 300)), made = 0;
@@ -428,14 +428,14 @@ static void break_a_lines(chance *c, page *p, const rig *r)
     }
 }
 
-static void break_b_lines(chance *c, page *p, const rig *r)
+static void break_b_lines(chance *c, page *p, rig *r)
 {
     unsigned wanted = ROWS_MAX + (likely(c, 50) ? 1 : pick(c, 2, 200));
     for (unsigned n = r->rows; n < wanted; n++)
         insert_line(p, p->lines, "B\t1\t%u\t2\t1\t32\t64\t63", pick(c, 1, SUBADDRESS_MAX));
 }
 
-static void break_controller(chance *c, page *p, const rig *r)
+static void break_controller(chance *c, page *p, rig *r)
 {
     unsigned task = pick(c, 2, r->tasks), controller;
     bool right;
@@ -468,7 +468,7 @@ static void break_cycle_crowded(chance *c, page *p, rig *r)
         insert_line(p, p->lines, likely(c, 50) ? "B\t1\t1\t2\t1\t33\t1\t0" : "M\t0\t1");
 }
 
-static void break_activation_shared(chance *c, page *p, const rig *r)
+static void break_activation_shared(chance *c, page *p, rig *r)
 {
     unsigned from, to;
     do
@@ -480,22 +480,36 @@ static void break_activation_shared(chance *c, page *p, const rig *r)
     set_number(p->line[to], 5, r->task[from].activation);
 }
 
-static void break_activation_minor(chance *c, page *p, const rig *r)
+static void break_activation_minor(chance *c, page *p, rig *r)
 {
     unsigned at = line_of(c, p, 'M');
     set_field(p->line[pick(c, 1, r->tasks)], 5, parts_of(p->line[at]).field[2]);
 }
 
-static void break_a_without_c(chance *c, page *p)
+static void break_t_missing(chance *c, page *p, rig *r)
 {
+    (void)r;
+    remove_line(p, line_of(c, p, 'T'));
+}
+
+static void break_first_controller(chance *c, page *p, rig *r)
+{
+    set_number(p->line[1], 2, pick(c, 1, r->tasks));
+}
+
+static void break_a_without_c(chance *c, page *p, rig *r)
+{
+    (void)r;
     remove_line(p, line_of(c, p, 'C'));
 }
 
 /* All A lines of the last condition go. */
-static void break_c_without_a(page *p)
+static void break_c_without_a(chance *c, page *p, rig *r)
 {
     unsigned last = end_of(p, 'A') - 1;
     parts f = parts_of(p->line[last]);
+    (void)c;
+    (void)r;
     while (p->line[last][0] == 'A') {
         parts other = parts_of(p->line[last]);
         if (strcmp(other.field[1], f.field[1]) != 0 || strcmp(other.field[2], f.field[2]) != 0)
@@ -516,7 +530,7 @@ static unsigned minor_a_line(chance *c, const page *p, const rig *r)
     return found;
 }
 
-static void break_minor_not_alone(chance *c, page *p, const rig *r)
+static void break_minor_not_alone(chance *c, page *p, rig *r)
 {
     unsigned at = minor_a_line(c, p, r);
     parts f = parts_of(p->line[at]);
@@ -537,65 +551,41 @@ static void break_minor_condition(chance *c, page *p, const rig *r, unsigned fie
     }
 }
 
-static void break_same_ends(chance *c, page *p)
+static void break_minor_latched(chance *c, page *p, rig *r)
+{
+    break_minor_condition(c, p, r, 3, 1);
+}
+
+static void break_minor_desires_off(chance *c, page *p, rig *r)
+{
+    break_minor_condition(c, p, r, 4, 0);
+}
+
+static void break_same_ends(chance *c, page *p, rig *r)
 {
     char *line = p->line[line_of(c, p, 'B')];
+    (void)r;
     set_field(line, 3, parts_of(line).field[1]);
 }
 
-static void break_rule(chance *c, page *p, rig *r, rig_rule rule)
-{
-    switch (rule) {
-    case RULE_TASK_ABOVE:
-        break_task_above(c, p, r);
-        break;
-    case RULE_FLAG_ABOVE:
-        break_flag_above(c, p, r);
-        break;
-    case RULE_A_LINES:
-        break_a_lines(c, p, r);
-        break;
-    case RULE_B_LINES:
-        break_b_lines(c, p, r);
-        break;
-    case RULE_T_MISSING:
-        remove_line(p, line_of(c, p, 'T'));
-        break;
-    case RULE_FIRST_CONTROLLER:
-        set_number(p->line[1], 2, pick(c, 1, r->tasks));
-        break;
-    case RULE_CONTROLLER:
-        break_controller(c, p, r);
-        break;
-    case RULE_CYCLE_CROWDED:
-        break_cycle_crowded(c, p, r);
-        break;
-    case RULE_ACTIVATION_SHARED:
-        break_activation_shared(c, p, r);
-        break;
-    case RULE_ACTIVATION_MINOR:
-        break_activation_minor(c, p, r);
-        break;
-    case RULE_A_WITHOUT_C:
-        break_a_without_c(c, p);
-        break;
-    case RULE_C_WITHOUT_A:
-        break_c_without_a(p);
-        break;
-    case RULE_MINOR_NOT_ALONE:
-        break_minor_not_alone(c, p, r);
-        break;
-    case RULE_MINOR_LATCHED:
-        break_minor_condition(c, p, r, 3, 1);
-        break;
-    case RULE_MINOR_DESIRES_OFF:
-        break_minor_condition(c, p, r, 4, 0);
-        break;
-    default:
-        break_same_ends(c, p);
-        break;
-    }
-}
+/* By rule: what breaks it, on the page of a rig. */
+static void (*const breakers[RIG_RULE_COUNT])(chance *c, page *p, rig *r) = {
+    [RULE_TASK_ABOVE] = break_task_above,
+    [RULE_FLAG_ABOVE] = break_flag_above,
+    [RULE_A_LINES] = break_a_lines,
+    [RULE_B_LINES] = break_b_lines,
+    [RULE_T_MISSING] = break_t_missing,
+    [RULE_FIRST_CONTROLLER] = break_first_controller,
+    [RULE_CONTROLLER] = break_controller,
+    [RULE_CYCLE_CROWDED] = break_cycle_crowded,
+    [RULE_ACTIVATION_SHARED] = break_activation_shared,
+    [RULE_ACTIVATION_MINOR] = break_activation_minor,
+    [RULE_A_WITHOUT_C] = break_a_without_c,
+    [RULE_C_WITHOUT_A] = break_c_without_a,
+    [RULE_MINOR_NOT_ALONE] = break_minor_not_alone,
+    [RULE_MINOR_LATCHED] = break_minor_latched,
+    [RULE_MINOR_DESIRES_OFF] = break_minor_desires_off,
+    [RULE_SAME_ENDS] = break_same_ends};
 
 void gen_bad_rule_rig(chance *c, rig_rule rule, text *out)
 {
@@ -605,7 +595,7 @@ void gen_bad_rule_rig(chance *c, rig_rule rule, text *out)
         plentiful_rig(c, &r);
     while (rule == RULE_A_LINES && r.tasks * r.flags < 120);
     page_of(&p, &r);
-    break_rule(c, &p, &r, rule);
+    breakers[rule](c, &p, &r);
     if (likely(c, 10)) /* a faulty line decides over the rule */
         spoil_line(c, &p, (enum refusal)pick(c, BAD_SHAPE, BAD_ORDER));
     page_print(&p, out);
@@ -628,7 +618,7 @@ void gen_fuzzed_rig(chance *c, text *out)
     plentiful_rig(c, &r);
     page_of(&p, &r);
     if (likely(c, 50))
-        break_rule(c, &p, &r, (rig_rule)pick(c, RULE_TASK_ABOVE, RIG_RULE_COUNT - 1));
+        breakers[pick(c, RULE_TASK_ABOVE, RIG_RULE_COUNT - 1)](c, &p, &r);
     for (unsigned n = pick(c, 0, 2); n > 0; n--)
         spoil_line(c, &p, (enum refusal)pick(c, BAD_SHAPE, BAD_ORDER));
     page_print(&p, out);

@@ -2,23 +2,36 @@
  * Prints an input:
  *   gen SEED INDEX           as the comparison makes it
  *   gen SEED INDEX entries   the same of the inputs with lines of entries.h
+ *   gen SEED INDEX stream    the same of the inputs that try the stream
  *   gen SEED N ticks         a full-size rig with N ticks
  *   gen SEED N mixed         a small rig with about N lines of all verbs
  *   gen SEED N growth TASKS A ROWS   a rig of that size with about N lines, nearly all of which do the same work
  */
+#include <limits.h>
 #include <stdio.h>
-#include <stdlib.h>
 #include <string.h>
 
 #include "gen.h"
+#include "numbers.h"
 
-static bool print_input(const char *what, uint64_t seed, uint64_t number, text *out)
+static bool print_input(const char *what, uint64_t seed, uint64_t index, text *out)
 {
     if (strcmp(what, "input") == 0)
-        gen_input(seed, number, out);
+        gen_input(seed, index, out);
     else if (strcmp(what, "entries") == 0)
-        gen_entries_input(seed, number, out);
-    else if (strcmp(what, "ticks") == 0)
+        gen_entries_input(seed, index, out);
+    else if (strcmp(what, "stream") == 0)
+        gen_stream_input(seed, index, out);
+    else
+        return false;
+    return true;
+}
+
+static bool print_load(const char *what, uint64_t seed, uint64_t number, text *out)
+{
+    if (number > UINT_MAX)
+        return false;
+    if (strcmp(what, "ticks") == 0)
         gen_ticks_load(seed, (unsigned)number, out);
     else if (strcmp(what, "mixed") == 0)
         gen_mixed_load(seed, (unsigned)number, out);
@@ -29,8 +42,9 @@ static bool print_input(const char *what, uint64_t seed, uint64_t number, text *
 
 static bool print_growth(char *const size[3], uint64_t seed, uint64_t number, text *out)
 {
-    growth g = {(unsigned)atoi(size[0]), (unsigned)atoi(size[1]), (unsigned)atoi(size[2])};
-    if (g.tasks < 2 || g.tasks > TASKS_MAX || g.a_lines > A_LINES_MAX || g.rows > ROWS_MAX)
+    growth g;
+    if (number > UINT_MAX || !small_number_of(size[0], 2, TASKS_MAX, &g.tasks) ||
+        !small_number_of(size[1], 0, A_LINES_MAX, &g.a_lines) || !small_number_of(size[2], 0, ROWS_MAX, &g.rows))
         return false;
     gen_growth_load(seed, (unsigned)number, &g, out);
     return true;
@@ -38,23 +52,36 @@ static bool print_growth(char *const size[3], uint64_t seed, uint64_t number, te
 
 static bool print_asked(int argc, char **argv, text *out)
 {
-    if (argc < 3)
+    uint64_t seed, number;
+    if (argc < 3 || !number_of(argv[1], 0, UINT64_MAX, &seed) || !number_of(argv[2], 0, UINT64_MAX, &number))
         return false;
-    uint64_t seed = strtoull(argv[1], NULL, 10), number = strtoull(argv[2], NULL, 10);
     if (argc == 7 && strcmp(argv[3], "growth") == 0)
         return print_growth(argv + 4, seed, number, out);
-    return argc <= 4 && print_input(argc == 4 ? argv[3] : "input", seed, number, out);
+    if (argc > 4)
+        return false;
+    const char *what = argc == 4 ? argv[3] : "input";
+    return print_input(what, seed, number, out) || print_load(what, seed, number, out);
 }
+
+static const char usage[] = "usage: gen SEED INDEX [entries|stream]\n"
+                            "       gen SEED N ticks|mixed\n"
+                            "       gen SEED N growth TASKS A ROWS\n"
+                            "Numbers are decimal, without spare zeros; TASKS is 2 to 64, A 0 to 1024, ROWS 0 to 64.\n";
 
 int main(int argc, char **argv)
 {
     text out = {NULL, 0, 0};
+    if (argc == 2 && strcmp(argv[1], "--help") == 0) {
+        fputs(usage, stdout);
+        return 0;
+    }
     if (!print_asked(argc, argv, &out)) {
-        fputs("usage: gen SEED INDEX [entries]\n       gen SEED N ticks|mixed\n       gen SEED N growth TASKS A ROWS\n", stderr);
+        fputs(usage, stderr);
         return 2;
     }
-    if (out.length > 0)
-        fwrite(out.bytes, 1, out.length, stdout);
+    bool written = (out.length == 0 || fwrite(out.bytes, 1, out.length, stdout) == out.length) && fflush(stdout) == 0;
     text_free(&out);
-    return fflush(stdout) == 0 ? 0 : 1;
+    if (!written)
+        perror("gen");
+    return written ? 0 : 1;
 }

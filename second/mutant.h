@@ -12,9 +12,10 @@
 
 /*
  * Number, name and what is wrong.  1 to 5 are the paper's "Slips seen on benches".
- * Those on a line that begins with E must be told apart by the lines of entries.h alone.
+ * Who must tell it apart, by the letter that its line begins with: M the inputs of the comparison, E the lines of
+ * entries.h alone, P the comparison's streams alone, S the tests of streams that block, fail or are answered line by line.
  */
-#define MUTANT_LIST(M, E) \
+#define MUTANT_LIST(M, E, P, S) \
     M(1, WORDS_UNREDUCED, "32 words put unreduced into the count field") \
     M(2, EQUAL_RANK_TAKES, "an equal-priority task that wakes takes the processor") \
     M(3, PHASE_BEFORE_TICK, "the phase is compared with the count before the tick") \
@@ -63,11 +64,26 @@
     E(46, DATA_AT_LEAST, "a buffer longer than the row's words is taken") \
     E(47, BLOCKS_WITHOUT_TASK, "blocks are read and written while no task is running") \
     E(48, ROOM_EXACTLY, "a tick takes a buffer of exactly 128 words alone") \
-    E(49, TICK_CLEARS_PAST, "a tick clears the words past those written")
+    E(49, TICK_CLEARS_PAST, "a tick clears the words past those written") \
+    P(50, TAIL_RUNS, "the tail of an over-long line is run as a line") \
+    P(51, LOST_AT_ROOMS_END, "lines are lost where the output's room is one byte short") \
+    P(52, UNFINISHED_UNANSWERED, "an over-long last line without LF is not answered") \
+    P(53, LINE_NUMBER_CUT, "line numbers from 4,096 on are told as 0") \
+    P(54, PIECE_ENDS_LINE, "a line that comes in two pieces is judged as two") \
+    P(55, TAIL_RUNS_TOO, "an over-long line is answered and its tail run besides") \
+    S(56, ANSWERS_KEPT, "answers are kept until the room is full or the input ends") \
+    S(57, REST_UNWRITTEN, "what a write did not take is lost") \
+    S(58, BLOCKED_IS_WRITTEN, "a write that would block is taken for done") \
+    S(59, FAILED_WRITE_UNTOLD, "a failed write is not told") \
+    S(60, FAILED_READ_ENDS, "a failed read is taken for the end of the input") \
+    S(61, LATE_INPUT_ENDS, "a read that would block is taken for the end of the input")
 
 #define MUTANT_NAME(number, name, text) MUTANT_##name = number,
-enum { MUTANT_LIST(MUTANT_NAME, MUTANT_NAME) MUTANT_END };
+enum { MUTANT_LIST(MUTANT_NAME, MUTANT_NAME, MUTANT_NAME, MUTANT_NAME) MUTANT_END };
 #undef MUTANT_NAME
+
+/* Where line numbers are cut by the mutant of that name. */
+enum { LINE_NUMBERS_CUT_FROM = 4096 };
 
 #define MUTATED(name) (MUTANT == MUTANT_##name)
 

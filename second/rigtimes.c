@@ -27,7 +27,7 @@ int rigtimes_print(int in)
     static in_stream file;
     static rig r;
     unsigned accepted = 0, same = 0;
-    in_open(&file, in);
+    in_open(&file, in, NULL);
     while (in_fill(&file))
         ;
     if (file.failed)

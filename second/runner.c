@@ -1,5 +1,6 @@
 #include "runner.h"
 
+#include <errno.h>
 #include <string.h>
 
 #include "entries.h"
@@ -9,27 +10,45 @@
 #include "script.h"
 #include "stream.h"
 
-input_parts find_parts(const uint8_t *head, size_t length)
+/*
+ * Whether the line RUN is among those from *line on; *line is then its start, else the start of the last line, which
+ * has no LF yet.
+ */
+static bool find_run(const uint8_t *head, size_t length, size_t *line)
 {
-    const uint8_t *at = head, *end = head + length;
-    while ((size_t)(end - at) >= RUN_LINE_LENGTH) {
+    while (length - *line >= RUN_LINE_LENGTH) {
+        const uint8_t *at = head + *line;
         if (memcmp(at, "RUN\n", RUN_LINE_LENGTH) == 0)
-            return (input_parts){(size_t)(at - head), true};
-        const uint8_t *lf = memchr(at, '\n', (size_t)(end - at));
+            return true;
+        const uint8_t *lf = memchr(at, '\n', length - *line);
         if (lf == NULL)
             break;
-        at = lf + 1;
+        *line = (size_t)(lf - head) + 1;
     }
+    return false;
+}
+
+input_parts find_parts(const uint8_t *head, size_t length)
+{
+    size_t line = 0;
+    if (find_run(head, length, &line))
+        return (input_parts){line, true};
     return (input_parts){length, false};
 }
 
-/* Fills the buffer up to the bytes that decide where the rig ends. */
+static size_t head_length(const in_stream *in)
+{
+    return in->length < HEAD_MAX ? in->length : HEAD_MAX;
+}
+
+/* Fills the buffer up to the line RUN, or to the bytes that show that it comes too late. */
 static input_parts take_head(in_stream *in)
 {
+    size_t line = 0;
     while (in->length < HEAD_MAX && in_fill(in))
-        ;
-    size_t seen = in->length < HEAD_MAX ? in->length : HEAD_MAX;
-    return find_parts(in->text, seen);
+        if (find_run(in->text, head_length(in), &line))
+            return (input_parts){line, true};
+    return (input_parts){head_length(in), false};
 }
 
 static rig_verdict read_rig(in_stream *in, input_parts *parts, rig *r)
@@ -82,6 +101,9 @@ typedef struct {
 static int close_streams(session *s)
 {
     out_flush(&s->out);
+    if (MUTATED(FAILED_WRITE_UNTOLD))
+        s->out.failed = 0;
+    errno = s->out.failed ? s->out.failed : s->in.failed;
     return s->in.failed || s->out.failed ? -1 : 0;
 }
 
@@ -89,16 +111,24 @@ static int close_streams(session *s)
 static int with_rig(int in, int out, void (*go_on)(session *s))
 {
     static session s;
-    in_open(&s.in, in);
+    in_open(&s.in, in, &s.out);
     out_open(&s.out, out);
     rig_verdict v = read_rig(&s.in, &s.parts, &s.rig);
     if (s.in.failed)
-        return -1;
+        return close_streams(&s);
     if (v.refusal == ACCEPTED)
         go_on(&s);
     else
         out_advance(&s.out, print_refused_rig(out_room(&s.out, OUTPUT_LINE_MAX), &v));
     return close_streams(&s);
+}
+
+static void answer_line(session *s, exec *e, const in_line *line, line_runner *run)
+{
+    char *room = out_room(&s->out, OUTPUT_LINE_MAX - MUTATED(LOST_AT_ROOMS_END));
+    if (MUTATED(LOST_AT_ROOMS_END) && STREAM_ROOM - s->out.length < OUTPUT_LINE_MAX)
+        return;
+    out_advance(&s->out, run(e, line, room));
 }
 
 static void run_script(session *s, line_runner *run)
@@ -108,7 +138,7 @@ static void run_script(session *s, line_runner *run)
     (void)exec_start(&e, &s->rig); /* a rig that was read keeps the rules */
     out_advance(&s->out, print_started(out_room(&s->out, OUTPUT_LINE_MAX), &e));
     while (s->parts.has_script && !s->out.failed && in_next_line(&s->in, &line))
-        out_advance(&s->out, run(&e, &line, out_room(&s->out, OUTPUT_LINE_MAX)));
+        answer_line(s, &e, &line, run);
 }
 
 static void run_lines(session *s)

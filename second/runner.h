@@ -3,7 +3,8 @@
  *
  * The rig ends before the first line that is exactly RUN and LF; without one
  * the whole input is the rig.  The script streams through one buffer: lines
- * may have any length and any bytes.  Output is written in large pieces.
+ * may have any length and any bytes.  All lines that were read are answered
+ * before more is read; many lines that come together are answered by one write.
  */
 #ifndef SECOND_RUNNER_H
 #define SECOND_RUNNER_H

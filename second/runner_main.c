@@ -12,8 +12,8 @@ static int usage(FILE *to, int status)
     fputs("usage: runner               rig, RUN and script on standard input; answers on standard output\n"
           "       runner --echo-rig    read a rig and write it back\n"
           "       runner --entries     as the first, with the lines of entries.h besides\n"
-          "       runner --words       print all bus words and verdicts, as wordlist.h says\n"
-          "       runner --sums        print sums over them, as wordsums.h says\n"
+          "       runner --words       answer questions on bus words, as wordlist.h says\n"
+          "       runner --sums        print sums over all words and images, as wordsums.h says\n"
           "       runner --rig-times   read and write a rig many times over, as rigtimes.h says\n",
           to);
     return status;
@@ -29,7 +29,7 @@ int main(int argc, char **argv)
     else if (argc == 2 && strcmp(argv[1], "--entries") == 0)
         done = runner_run_entries(0, 1);
     else if (argc == 2 && strcmp(argv[1], "--words") == 0)
-        done = wordlist_print(1);
+        done = wordlist_print(0, 1);
     else if (argc == 2 && strcmp(argv[1], "--sums") == 0)
         done = wordsums_print();
     else if (argc == 2 && strcmp(argv[1], "--rig-times") == 0)

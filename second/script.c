@@ -169,6 +169,6 @@ size_t print_refused_rig(char *out, const rig_verdict *v)
 {
     char *at = print_text(out, "START");
     at = print_field(at, v->refusal);
-    at = print_field(at, v->line);
+    at = print_field(at, MUTATED(LINE_NUMBER_CUT) && v->line >= LINE_NUMBERS_CUT_FROM ? 0 : v->line);
     return end_line(out, at);
 }

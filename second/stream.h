@@ -1,4 +1,7 @@
-/* Buffered reading and writing of file descriptors. */
+/*
+ * Buffered reading and writing of file descriptors.  Descriptors may be non-blocking: what would block is waited for.
+ * What was put to the answers is written before more is read, so that a reader has each answer as soon as it is known.
+ */
 #ifndef SECOND_STREAM_H
 #define SECOND_STREAM_H
 
@@ -10,7 +13,7 @@ enum { STREAM_ROOM = 1 << 16 };
 
 typedef struct {
     int fd;
-    bool failed;
+    int failed; /* the error's number, 0 for none */
     size_t length;
     char text[STREAM_ROOM];
 } out_stream;
@@ -25,13 +28,15 @@ void out_flush(out_stream *o);
 
 typedef struct {
     int fd;
-    bool failed;
+    int failed; /* the error's number, 0 for none */
     bool ended;
+    out_stream *answers;
     size_t place, length; /* text[place] up to text[length] is unread */
     uint8_t text[STREAM_ROOM];
 } in_stream;
 
-void in_open(in_stream *i, int fd);
+/* `answers` is written before each read; NULL for none. */
+void in_open(in_stream *i, int fd, out_stream *answers);
 
 /* Gets more bytes behind the unread ones, as far as there is room; false at the end. */
 bool in_fill(in_stream *i);

@@ -135,6 +135,7 @@ static void run_script(run *r, const uint8_t *at, const uint8_t *end, bool entri
     while (at < end) {
         const uint8_t *lf = memchr(at, '\n', (size_t)(end - at));
         const uint8_t *stop = lf != NULL ? lf : end;
+        tally_stream_line(&r->t->stream, at, (size_t)(stop - at), lf != NULL, r->output->length);
         text_add(r->output, out, run_line(r, at, (size_t)(stop - at), lf != NULL, entries, out));
         at = lf != NULL ? lf + 1 : end;
     }
@@ -156,6 +157,7 @@ void tally_run(tally *t, const text *input, bool entries, text *output)
     t->inputs++;
     t->start[v.refusal]++;
     t->rule[v.rule]++;
+    tally_stream_verdict(&t->stream, &v);
     if (v.refusal != ACCEPTED) {
         text_add(output, out, print_refused_rig(out, &v));
         return;
@@ -231,11 +233,12 @@ void tally_print(const tally *t, FILE *to)
             (unsigned long long)t->restarts, (unsigned long long)t->terminated_restarts,
             (unsigned long long)t->cascades, (unsigned long long)t->deepest,
             (unsigned long long)t->most_served, (unsigned long long)t->served_most);
+    tally_stream_print(&t->stream, to);
 }
 
 /* ---- What was hit too seldom ---- */
 
-static unsigned missing(uint64_t hit, uint64_t least, FILE *to, const char *what, const char *which)
+unsigned tally_seldom(uint64_t hit, uint64_t least, FILE *to, const char *what, const char *which)
 {
     if (hit >= least)
         return 0;
@@ -250,11 +253,11 @@ unsigned tally_missing_calls(const tally *t, const char *of, uint64_t least, FIL
         if (strchr(of, verbs[i].verb) == NULL)
             continue;
         const uint64_t *by = t->call[(unsigned char)verbs[i].verb];
-        n += missing(by[ACCEPTED], least, to, verbs[i].name, "accepted");
+        n += tally_seldom(by[ACCEPTED], least, to, verbs[i].name, "accepted");
         for (const char *l = verbs[i].refusals; *l != 0; l++) {
             char which[16];
             snprintf(which, sizeof which, "refused by %u", refusal_of(*l));
-            n += missing(by[refusal_of(*l)], least, to, verbs[i].name, which);
+            n += tally_seldom(by[refusal_of(*l)], least, to, verbs[i].name, which);
         }
     }
     return n;
@@ -262,21 +265,21 @@ unsigned tally_missing_calls(const tally *t, const char *of, uint64_t least, FIL
 
 unsigned tally_missing(const tally *t, uint64_t least, FILE *to)
 {
-    unsigned n = tally_missing_calls(t, "SXZFKURLNGQWDJ", least, to);
-    n += missing(t->call['?'][BAD_SHAPE], least, to, "script line", "refused by 1");
+    unsigned n = tally_missing_calls(t, "SXZFKURLNGQ", least, to);
+    n += tally_seldom(t->call['?'][BAD_SHAPE], least, to, "script line", "refused by 1");
     for (unsigned r = BAD_SHAPE; r <= BAD_RIG; r++)
-        n += missing(t->start[r], least, to, "rig refused by", (const char *[]){"1", "2", "3", "4"}[r - 1]);
+        n += tally_seldom(t->start[r], least, to, "rig refused by", (const char *[]){"1", "2", "3", "4"}[r - 1]);
     for (unsigned i = RULE_TASK_ABOVE; i < RIG_RULE_COUNT; i++)
-        n += missing(t->rule[i], least / 2, to, "rule:", rig_rule_text[i]);
+        n += tally_seldom(t->rule[i], least / 2, to, "rule:", rig_rule_text[i]);
     for (const char *v = "URLN"; *v != 0; v++) {
         char verb[2] = {*v, 0};
-        n += missing(t->woken[(unsigned char)*v], least, to, "woken wait", verb);
-        n += missing(t->cancelled[(unsigned char)*v], least, to, "cancelled wait", verb);
-        n += missing(t->terminated[(unsigned char)*v], least, to, "terminated wait", verb);
+        n += tally_seldom(t->woken[(unsigned char)*v], least, to, "woken wait", verb);
+        n += tally_seldom(t->cancelled[(unsigned char)*v], least, to, "cancelled wait", verb);
+        n += tally_seldom(t->terminated[(unsigned char)*v], least, to, "terminated wait", verb);
     }
-    n += missing(t->restarts, least, to, "restart within one call", "by finish");
-    n += missing(t->terminated_restarts, least, to, "restart within one call", "by terminate");
-    n += missing(t->cascades, least, to, "cascade", "");
-    n += missing(t->served_most, least, to, "call", "that served 79");
+    n += tally_seldom(t->restarts, least, to, "restart within one call", "by finish");
+    n += tally_seldom(t->terminated_restarts, least, to, "restart within one call", "by terminate");
+    n += tally_seldom(t->cascades, least, to, "cascade", "");
+    n += tally_seldom(t->served_most, least, to, "call", "that served 79");
     return n;
 }

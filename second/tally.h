@@ -12,6 +12,7 @@
 #include "chance.h"
 #include "paper.h"
 #include "rig.h"
+#include "tally_stream.h"
 
 enum { REFUSALS = NOT_SOUND + 1 };
 
@@ -31,12 +32,16 @@ typedef struct {
     uint64_t woken[128];           /* waits by verb that ended by waking */
     uint64_t cancelled[128];       /* by X, by the verb that began the wait */
     uint64_t terminated[128];      /* by Z */
+    stream_tally stream;
 } tally;
 
 /* Appends the right output of a runner's input; with `entries`, of an input of entries.h. */
 void tally_run(tally *t, const text *input, bool entries, text *output);
 
 void tally_print(const tally *t, FILE *to);
+
+/* 1, and a line on it, if this was hit fewer than `least` times; else 0. */
+unsigned tally_seldom(uint64_t hit, uint64_t least, FILE *to, const char *what, const char *which);
 
 /* Prints what was hit fewer than `least` times; answers how many such there are. */
 unsigned tally_missing(const tally *t, uint64_t least, FILE *to);

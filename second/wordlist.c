@@ -1,143 +1,128 @@
 #include "wordlist.h"
 
+#include <errno.h>
+#include <stdbool.h>
 #include <stddef.h>
+#include <string.h>
 
 #include "script.h"
 #include "stream.h"
 #include "words.h"
 
-enum { LINE_MAX_BYTES = 128 };
+enum { ASKED_MAX = 4, LINE_ROOM = 128 };
 
-static const char verdict_letter[] = {
-    [VERDICT_ERROR] = 'e', [VERDICT_EXCEPTION] = 'x', [VERDICT_CLEAN] = 'c'};
+/* ---- Answers: each prints what follows the fields that were asked ---- */
 
-/* The edge numbers; 4,294,967,295 shows that nothing is cut to size before judging. */
-static const uint32_t edge_address[] = {0, 31, 32, UINT32_MAX};
-static const uint32_t edge_bit[] = {0, 1, 2, UINT32_MAX};
-static const uint32_t edge_subaddress[] = {0, 1, 31, 32, UINT32_MAX};
-static const uint32_t edge_last[] = {0, 1, 31, 32, 33, UINT32_MAX};
-static const uint32_t edge_status[] = {0, 1, 511, 512, UINT32_MAX};
-static const uint32_t edge_image[] = {0, 1, 61441, 131071, 131072, UINT32_MAX};
-
-#define EACH(name, list) \
-    for (const uint32_t *name = (list); name < (list) + sizeof(list) / sizeof *(list); name++)
-
-static char *begin(out_stream *o, char kind)
+static char *print_word(char *at, enum refusal refusal, uint16_t word)
 {
-    char *at = out_room(o, LINE_MAX_BYTES);
-    *at++ = kind;
-    return at;
+    at = print_field(at, refusal);
+    return refusal == ACCEPTED ? print_field(at, word) : at;
 }
 
-static void end(out_stream *o, char *at)
-{
-    *at++ = '\n';
-    out_advance(o, (size_t)(at - (o->text + o->length)));
-}
-
-static char *fields(char *at, const uint32_t *field, unsigned n)
-{
-    for (unsigned i = 0; i < n; i++)
-        at = print_field(at, field[i]);
-    return at;
-}
-
-#define FIELDS(at, ...) \
-    fields((at), (const uint32_t[]){__VA_ARGS__}, sizeof((const uint32_t[]){__VA_ARGS__}) / sizeof(uint32_t))
-
-static void command_line(out_stream *o, uint16_t word)
-{
-    uint16_t again = 0;
-    command_fields f = command_apart(word);
-    (void)command_word(&f, &again);
-    char *at = begin(o, 'C');
-    end(o, FIELDS(at, word, f.address, f.transmit, f.subaddress, f.last, again));
-}
-
-static void status_line(out_stream *o, uint16_t word)
-{
-    uint16_t again = 0;
-    status_fields f = status_apart(word);
-    (void)status_word(&f, &again);
-    char *at = begin(o, 'S');
-    end(o, FIELDS(at, word, f.address, f.error, f.status, f.failure, again, parity(word),
-                  status_image(word)));
-}
-
-static void image_line(out_stream *o, uint32_t image)
-{
-    char *at = print_field(begin(o, 'I'), image);
-    *at++ = '\t';
-    for (uint32_t expected = 0; expected <= ADDRESS_MAX; expected++) {
-        verdict v = VERDICT_ERROR;
-        (void)status_judge(image, expected, &v);
-        *at++ = verdict_letter[v];
-    }
-    end(o, at);
-}
-
-/* Four fields, the refusal and, if there is none, the word. */
-static void edge_line(out_stream *o, char kind, const uint32_t field[4], enum refusal refusal, uint16_t word)
-{
-    char *at = print_field(fields(begin(o, kind), field, 4), refusal);
-    end(o, refusal == ACCEPTED ? print_field(at, word) : at);
-}
-
-static void edge_command(out_stream *o, const command_fields *f)
+static char *answer_command(char *at, const uint32_t *asked)
 {
     uint16_t word = 0;
-    enum refusal refusal = command_word(f, &word);
-    edge_line(o, 'c', (const uint32_t[]){f->address, f->transmit, f->subaddress, f->last}, refusal, word);
+    enum refusal refusal = command_word(&(command_fields){asked[0], asked[1], asked[2], asked[3]}, &word);
+    return print_word(at, refusal, word);
 }
 
-static void edge_status_word(out_stream *o, const status_fields *f)
+static char *answer_fields(char *at, const uint32_t *asked)
+{
+    command_fields c = command_apart((uint16_t)asked[0]);
+    return print_field(print_field(print_field(print_field(at, c.address), c.transmit), c.subaddress), c.last);
+}
+
+static char *answer_status(char *at, const uint32_t *asked)
 {
     uint16_t word = 0;
-    enum refusal refusal = status_word(f, &word);
-    edge_line(o, 's', (const uint32_t[]){f->address, f->error, f->status, f->failure}, refusal, word);
+    enum refusal refusal = status_word(&(status_fields){asked[0], asked[1], asked[2], asked[3]}, &word);
+    at = print_word(at, refusal, word);
+    return refusal == ACCEPTED ? print_field(at, status_image(word)) : at;
 }
 
-static void edge_judge(out_stream *o, uint32_t image, uint32_t expected)
+static char *answer_bits(char *at, const uint32_t *asked)
 {
+    status_fields s = status_apart((uint16_t)asked[0]);
+    return print_field(print_field(print_field(print_field(at, s.address), s.error), s.status), s.failure);
+}
+
+static char *answer_parity(char *at, const uint32_t *asked)
+{
+    return print_field(at, parity((uint16_t)asked[0]));
+}
+
+static char *answer_judge(char *at, const uint32_t *asked)
+{
+    static const char *const words[] = {
+        [VERDICT_ERROR] = "\terror", [VERDICT_EXCEPTION] = "\texception", [VERDICT_CLEAN] = "\tclean"};
     verdict v = VERDICT_ERROR;
-    enum refusal refusal = status_judge(image, expected, &v);
-    char *at = begin(o, 'i');
-    at = FIELDS(at, image, expected, refusal);
-    if (refusal == ACCEPTED) {
-        *at++ = '\t';
-        *at++ = verdict_letter[v];
-    }
-    end(o, at);
+    enum refusal refusal = status_judge(asked[0], asked[1], &v);
+    at = print_field(at, refusal);
+    if (refusal != ACCEPTED)
+        return at;
+    size_t length = strlen(words[v]);
+    memcpy(at, words[v], length);
+    return at + length;
 }
 
-static void edges(out_stream *o)
+/* ---- Questions ---- */
+
+typedef struct {
+    const char *verb;
+    unsigned asked; /* fields */
+    uint32_t most;  /* of each: a word that is taken apart has 16 bits */
+    char *(*answer)(char *at, const uint32_t *asked);
+} question;
+
+static const question questions[] = {
+    {"command", 4, UINT32_MAX, answer_command}, {"fields", 1, UINT16_MAX, answer_fields},
+    {"status", 4, UINT32_MAX, answer_status},   {"bits", 1, UINT16_MAX, answer_bits},
+    {"parity", 1, UINT16_MAX, answer_parity},   {"judge", 2, UINT32_MAX, answer_judge}};
+
+static const question *question_of(const in_line *line, size_t verb_length)
 {
-    EACH(a, edge_address)
-        EACH(b, edge_bit)
-            EACH(s, edge_subaddress)
-                EACH(l, edge_last)
-                    edge_command(o, &(command_fields){*a, *b, *s, *l});
-    EACH(a, edge_address)
-        EACH(m, edge_bit)
-            EACH(s, edge_status)
-                EACH(f, edge_bit)
-                    edge_status_word(o, &(status_fields){*a, *m, *s, *f});
-    EACH(image, edge_image)
-        EACH(a, edge_address)
-            edge_judge(o, *image, *a);
+    for (size_t i = 0; i < sizeof questions / sizeof questions[0]; i++)
+        if (strlen(questions[i].verb) == verb_length && memcmp(questions[i].verb, line->text, verb_length) == 0)
+            return &questions[i];
+    return NULL;
 }
 
-int wordlist_print(int out)
+/* The fields that are asked; more may follow behind a tab. */
+static bool take_asked(const question *q, const uint8_t *at, const uint8_t *end, uint32_t asked[ASKED_MAX])
 {
+    for (unsigned i = 0; i < q->asked; i++)
+        if (!script_number(&at, end, &asked[i]) || asked[i] > q->most)
+            return false;
+    return at == end || *at == '\t';
+}
+
+static size_t print_question(const in_line *line, char *out)
+{
+    uint32_t asked[ASKED_MAX];
+    const uint8_t *end = line->text + line->length, *tab = memchr(line->text, '\t', line->length);
+    size_t verb_length = tab != NULL ? (size_t)(tab - line->text) : 0;
+    const question *q = question_of(line, verb_length);
+    if (!line->whole || q == NULL || !take_asked(q, tab, end, asked))
+        return print_wrong_line(out);
+    memcpy(out, q->verb, verb_length);
+    char *at = out + verb_length;
+    for (unsigned i = 0; i < q->asked; i++)
+        at = print_field(at, asked[i]);
+    at = q->answer(at, asked);
+    *at++ = '\n';
+    return (size_t)(at - out);
+}
+
+int wordlist_print(int in, int out)
+{
+    static in_stream i;
     static out_stream o;
+    in_line line;
+    in_open(&i, in, &o);
     out_open(&o, out);
-    for (uint32_t word = 0; word <= UINT16_MAX; word++)
-        command_line(&o, (uint16_t)word);
-    for (uint32_t word = 0; word <= UINT16_MAX; word++)
-        status_line(&o, (uint16_t)word);
-    for (uint32_t image = 0; image < 131072; image++)
-        image_line(&o, image);
-    edges(&o);
+    while (in_next_line(&i, &line))
+        out_advance(&o, print_question(&line, out_room(&o, LINE_ROOM)));
     out_flush(&o);
-    return o.failed ? -1 : 0;
+    errno = o.failed ? o.failed : i.failed;
+    return i.failed || o.failed ? -1 : 0;
 }

@@ -1,29 +1,24 @@
 /*
- * All bus words as text, so that another program can print the same and the
- * two be compared byte for byte.  Fields are parted by tabs, lines end in LF:
+ * Bus words, question by question.  Each line of the input is a verb and what
+ * is asked, parted by tabs; what follows those fields is passed over, so that
+ * the lines that another program printed with its answers are questions too.
+ * Each is printed with this program's answer behind it:
  *
- *   C word address transmit sub-address last again
- *       for each word 0 to 65,535: the command taken apart, and put together
- *       again from these fields
- *   S word address error status failure again parity image
- *       for each word 0 to 65,535: the status taken apart, put together again,
- *       its parity and its 17-bit image
- *   I image letters
- *       for each image 0 to 131,071: 32 letters, the verdict against each
- *       expected address 0 to 31 (e error, x exception, c clean)
- *   c address transmit sub-address last answer [word]
- *   s address error status failure answer [word]
- *   i image expected answer [letter]
- *       entries at and past the edges of their fields: every combination, the
- *       last field changing fastest, of the edge numbers listed in wordlist.c;
- *       the word or letter only if the answer is 0
+ *   command  address transmit sub-address words     number [word]
+ *   fields   word                                   address transmit sub-address words
+ *   status   address error status failure           number [word image]
+ *   bits     word                                   address error status failure
+ *   parity   word                                   parity
+ *   judge    image address                          number [verdict]
  *
- * in this order: all C, all S, all I, all c, all s, all i.
+ * The number is 0 if accepted; only then the fields in brackets follow.  A
+ * verdict is error, exception or clean.  A line that is no question is
+ * answered by ? alone.
  */
 #ifndef SECOND_WORDLIST_H
 #define SECOND_WORDLIST_H
 
-/* Answers 0, or -1 if writing failed. */
-int wordlist_print(int out);
+/* Answers 0, or -1 if reading or writing failed. */
+int wordlist_print(int in, int out);
 
 #endif

@@ -1,6 +1,6 @@
 /*
  * Sums over every bus word, every image at every address, and fields in and
- * out of their sizes, as text that the proved program allwords prints too.
+ * out of their sizes, as text that the proved program word_sums prints too.
  * A sum begins at 0 and takes in one value after the other:
  *
  *   sum = (sum * 31 + value) modulo 65521

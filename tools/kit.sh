@@ -1,9 +1,86 @@
-# What the commands at the top of the repository share: finding the kit, building a program once, running it.
-# Programs are for x86-64; on another processor the kit has an emulator beside its compiler, and C is cross-compiled.
+# shellcheck shell=bash
+# What the commands at the top of the repository share: words of a command line, finding the kit, building a program
+# once, running it. Programs are for x86-64; on other processors the kit has an emulator beside its compiler, and C is
+# cross-compiled.
 
 missing() {
     echo "${0##*/}: $1 is missing. $2" >&2
     exit 2
+}
+
+# misuse MESSAGE: tells what is wrong, and the right command; the command itself says `usage`
+misuse() {
+    echo "${0##*/}: $1" >&2
+    usage >&2
+    exit 2
+}
+
+# is_number WORD: decimal digits without spare zeros, within 64 bits
+is_number() {
+    [[ $1 =~ ^(0|[1-9][0-9]{0,18})$ ]]
+}
+
+# open_input [FILE]: standard input is FILE, or stays what it is
+open_input() {
+    if [ $# -eq 0 ]; then
+        check_input
+        return
+    fi
+    [ -e "$1" ] || misuse "there is no file $1"
+    [ ! -d "$1" ] || misuse "$1 is a directory"
+    { exec <"$1"; } 2>/dev/null || misuse "$1 cannot be read"
+}
+
+check_input() {
+    { : 3<&0; } 2>/dev/null || misuse "standard input is closed"
+    [ ! -d /dev/stdin ] || misuse "standard input is a directory"
+    [ ! -t 0 ] || echo "${0##*/}: reading from the terminal (a file: ./${0##*/} FILE; help: ./${0##*/} --help)" >&2
+}
+
+check_output() {
+    { : 3>&1; } 2>/dev/null && return
+    echo "${0##*/}: standard output is closed" >&2
+    exit 1
+}
+
+# pass_on PATTERN: the first line, then the rest as it comes; 1 if the first line does not match
+pass_on() {
+    local first verdict=0
+    if ! IFS= read -r first; then
+        printf '%s' "$first"
+        return 1
+    fi
+    # shellcheck disable=SC2053
+    [[ $first == $1 ]] || verdict=1
+    LC_ALL=C cat - /dev/fd/5 5<&0 <<<"$first" || return 1
+    return $verdict
+}
+
+# run_passing PATTERN COMMAND...: the command on descriptor 4, its output to descriptor 3 through pass_on. Where that
+# ends early (nothing can be written any more) the command is ended too, though it may be waiting for input.
+run_passing() {
+    local pattern=$1 status=0 program
+    shift
+    pass_on "$pattern" < <(exec "$@" <&4 3>&- 4<&-) >&3 || status=1
+    program=$!
+    [ $status -eq 0 ] || kill "$program" 2>/dev/null || true
+    wait "$program" || status=1
+    return $status
+}
+
+# run_telling PATTERN COMMAND...: runs a program that has no exit status of its own. Its output passes through at once.
+# Status 1 if its first line does not match PATTERN, or if it, or what it wrote to, told a failure on standard error.
+run_telling() {
+    local status=0 said
+    check_output
+    exec 3>&1 4<&0
+    if [ -p /dev/fd/3 ] || [ -t 3 ]; then
+        { exec 3>/dev/fd/3; } 2>/dev/null || true # opened anew it blocks, whatever its other users want
+    fi
+    said=$(run_passing "$@" 2>&1) || status=1
+    [ -n "$said" ] || return $status
+    printf '%s\n' "$said" | sed "s/^cat: /standard output: /; s/^/${0##*/}: /" >&2
+    return 1
 }
 
 is_x86_64() {
@@ -19,6 +96,10 @@ need_c() {
     command -v make >/dev/null || missing "make" "On Debian: apt-get install make"
 }
 
+need_python() {
+    command -v python3 >/dev/null || missing "Python 3" "On Debian: apt-get install python3"
+}
+
 # need_x86_c: a C compiler for x86-64, whatever the processor here
 need_x86_c() {
     need_c
@@ -26,7 +107,7 @@ need_x86_c() {
         missing "a C compiler for x86-64" "On Debian: apt-get install gcc-x86-64-linux-gnu libc6-dev-amd64-cross"
 }
 
-# make_x86 WORDS...: make with the compiler for x86-64; off that processor programs are linked whole, so that the
+# make_x86 WORDS...: make with the compiler for x86-64; on other processors programs are linked whole, so that the
 # emulator needs no libraries for them
 make_x86() {
     if is_x86_64; then
@@ -90,24 +171,24 @@ tools_of_kit() {
     echo "$home/on/$(uname -m)/toolchain"
 }
 
-# command_of NAME: the words that run target/bin/NAME here
+# command_of NAME: the words that run target/bin/NAME here, from the top of the repository
 command_of() {
     local tools
     if is_x86_64; then
-        echo "$PWD/target/bin/$1"
+        echo "target/bin/$1"
         return
     fi
     tools=$(tools_of_kit)
-    echo "$tools/bin/qemu-x86_64 $tools/lib/ld-linux-x86-64.so.2 --library-path $tools/lib $PWD/target/bin/$1"
+    echo "$tools/bin/qemu-x86_64 $tools/lib/ld-linux-x86-64.so.2 --library-path $tools/lib target/bin/$1"
 }
 
 # command_of_c FILE: the words that run a program of make_x86 here
 command_of_c() {
     local tools
     if is_x86_64; then
-        echo "$PWD/$1"
+        echo "$1"
         return
     fi
     tools=$(tools_of_kit)
-    echo "$tools/bin/qemu-x86_64 $PWD/$1"
+    echo "$tools/bin/qemu-x86_64 $1"
 }

@@ -6,6 +6,7 @@
 
 #include "check.h"
 #include "runner.h"
+#include "wordlist.h"
 
 const char *rigs_folder = "../rigs";
 
@@ -77,6 +78,11 @@ static void take_all(FILE *from, text *out)
         text_add(out, part, (size_t)n);
 }
 
+static int (*const modes[])(int in, int out) = {[MODE_RUN] = runner_run,
+                                                [MODE_ENTRIES] = runner_run_entries,
+                                                [MODE_ECHO] = runner_echo_rig,
+                                                [MODE_WORDS] = wordlist_print};
+
 void run_bytes(enum run_mode mode, const void *bytes, size_t length, text *output)
 {
     FILE *in = tmpfile(), *out = tmpfile();
@@ -88,10 +94,7 @@ void run_bytes(enum run_mode mode, const void *bytes, size_t length, text *outpu
         fwrite(bytes, 1, length, in);
     fflush(in);
     lseek(fileno(in), 0, SEEK_SET);
-    int done = mode == MODE_RUN       ? runner_run(fileno(in), fileno(out))
-               : mode == MODE_ENTRIES ? runner_run_entries(fileno(in), fileno(out))
-                                      : runner_echo_rig(fileno(in), fileno(out));
-    CHECK_IS(done, 0);
+    CHECK_IS(modes[mode](fileno(in), fileno(out)), 0);
     take_all(out, output);
     fclose(in);
     fclose(out);

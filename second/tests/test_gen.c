@@ -4,6 +4,7 @@
 
 #include "check.h"
 #include "gen.h"
+#include "numbers.h"
 #include "tally.h"
 
 static void same_seed_same_input(void)
@@ -98,8 +99,53 @@ static void rounds_of_inputs(void)
     text_free(&got);
 }
 
+/* Each input for the stream is right in the runner too; every place of a room, and all else, is hit. */
+static void rounds_of_streams(void)
+{
+    static tally t;
+    text in = {NULL, 0, 0}, want = {NULL, 0, 0}, got = {NULL, 0, 0};
+    unsigned different = 0;
+    for (uint64_t i = 0; i < 120; i++) {
+        text_clear(&in);
+        text_clear(&want);
+        text_clear(&got);
+        gen_stream_input(7, i, &in);
+        tally_run(&t, &in, false, &want);
+        run_bytes(MODE_RUN, in.bytes, in.length, &got);
+        different += got.length != want.length || memcmp(got.bytes, want.bytes, got.length) != 0;
+    }
+    CHECK_IS(different, 0);
+    CHECK_IS(t.stream.places, USUAL_ROOM);
+    CHECK(t.stream.tails > 0 && t.stream.below > 0 && t.stream.above > 0);
+    CHECK(t.stream.unfinished > 0 && t.stream.far_faults > 0);
+    text_free(&in);
+    text_free(&want);
+    text_free(&got);
+}
+
+static bool is_number(const char *word)
+{
+    uint64_t number;
+    return number_of(word, 1, 2500, &number);
+}
+
+/* A number of a command line is the whole word, within its bounds. */
+static void numbers_are_strict(void)
+{
+    uint64_t number = 4711;
+    CHECK(number_of("2500", 1, 2500, &number) && number == 2500);
+    CHECK(number_of("18446744073709551615", 0, UINT64_MAX, &number) && number == UINT64_MAX);
+    CHECK(!number_of("18446744073709551616", 0, UINT64_MAX, &number) && number == UINT64_MAX);
+    CHECK(!number_of("184467440737095516150", 0, UINT64_MAX, &number));
+    CHECK(is_number("1") && !is_number("0") && !is_number("2501"));
+    CHECK(!is_number("") && !is_number("x") && !is_number("1x") && !is_number("2,5") && !is_number("01"));
+    CHECK(!is_number("-1") && !is_number("+1") && !is_number(" 1") && !is_number("1 ") && !is_number("0x1"));
+}
+
 void gen_tests(void)
 {
+    RUN(numbers_are_strict);
+    RUN(rounds_of_streams);
     RUN(same_seed_same_input);
     RUN(right_rigs_are_right);
     RUN(growth_rigs_have_their_size);

@@ -284,64 +284,74 @@ static void writer_keeps_to_its_buffer(void)
 }
 
 /* A rig in memory that breaks any rule, sizes and unused entries too, is refused by 4. */
+static rig bad; /* a right rig with one number changed */
+
+static const struct {
+    uint8_t *at;
+    uint8_t value;
+} damages[] = {
+    {&bad.tasks, 0},
+    {&bad.tasks, 65},
+    {&bad.flags, 0},
+    {&bad.flags, 200},
+    {&bad.master, 32},
+    {&bad.rows, 65},
+    {&bad.rows, 2},
+    {&bad.task[0].priority, 1},
+    {&bad.task[4].priority, 1},
+    {&bad.task[2].privileged, 2},
+    {&bad.task[2].activation, 200},
+    {&bad.task[2].controller, 255},
+    {&bad.a[0].task, 0},
+    {&bad.a[0].task, 255},
+    {&bad.a[0].position, 16},
+    {&bad.a[1].flag, 0},
+    {&bad.a[1].flag, 255},
+    {&bad.a[2].flag, 1},
+    {&bad.cycle[4].flags, 255},
+    {&bad.cycle[4].flag[0], 255},
+    {&bad.cycle[4].flag[0], 0},
+    {&bad.cycle[4].flag[1], 1},
+    {&bad.cycle[5].flag[14], 1},
+    {&bad.row[0].words, 0},
+    {&bad.row[0].period, 0},
+    {&bad.row[0].phase, 2},
+    {&bad.row[0].receiver, 1},
+    {&bad.row[63].sender, 1}};
+
+static void check_bad_is_refused(void)
+{
+    static exec e;
+    CHECK_IS(exec_start(&e, &bad).refusal, BAD_RIG);
+    CHECK(all_zero(&e, sizeof e));
+}
+
 static void broken_in_memory(void)
 {
-    static rig good, bad;
+    static rig good;
     static exec e;
     uint8_t buffer[8];
     size_t length;
     read_right_rig(MORNING, &good);
-    struct {
-        uint8_t *at;
-        uint8_t value;
-    } damage[] = {{&bad.tasks, 0},
-                  {&bad.tasks, 65},
-                  {&bad.flags, 0},
-                  {&bad.flags, 200},
-                  {&bad.master, 32},
-                  {&bad.rows, 65},
-                  {&bad.rows, 2},
-                  {&bad.task[0].priority, 1},
-                  {&bad.task[4].priority, 1},
-                  {&bad.task[2].privileged, 2},
-                  {&bad.task[2].activation, 200},
-                  {&bad.task[2].controller, 255},
-                  {&bad.a[0].task, 0},
-                  {&bad.a[0].task, 255},
-                  {&bad.a[0].position, 16},
-                  {&bad.a[1].flag, 0},
-                  {&bad.a[1].flag, 255},
-                  {&bad.a[2].flag, 1},
-                  {&bad.cycle[4].flags, 255},
-                  {&bad.cycle[4].flag[0], 255},
-                  {&bad.cycle[4].flag[0], 0},
-                  {&bad.cycle[4].flag[1], 1},
-                  {&bad.cycle[5].flag[14], 1},
-                  {&bad.row[0].words, 0},
-                  {&bad.row[0].period, 0},
-                  {&bad.row[0].phase, 2},
-                  {&bad.row[0].receiver, 1},
-                  {&bad.row[63].sender, 1}};
-    for (unsigned i = 0; i < sizeof damage / sizeof damage[0]; i++) {
+    for (unsigned i = 0; i < sizeof damages / sizeof damages[0]; i++) {
         bad = good;
-        *damage[i].at = damage[i].value;
+        *damages[i].at = damages[i].value;
         CHECK_IS(rig_write(&bad, buffer, sizeof buffer, &length), BAD_RIG);
-        CHECK_IS(exec_start(&e, &bad).refusal, BAD_RIG);
-        CHECK(all_zero(&e, sizeof e));
+        check_bad_is_refused();
     }
     bad = good;
     bad.a_lines = 1025;
-    CHECK_IS(exec_start(&e, &bad).refusal, BAD_RIG);
+    check_bad_is_refused();
     bad = good;
     bad.conditions[2].latched = 2;
-    CHECK_IS(exec_start(&e, &bad).refusal, BAD_RIG);
+    check_bad_is_refused();
     bad = good;
     bad.conditions[9].desired = 2;
-    CHECK_IS(exec_start(&e, &bad).refusal, BAD_RIG);
+    check_bad_is_refused();
     bad = good;
     bad.a[0] = good.a[1];
     bad.a[1] = good.a[0];
-    CHECK_IS(exec_start(&e, &bad).refusal, BAD_RIG);
+    check_bad_is_refused();
     CHECK_IS(exec_start(&e, &good).refusal, ACCEPTED);
 }
 

@@ -112,8 +112,34 @@ static void every_image_at_every_address(void)
     CHECK_IS(clean, 32);
 }
 
+static void check_answers(const char *questions, const char *answers)
+{
+    text in = {NULL, 0, 0}, want = {NULL, 0, 0}, got = {NULL, 0, 0};
+    tabbed(questions, &in);
+    tabbed(answers, &want);
+    text_add(&want, "", 1);
+    run_bytes(MODE_WORDS, in.bytes, in.length, &got);
+    check_text(&got, (const char *)want.bytes, questions, __FILE__, __LINE__);
+    text_free(&in);
+    text_free(&want);
+    text_free(&got);
+}
+
+/* What follows the fields that are asked is no answer of ours, and is passed over. */
+static void questions_on_words(void)
+{
+    check_answers("command 7 0 2 32\ncommand 7 0 2 33 0 5\n", "command 7 0 2 32 0 14400\ncommand 7 0 2 33 11\n");
+    check_answers("fields 14400 x\nbits 15360\nparity 14400 1\n", "fields 14400 7 0 2 32\nbits 15360 7 1 0 0\nparity 14400 1\n");
+    check_answers("status 7 1 0 0\nstatus 7 2 0 0\n", "status 7 1 0 0 0 15360 30721\nstatus 7 2 0 0 11\n");
+    check_answers("judge 28672 7\njudge 28673 7\njudge 30721 7\n",
+                  "judge 28672 7 0 clean\njudge 28673 7 0 error\njudge 30721 7 0 exception\n");
+    check_answers("judge 131072 7\njudge 28672 32\n", "judge 131072 7 11\njudge 28672 32 11\n");
+    check_answers("\nparity\nparity 65536\nparity 01\nsum 1\ncommand 7 0 2\nparity 1", "?\n?\n?\n?\n?\n?\n?\n");
+}
+
 void words_tests(void)
 {
+    RUN(questions_on_words);
     RUN(starred_words);
     RUN(slip_32_is_reduced);
     RUN(fields_outside_sizes);
