@@ -48,15 +48,15 @@ full =
     }
 
 -- schedule k, then k + 1, .. , n of them
-schedules : ℕ → ℕ → List Call
+unfoldable pub schedules : ℕ → ℕ → List Call
 schedules k zero = []
 schedules k (suc n) = schedule k ∷ schedules (suc k) n
 
 -- the first tick activates task 1, who schedules all others and finishes: all are inactive
-before : State
+unfoldable pub before : State
 before = run full (start full) (tick₀ ∷ schedules 2 63 ++ finish ∷ [])
 
 -- the second tick activates all 64, one after the other, and serves their flags and the 15 of its cycle
-reached : (step full before tick₀ .answer .report .served ≡ 79) × (step full before tick₀ .next .running ≡ 1)
+pub reached : (step full before tick₀ .answer .report .served ≡ 79) × (step full before tick₀ .next .running ≡ 1)
 unfolding full schedules before tick₀ iter all any total over put commandWord blank relax met drive names activate takes rouse wake ready offer offers serveFlag serving serve waitOn waitUntilCount leave wakeDue family cleared deserted offs best chosen dispatch written copied rowWords busWords scheduled finished terminated cancelled cycleQueue ticked effect decide noSuch inCycle isMinor isActivation lastCount wrongBlock refusals refusal wordsAt lent output accepted after step run started start
 reached = (refl, refl)

@@ -1,0 +1,14 @@
+pub mod Text
+pub mod Tables
+pub mod Linking
+pub mod Records
+pub mod Tested
+pub mod CodeRig
+pub mod RightRigs
+pub mod LargestRig
+pub mod MorningText
+pub mod Morning
+pub mod MorningRun
+pub mod MorningWait
+pub mod FullRig
+pub mod FullRun
