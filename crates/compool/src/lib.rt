@@ -1,13 +1,22 @@
 // Compool blocks in the lent area, and the bus words of a count in the lent buffer.
 use rig::Row;
+use word_parts::packed;
 ghost use mathlib.Core.Path.{_≡_};
 ghost use Prim.Native.Nat.{_+_, _-_, _*_, _<_, _≤_};
 ghost use lib.ListN.{length, take, drop};
 ghost use Rattle.laws.specs.Put.{put};
-ghost use Rattle.words.specs.Command.{commandWord};
-ghost use Rattle.rules.specs.Bus.{blockAt, copied, written, rowDue, rowWords, busWords};
+ghost use Rattle.rules.specs.Bus.{blockAt, copied, written, rowDue, receiveWord, transmitWord, rowWords, busWords};
 ghost use Rattle.compool.specs.View.{rowOf, rowsOf};
 ghost use Rattle.compool.specs.Post.{RowFits, RowsFit};
+
+// "The area has exactly 33 words a row": a tag word and up to 32 words of data
+const BLOCK_WORDS: usize = 33;
+// "the count modulo 65,536 as tag"
+const TAGS: u32 = 65536;
+// the transmit field of a command
+const RECEIVE: u32 = 0;
+
+const TRANSMIT: u32 = 1;
 
 // The words of `area` from `start` on fill `out`.
 pub fn copy_out(area: &[u16], start: usize, out: &mut [u16])
@@ -38,7 +47,7 @@ pub fn read_block(area: &[u16], k: usize, buffer: &mut [u16])
     requires { ⌜ (0 < k) × (k ≤ 64) × (blockAt k + 1 + length (now buffer) ≤ length (now area)) ⌝ }
     ensures { λ r. ⌜ now (buffer .exit) ≡ copied k (now (area .entry)) (now (buffer .entry)) ⌝ }
 {
-    copy_out(area, 33 * (k - 1) + 1, buffer);
+    copy_out(area, BLOCK_WORDS * (k - 1) + 1, buffer);
 }
 
 // Row k's block takes the words as its data, and the count as its tag.
@@ -46,16 +55,9 @@ pub fn write_block(count: u32, k: usize, words: &[u16], area: &mut [u16])
     requires { ⌜ (0 < k) × (k ≤ 64) × (blockAt k + 1 + length (now words) ≤ length (now area)) ⌝ }
     ensures { λ r. ⌜ now (area .exit) ≡ written count k (now (area .entry)) (now (words .entry)) ⌝ }
 {
-    let b = 33 * (k - 1);
-    area[b] = (count % 65536) as u16;
+    let b = BLOCK_WORDS * (k - 1);
+    area[b] = (count % TAGS) as u16;
     copy_in(words, b + 1, area);
-}
-
-pub fn command(address: u8, transmit: u8, sub: u8, words: u8) -> u16
-    requires { ⌜ (address ≤ 31) × (transmit ≤ 1) × (sub ≤ 31) ⌝ }
-    ensures { λ r. ⌜ r ≡ commandWord address transmit sub words ⌝ }
-{
-    2048 * (address as u16) + 1024 * (transmit as u16) + 32 * (sub as u16) + (words as u16) % 32
 }
 
 // Whether a row is due at the count.
@@ -66,13 +68,39 @@ pub fn due(row: Row, count: u32) -> bool
     count % (row.period as u32) == (row.phase as u32)
 }
 
+// A receive command to the receiver.
+pub fn receive_word(row: Row) -> u16
+    requires { ⌜ RowFits row ⌝ }
+    ensures { λ r. ⌜ r ≡ receiveWord (rowOf row) ⌝ }
+{
+    packed::command(
+        row.receiver as u32,
+        RECEIVE,
+        row.receiverSub as u32,
+        row.words as u32,
+    )
+}
+
+// A transmit command to the sender.
+pub fn transmit_word(row: Row) -> u16
+    requires { ⌜ RowFits row ⌝ }
+    ensures { λ r. ⌜ r ≡ transmitWord (rowOf row) ⌝ }
+{
+    packed::command(
+        row.sender as u32,
+        TRANSMIT,
+        row.senderSub as u32,
+        row.words as u32,
+    )
+}
+
 // The command words of a row go into the buffer at n; the number behind the last of them.
 pub fn put_row(row: Row, master: u8, n: usize, out: &mut [u16]) -> usize
     requires { ⌜ RowFits row × (n + 2 ≤ length (now out)) ⌝ }
     ensures { λ r. ⌜ (r ≡ n + length (rowWords master (rowOf row))) × (now (out .exit) ≡ put (now (out .entry)) n (rowWords master (rowOf row))) ⌝ }
 {
-    let receive = command(row.receiver, 0, row.receiverSub, row.words);
-    let transmit = command(row.sender, 1, row.senderSub, row.words);
+    let receive = receive_word(row);
+    let transmit = transmit_word(row);
     if row.sender == master {
         out[n] = receive;
         return n + 1;

@@ -14,7 +14,7 @@ use Rattle.laws.specs.All.{all}
 use Rattle.laws.specs.Any.{any}
 use Rattle.laws.specs.Tables.{total, over}
 use Rattle.laws.specs.Functions.{upd}
-use Rattle.rules.specs.Rig.{Rig, place}
+use Rattle.rules.specs.Rig.{Rig, placeOf}
 use Rattle.rules.specs.State.{State, withCount, withValues, withTables, withChains, withWakes, withRunning, timeChain, chainOf, blank}
 use Rattle.rules.specs.Conditions.{relax, met, drive, names}
 use Rattle.rules.specs.Serving.{activate, takes, rouse, wake, ready, offer, offers, serveFlag, serving, serve}
@@ -87,11 +87,11 @@ pub each-part-counts :
     × Unsound (withRunning (withTables calm (calm .conds) (set (calm .states) 4 3)) 4)
     -- a value is 0 or 1; entries beyond the rig's counts, and where there is no condition, are 0
     × Unsound (flagTo 4 2)
-    × Unsound (conditionTo (place 4 0) 2)
+    × Unsound (conditionTo (placeOf 4 0) 2)
     × Unsound (stateTo 5 1)
     × Unsound (flagTo 5 1)
     × Unsound (wakeTo 5 9)
-    × Unsound (conditionTo (place 4 1) 1)
+    × Unsound (conditionTo (placeOf 4 1) 1)
 unfolding four calm stateTo flagTo conditionTo wakeTo chainTo ofTask ofCondition numbers ofLine ofCycle rig iter all any total over blank relax met drive names activate takes rouse wake ready offer offers serveFlag serving serve waitUntilCount best chosen dispatch scheduled effect decide noSuch lastCount refusals refusal output accepted after step run started start
 each-part-counts = (
   (λ h. let z : 4 ≤ 3 = h .tasks .small 4 in omega arith),
@@ -110,9 +110,9 @@ each-part-counts = (
   (λ h. h .runs .top 1 (λ q. omega arith) refl .0 refl),
   (λ h. let z : 10 ≤ 5 = h .runs .top 1 (λ q. omega arith) refl .1 in omega arith),
   (λ h. let z : 2 ≤ 1 = h .flags .small 4 in omega arith),
-  (λ h. let z : 2 ≤ 1 = h .conds .small (place 4 0) in omega arith),
+  (λ h. let z : 2 ≤ 1 = h .conds .small (placeOf 4 0) in omega arith),
   (λ h. let z : (1 ≤ 5) × (5 ≤ 4) = h .tasks .within 5 (λ q. omega arith) in omega (arith, z .1)),
   (λ h. let z : (1 ≤ 5) × (5 ≤ 4) = h .flags .within 5 (λ q. omega arith) in omega (arith, z .1)),
   (λ h. let z : (1 ≤ 5) × (5 ≤ 4) = h .wakes .within 5 (λ q. omega arith) in omega (arith, z .1)),
-  (λ h. let z : _≡_ {A = ℕ} 0 1 = h .conds .within (place 4 1) (λ q. omega arith) in omega arith),
+  (λ h. let z : _≡_ {A = ℕ} 0 1 = h .conds .within (placeOf 4 1) (λ q. omega arith) in omega arith),
 )

@@ -6,23 +6,24 @@ use lib.Dec.{eqb}
 use lib.ListN.{length, take, drop}
 use Rattle.laws.specs.Iter.{iter}
 use Rattle.laws.specs.Put.{put}
-use Rattle.words.specs.Command.{commandWord}
+use Rattle.word_parts.specs.Packed.{commandWord}
+use Rattle.rules.specs.Sizes.{blockSize, tags}
 use Rattle.rules.specs.Rig.{Rig, Row}
 
 -- "Row k's block starts at word 33(k - 1) of the lent area: a tag word, then its data."
 abbrev pub blockAt : ℕ → ℕ
-blockAt k = 33 * (k - 1)
+blockAt k = blockSize * (k - 1)
 
 -- "The area has exactly 33 words a row; the caller's buffer has exactly the row's words."
 abbrev pub areaWords : Rig → ℕ
-areaWords r = 33 * r .rows
+areaWords r = blockSize * r .rows
 
 abbrev pub blockWords : Rig → ℕ → ℕ
 blockWords r k = r .row (k - 1) .words
 
 -- "Write stores the data and the count modulo 65,536 as tag and touches no other word"
 unfoldable pub written : ℕ → ℕ → List ℕ → List ℕ → List ℕ
-written count k area words = put area (blockAt k) (count % 65536 ∷ words)
+written count k area words = put area (blockAt k) (count % tags ∷ words)
 
 -- "read copies the data out": as many words as the buffer has
 unfoldable pub copied : ℕ → List ℕ → List ℕ → List ℕ

@@ -7,6 +7,7 @@ use lib.ListN.{length, set}
 use Rattle.laws.specs.Iter.{iter}
 use Rattle.laws.specs.Any.{any}
 use Rattle.laws.specs.Put.{put}
+use Rattle.rules.specs.Sizes.{mostTasks, minorCycles, flagsACycle, tickWords}
 use Rattle.rules.specs.Rig.{Rig}
 use Rattle.rules.specs.State.{State, Entry, Work, Done, stateOf, valueOf, withCount, withTables, withChains, withRunning, active, on, off, uninvoked, inactive, blank}
 use Rattle.rules.specs.Conditions.{relax, met}
@@ -68,13 +69,13 @@ abbrev pub queueOne : (ℕ → ℕ) → ℕ → List Entry → List Entry
 queueOne flags i q = push (flags i) on q
 
 unfoldable pub cycleQueue : (ℕ → ℕ) → List Entry
-cycleQueue flags = iter 15 (queueOne flags) []
+cycleQueue flags = iter flagsACycle (queueOne flags) []
 
 -- "In this order: the count rises by one; tasks due at it become dispatchable; the M list .. is queued"
 unfoldable pub ticked : Rig → State → Work
 ticked r s =
     let count = suc (s .count) in
-    record { now = wakeDue (withCount s count); queue = cycleQueue (r .minor (count % 64)) }
+    record { now = wakeDue (withCount s count); queue = cycleQueue (r .minor (count % minorCycles)) }
 
 -- a state with nothing queued
 abbrev pub quiet : State → Work
@@ -131,21 +132,21 @@ abbrev pub inCycleOne : (ℕ → ℕ) → ℕ → ℕ → Bool
 inCycleOne flags f i = eqb (flags i) f
 
 unfoldable pub inCycle : (ℕ → ℕ) → ℕ → Bool
-inCycle flags f = any 15 (inCycleOne flags f)
+inCycle flags f = any flagsACycle (inCycleOne flags f)
 
 abbrev pub minorOne : (ℕ → ℕ → ℕ) → ℕ → ℕ → Bool
 minorOne minor f c = inCycle (minor c) f
 
 -- 7: "wait on or reading of a minor-cycle flag"
 unfoldable pub isMinor : (ℕ → ℕ → ℕ) → ℕ → Bool
-isMinor minor f = any 64 (minorOne minor f)
+isMinor minor f = any minorCycles (minorOne minor f)
 
 -- the flag is a task's activation flag
 abbrev pub activationOne : (ℕ → ℕ) → ℕ → ℕ → Bool
 activationOne activation f i = eqb (activation (i + 1)) f
 
 unfoldable pub isActivation : (ℕ → ℕ) → ℕ → Bool
-isActivation activation f = any 64 (activationOne activation f)
+isActivation activation f = any mostTasks (activationOne activation f)
 
 -- 7: "signal of an activation or minor-cycle flag"
 abbrev pub notPlain : Rig → ℕ → Bool
@@ -179,7 +180,7 @@ refusals r s (cancel t) =
 refusals r s (terminate t) =
     row 5 (nobodyRuns s) ∷ row 6 (noSuch (r .tasks) t) ∷ row 7 (notController r s t) ∷ row 8 (notActive s t) ∷ []
 refusals r s finish = row 5 (nobodyRuns s) ∷ []
-refusals r s (tick buffer) = row 9 (leb lastCount (s .count)) ∷ row 10 (ltb (length buffer) 128) ∷ []
+refusals r s (tick buffer) = row 9 (leb lastCount (s .count)) ∷ row 10 (ltb (length buffer) tickWords) ∷ []
 refusals r s (waitUntil t) = row 5 (nobodyRuns s) ∷ row 9 (ltb lastCount t) ∷ []
 refusals r s (waitFor n) = row 5 (nobodyRuns s) ∷ row 9 (ltb lastCount (s .count + n)) ∷ []
 refusals r s (latched f v) = row 5 (nobodyRuns s) ∷ row 6 (noSuch (r .flags) f) ∷ row 7 (isMinor (r .minor) f) ∷ []

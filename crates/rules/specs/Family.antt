@@ -5,6 +5,7 @@ use Prim.Native.Nat.{ℕ, _+_}
 use lib.Dec.{eqb}
 use lib.ListN.{getD, set, replicate}
 use Rattle.laws.specs.Iter.{iter}
+use Rattle.rules.specs.Sizes.{mostTasks, taskPlaces}
 use Rattle.rules.specs.State.{Entry, active, off, uninvoked}
 use Rattle.rules.specs.Serving.{push}
 use Rattle.rules.specs.Waiting.{leave}
@@ -21,7 +22,7 @@ markOne controller t i marks =
     set marks (i + 1) (cond (eqb (i + 1) t || eqb (getD marks (controller (i + 1)) 0) 1) 1 0)
 
 unfoldable pub family : (ℕ → ℕ) → ℕ → List ℕ
-family controller t = iter 64 (markOne controller t) (replicate 65 0)
+family controller t = iter mostTasks (markOne controller t) (replicate taskPlaces 0)
 
 abbrev pub isMarked : List ℕ → ℕ → Bool
 isMarked marks t = eqb (getD marks t 0) 1
@@ -31,14 +32,14 @@ abbrev pub clearOne : List ℕ → ℕ → List ℕ → List ℕ
 clearOne marks i states = cond (isMarked marks (i + 1)) (set states (i + 1) uninvoked) states
 
 unfoldable pub cleared : List ℕ → List ℕ → List ℕ
-cleared marks states = iter 64 (clearOne marks) states
+cleared marks states = iter mostTasks (clearOne marks) states
 
 -- "and leave their chains"
 abbrev pub leaveOne : List ℕ → ℕ → (ℕ → List ℕ) → ℕ → List ℕ
 leaveOne marks i chains = cond (isMarked marks (i + 1)) (leave (i + 1) chains) chains
 
 unfoldable pub deserted : List ℕ → (ℕ → List ℕ) → ℕ → List ℕ
-deserted marks chains = iter 64 (leaveOne marks) chains
+deserted marks chains = iter mostTasks (leaveOne marks) chains
 
 -- "then activation flags of those that were active are queued off, by rising task number": by the states before
 abbrev pub offOne : (ℕ → ℕ) → List ℕ → List ℕ → ℕ → List Entry → List Entry
@@ -46,4 +47,4 @@ offOne activation marks states i q =
     cond (isMarked marks (i + 1) && eqb (active (getD states (i + 1) 0)) 1) (push (activation (i + 1)) off q) q
 
 unfoldable pub offs : (ℕ → ℕ) → List ℕ → List ℕ → List Entry
-offs activation marks states = iter 64 (offOne activation marks states) []
+offs activation marks states = iter mostTasks (offOne activation marks states) []

@@ -1,3 +1,4 @@
+pub mod Sizes
 pub mod Rig
 pub mod State
 pub mod Conditions

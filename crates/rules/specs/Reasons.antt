@@ -5,6 +5,7 @@ use mathlib.Core.Logic.{_≢_, _⊎_, _↔_}
 use mathlib.Core.List.{List}
 use Prim.Native.Nat.{ℕ, _+_, _≤_, _<_}
 use lib.ListN.{length}
+use Rattle.rules.specs.Sizes.{mostTasks, minorCycles, flagsACycle, tickWords}
 use Rattle.rules.specs.Rig.{Rig}
 use Rattle.rules.specs.State.{State, stateOf, active, uninvoked}
 use Rattle.rules.specs.Bus.{areaWords, blockWords}
@@ -29,11 +30,11 @@ NoSuch many n = (n ≡ 0) ⊎ (many < n)
 
 -- "Flags on M lines are minor-cycle flags": it stands at a place of a cycle
 abbrev pub MinorCycleFlag : Rig → ℕ → Type 0
-MinorCycleFlag r f = (c : ℕ) × (c < 64) × ((i : ℕ) × (i < 15) × (r .minor c i ≡ f))
+MinorCycleFlag r f = (c : ℕ) × (c < minorCycles) × ((i : ℕ) × (i < flagsACycle) × (r .minor c i ≡ f))
 
 -- it is a task's activation flag
 abbrev pub ActivationFlag : Rig → ℕ → Type 0
-ActivationFlag r f = (t : ℕ) × (1 ≤ t) × (t ≤ 64) × (r .activation t ≡ f)
+ActivationFlag r f = (t : ℕ) × (1 ≤ t) × (t ≤ mostTasks) × (r .activation t ≡ f)
 
 -- 7: "caller is not the named task's controller"; 8 is a matter of the call
 abbrev pub naming : Rig → State → ℕ → Type 0 → Reasons
@@ -75,7 +76,7 @@ reasons r s (terminate t) = naming r s t (active (stateOf s t) ≡ 0)
 reasons r s finish = record { five = NobodyRuns s; six = ⊥; seven = ⊥; eight = ⊥; nine = ⊥; ten = ⊥ }
 -- 9: "tick at that count"; 10: "Its lent buffer has at least 128 words"
 reasons r s (tick buffer) =
-    record { five = ⊥; six = ⊥; seven = ⊥; eight = ⊥; nine = lastCount ≤ s .count; ten = length buffer < 128 }
+    record { five = ⊥; six = ⊥; seven = ⊥; eight = ⊥; nine = lastCount ≤ s .count; ten = length buffer < tickWords }
 reasons r s (waitUntil t) = waking s t
 reasons r s (waitFor n) = waking s (s .count + n)
 reasons r s (latched f v) = flagging r s f (MinorCycleFlag r f)

@@ -1,6 +1,7 @@
 -- THE RIG as the rules see it: what a rig file says, by number.
 -- Tasks and flags are numbered from 1, and a place that the file does not fill reads as 0.
 use Prim.Native.Nat.{ℕ, _+_, _*_}
+use Rattle.rules.specs.Sizes.{positions}
 
 -- "B, sender, its sub-address, receiver, its sub-address, words, period, phase"
 pub record Row : Type 0 where
@@ -38,5 +39,5 @@ pub record Rig : Type 0 where
   pub row : ℕ → Row
 
 -- "up to 16 conditions a task at positions 0 to 15": the place of a condition in a table of all of them
-abbrev pub place : ℕ → ℕ → ℕ
-place task position = 16 * task + position
+abbrev pub placeOf : ℕ → ℕ → ℕ
+placeOf task position = positions * task + position

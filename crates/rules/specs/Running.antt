@@ -5,12 +5,13 @@ use Prim.Native.Nat.{ℕ, _+_, _*_}
 use lib.Dec.{leb, ltb, eqb}
 use lib.ListN.{getD}
 use Rattle.laws.specs.Iter.{iter}
+use Rattle.rules.specs.Sizes.{priorities, mostTasks}
 use Rattle.rules.specs.Rig.{Rig}
 use Rattle.rules.specs.State.{State, withRunning, dispatchable}
 
--- "Privileged tasks rank above all others, by priority among themselves." A priority is below 256.
+-- "Privileged tasks rank above all others, by priority among themselves." A priority is below `priorities`.
 abbrev pub rank : (ℕ → ℕ) → (ℕ → ℕ) → ℕ → ℕ
-rank privileged priority t = 256 * privileged t + priority t
+rank privileged priority t = priorities * privileged t + priority t
 
 -- "else the highest rank, lowest number first; else none": the best of tasks 1 to i is b, 0 for none; then task i + 1
 abbrev pub bestOne : (ℕ → ℕ) → (ℕ → ℕ) → List ℕ → ℕ → ℕ → ℕ
@@ -26,7 +27,7 @@ best privileged priority states k = iter k (bestOne privileged priority states) 
 -- to wait in the call is no longer the running task n here, so one that is dispatchable here has stayed so
 unfoldable pub chosen : (ℕ → ℕ) → (ℕ → ℕ) → List ℕ → ℕ → ℕ
 chosen privileged priority states n =
-    let b = best privileged priority states 64 in
+    let b = best privileged priority states mostTasks in
     cond (not (eqb n 0) && (eqb (getD states n 0) dispatchable && leb (rank privileged priority b) (rank privileged priority n))) n b
 
 unfoldable pub dispatch : Rig → State → State

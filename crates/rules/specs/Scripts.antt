@@ -4,7 +4,7 @@ use mathlib.Core.List.{List, [], _∷_, _++_}
 use Prim.Native.Nat.{ℕ}
 use lib.Dec.{eqb}
 use lib.ListN.{length, getD, replicate, take}
-use Rattle.rules.specs.Rig.{Rig, Row, place}
+use Rattle.rules.specs.Rig.{Rig, Row, placeOf}
 use Rattle.rules.specs.State.{State, withCount, chainOf, timeChain, stateOf, valueOf}
 use Rattle.rules.specs.Calls.{Call, schedule, finish, tick, waitFor, Step, step, start}
 
@@ -44,7 +44,7 @@ ofTask n (T task c p v a ∷ ls) t = cond (eqb task t) (getD (task ∷ c ∷ p �
 -- of the condition at a place: is there a line (0), latched (1), desired (2)
 unfoldable pub ofCondition : ℕ → List ConditionLine → ℕ → ℕ
 ofCondition n [] at = 0
-ofCondition n (C task p l d ∷ ls) at = cond (eqb (place task p) at) (getD (1 ∷ l ∷ d ∷ []) n 0) (ofCondition n ls at)
+ofCondition n (C task p l d ∷ ls) at = cond (eqb (placeOf task p) at) (getD (1 ∷ l ∷ d ∷ []) n 0) (ofCondition n ls at)
 
 unfoldable pub numbers : FlagLine → List ℕ
 numbers (A task p f) = task ∷ p ∷ f ∷ []
@@ -124,7 +124,7 @@ unfoldable pub stateIs : ℕ → Step → List ℕ
 stateIs t p = stateOf (p .next) t ∷ []
 
 unfoldable pub conditionIs : ℕ → ℕ → Step → List ℕ
-conditionIs t n p = getD (p .next .conds) (place t n) 0 ∷ []
+conditionIs t n p = getD (p .next .conds) (placeOf t n) 0 ∷ []
 
 unfoldable pub valueIs : ℕ → Step → List ℕ
 valueIs f p = valueOf (p .next) f ∷ []

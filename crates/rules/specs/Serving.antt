@@ -7,6 +7,7 @@ use lib.ListN.{length, set}
 use Rattle.laws.specs.Iter.{iter}
 use Rattle.laws.specs.Tables.{over}
 use Rattle.laws.specs.Functions.{upd}
+use Rattle.rules.specs.Sizes.{mostTasks}
 use Rattle.rules.specs.Rig.{Rig}
 use Rattle.rules.specs.State.{State, Entry, Work, Done, stateOf, withValues, withTables, withChains, chainOf, inactive, dispatchable, on}
 use Rattle.rules.specs.Conditions.{relax, met, drive, names}
@@ -59,7 +60,7 @@ offers r f k w = iter k (offerNext r f) w
 -- one flag is served, with q queued behind it
 unfoldable pub serveFlag : Rig → Entry → State → List Entry → Work
 serveFlag r e s q =
-    offers r (e .flag) 64 (record { now = wake (chainOf (e .flag) (e .value)) (takes r e s); queue = q })
+    offers r (e .flag) mostTasks (record { now = wake (chainOf (e .flag) (e .value)) (takes r e s); queue = q })
 
 abbrev pub another : Done → Done
 another d = record { now = d .now; served = suc (d .served) }

@@ -11,8 +11,9 @@ use Prim.Native.Nat.{ℕ, _≤_, _<_}
 use lib.ListN.{length, getD}
 use Rattle.laws.specs.Members.{In, Distinct}
 use Rattle.laws.specs.Order.{Sorted}
+use Rattle.rules.specs.Sizes.{taskPlaces, flagPlaces, conditionPlaces}
 use Rattle.rules.specs.Rig.{Rig}
-use Rattle.rules.specs.State.{State, stateOf, valueOf, active, uninvoked, waiting, dispatchable, timeChain}
+use Rattle.rules.specs.State.{State, stateOf, valueOf, active, uninvoked, waiting, dispatchable, on, timeChain, lastChain}
 use Rattle.rules.specs.Running.{rank}
 use Rattle.rules.specs.Calls.{lastCount}
 
@@ -27,9 +28,9 @@ abbrev pub Tree : (ℕ → ℕ) → List ℕ → Type 0
 Tree controller l = (t : ℕ) → t ≢ 1 → getD l t 0 ≢ uninvoked → getD l (controller t) 0 ≢ uninvoked
 
 pub record Tasks (r : Rig) (l : List ℕ) : Type 0 where
-  pub sized : length l ≡ 65
+  pub sized : length l ≡ taskPlaces
   -- "states are 0 to 3"
-  pub small : (t : ℕ) → getD l t 0 ≤ 3
+  pub small : (t : ℕ) → getD l t 0 ≤ dispatchable
   -- entries beyond the rig's counts are 0
   pub within : Within (r .tasks) l
   pub tree : Tree (r .controller) l
@@ -37,19 +38,19 @@ pub record Tasks (r : Rig) (l : List ℕ) : Type 0 where
 -- ---- the tables of flag values, of condition values, of waking counts
 
 pub record Flags (r : Rig) (l : List ℕ) : Type 0 where
-  pub sized : length l ≡ 129
+  pub sized : length l ≡ flagPlaces
   -- a value is 0 or 1
-  pub small : (f : ℕ) → getD l f 0 ≤ 1
+  pub small : (f : ℕ) → getD l f 0 ≤ on
   pub within : Within (r .flags) l
 
 pub record Conds (r : Rig) (l : List ℕ) : Type 0 where
-  pub sized : length l ≡ 1040
-  pub small : (i : ℕ) → getD l i 0 ≤ 1
+  pub sized : length l ≡ conditionPlaces
+  pub small : (i : ℕ) → getD l i 0 ≤ on
   -- a condition with no C line is 0
   pub within : (i : ℕ) → getD l i 0 ≢ 0 → r .present i ≡ 1
 
-pub record Wakes (r : Rig) (l : List ℕ) : Type 0 where
-  pub sized : length l ≡ 65
+pub record WakingCounts (r : Rig) (l : List ℕ) : Type 0 where
+  pub sized : length l ≡ taskPlaces
   pub within : Within (r .tasks) l
 
 -- ---- the chains: "waiting tasks and links agree as demand 3 says", each chain lists exactly who waits there, once
@@ -71,9 +72,9 @@ Apart chains = (t c d : ℕ) → In t (chains c) → In t (chains d) → c ≡ d
 abbrev pub Once : (ℕ → List ℕ) → Type 0
 Once chains = (c : ℕ) → Distinct (chains c)
 
--- nobody is anywhere but in the time chain (65) and the chains of flags 1 to 128 (66 to 321)
+-- nobody is anywhere but in the time chain and the chains of flags 1 to 128, whose numbers follow it
 abbrev pub Only : (ℕ → List ℕ) → Type 0
-Only chains = (t c : ℕ) → In t (chains c) → (65 ≤ c) × (c ≤ 321)
+Only chains = (t c : ℕ) → In t (chains c) → (timeChain ≤ c) × (c ≤ lastChain)
 
 pub record Chains (count : ℕ) (wakes : List ℕ) (chains : ℕ → List ℕ) (l : List ℕ) : Type 0 where
   pub listed : Listed chains l
@@ -99,7 +100,7 @@ pub record Sound (r : Rig) (s : State) : Type 0 where
   pub tasks : Tasks r (s .states)
   pub flags : Flags r (s .flags)
   pub conds : Conds r (s .conds)
-  pub wakes : Wakes r (s .wakes)
+  pub wakes : WakingCounts r (s .wakes)
   pub chains : Chains (s .count) (s .wakes) (s .chains) (s .states)
   -- "activation flags agree with task states"
   pub agree : (t : ℕ) → r .activation t ≢ 0 → valueOf s (r .activation t) ≡ active (stateOf s t)

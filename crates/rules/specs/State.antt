@@ -4,6 +4,7 @@
 use mathlib.Core.List.{List, []}
 use Prim.Native.Nat.{ℕ, zero, suc, _+_, _*_}
 use lib.ListN.{getD, replicate}
+use Rattle.rules.specs.Sizes.{mostTasks, mostFlags, taskPlaces, flagPlaces, conditionPlaces}
 
 -- "States: 0 uninvoked, 1 inactive, 2 waiting, 3 dispatchable."
 abbrev pub uninvoked : ℕ
@@ -31,12 +32,17 @@ off = 0
 abbrev pub on : ℕ
 on = 1
 
--- "Time chain order: .. Each flag has a chain for on and one for off": the chains have numbers.
+-- "Time chain order: .. Each flag has a chain for on and one for off": the chains have numbers behind those of the tasks,
+-- so that a number in a link is either a task or a chain's end.
 abbrev pub timeChain : ℕ
 timeChain = 65
 
 abbrev pub chainOf : ℕ → ℕ → ℕ
-chainOf flag value = 64 + 2 * flag + value
+chainOf flag value = mostTasks + 2 * flag + value
+
+-- of the last flag, on
+abbrev pub lastChain : ℕ
+lastChain = chainOf mostFlags on
 
 -- count: minor cycles since the start
 -- flags: the value of each flag; conds: the value of each condition, by its place
@@ -107,10 +113,10 @@ unfoldable pub blank : State
 blank =
     record {
       count = 0;
-      flags = replicate 129 0;
-      conds = replicate 1040 0;
-      states = replicate 65 0;
-      wakes = replicate 65 0;
+      flags = replicate flagPlaces 0;
+      conds = replicate conditionPlaces 0;
+      states = replicate taskPlaces 0;
+      wakes = replicate taskPlaces 0;
       chains = λ (c : ℕ). [];
       running = 0;
     }

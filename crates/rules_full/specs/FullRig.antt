@@ -8,7 +8,7 @@ use native.Mathlib.Nat.{mul-add-mod-self-left}
 use borrow.Author.Tests.{ltb-true, leb-true, lt-ltb, le-leb, eq-eqb}
 use lib.Dec.{eqb, leb, ltb}
 use Rattle.laws.specs.Cases.{by, and-true}
-use Rattle.rules.specs.Rig.{place}
+use Rattle.rules.specs.Rig.{placeOf}
 use Rattle.rules.specs.RigOk.{RigOk}
 use Rattle.rules_full.specs.Full.{full}
 
@@ -48,7 +48,7 @@ conditions i =
     (ltb-true 15 i (a .0), ltb-true i 1040 (a .1)))
     (λ e. rw e (λ h. absurd (omega arith)))
 
-line-there : (k : ℕ) → k < 64 → full .present (place (full .lineTask k) (full .linePos k)) ≡ 1
+line-there : (k : ℕ) → k < 64 → full .present (placeOf (full .lineTask k) (full .linePos k)) ≡ 1
 unfolding full
 line-there k l =
     rw (

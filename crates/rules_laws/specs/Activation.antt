@@ -16,7 +16,7 @@ use Rattle.laws.specs.Cases.{by, dec-eq, and-true}
 use Rattle.laws.specs.Tables.{same-under, keeps-under}
 use Rattle.laws.specs.Members.{keep, in-keep}
 use Rattle.laws.specs.Stores.{stores-keep}
-use Rattle.rules.specs.Rig.{Rig, place}
+use Rattle.rules.specs.Rig.{Rig, placeOf}
 use Rattle.rules.specs.RigOk.{RigOk}
 use Rattle.rules.specs.State.{State, Work, Entry, stateOf, valueOf, active, inactive, dispatchable, chainOf, timeChain, withCount, withTables}
 use Rattle.rules.specs.Conditions.{relax, met, names}
@@ -42,7 +42,7 @@ use Rattle.rules_laws.specs.WhileServing.{Reached, begin, onward}
 
 -- "all conditions as desired", by the values conds
 abbrev pub AsDesired : Rig → ℕ → List ℕ → Type 0
-AsDesired r t conds = (p : ℕ) → p < 16 → r .present (place t p) ≡ 1 → getD conds (place t p) 0 ≡ r .desired (place t p)
+AsDesired r t conds = (p : ℕ) → p < 16 → r .present (placeOf t p) ≡ 1 → getD conds (placeOf t p) 0 ≡ r .desired (placeOf t p)
 
 -- task t has "that flag in a condition": an A line says so
 abbrev pub HasFlag : Rig → ℕ → ℕ → Type 0

@@ -8,7 +8,7 @@ use borrow.Author.Tests.{eqb-true, eqb-false}
 use lib.Dec.{eqb}
 use lib.ListN.{getD}
 use Rattle.laws.specs.Cases.{by}
-use Rattle.rules.specs.Rig.{place}
+use Rattle.rules.specs.Rig.{placeOf}
 use Rattle.rules.specs.RigOk.{RigOk}
 use Rattle.rules.specs.Calls.{Call, run, start}
 use Rattle.rules.specs.Proper.{ProperRun}
@@ -63,7 +63,7 @@ two-conditions i =
     (λ e h. let q : 32 ≡ i = eqb-true 32 i e in (omega arith, omega arith))
     (λ e. rw e (by (eqb 48 i) (λ f h. let q : 48 ≡ i = eqb-true 48 i f in (omega arith, omega arith)) (λ f. rw f (λ h. absurd (omega arith)))))
 
-line-there : (k : ℕ) → k < 2 → bench .present (place (bench .lineTask k) (bench .linePos k)) ≡ 1
+line-there : (k : ℕ) → k < 2 → bench .present (placeOf (bench .lineTask k) (bench .linePos k)) ≡ 1
 unfolding bench rig ofCondition ofLine numbers
 line-there zero h = refl
 line-there (suc zero) h = refl

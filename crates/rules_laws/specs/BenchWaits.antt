@@ -8,7 +8,7 @@ use Rattle.laws.specs.All.{all}
 use Rattle.laws.specs.Any.{any}
 use Rattle.laws.specs.Tables.{total, over}
 use Rattle.laws.specs.Put.{put}
-use Rattle.words.specs.Command.{commandWord}
+use Rattle.word_parts.specs.Packed.{commandWord}
 use Rattle.rules.specs.State.{blank}
 use Rattle.rules.specs.Conditions.{relax, met, drive, names}
 use Rattle.rules.specs.Serving.{activate, takes, rouse, wake, ready, offer, offers, serveFlag, serving, serve}
@@ -20,7 +20,7 @@ use Rattle.rules.specs.Calls.{Call, schedule, finish, waitFor}
 use Rattle.rules.specs.Calls.{scheduled, finished, terminated, cancelled, cycleQueue, ticked, effect, decide, noSuch, inCycle, isMinor, isActivation, lastCount, wrongBlock, refusals, refusal, wordsAt, lent, output, accepted, after, step, run, started, start}
 use Rattle.rules.specs.Scripts.{ofTask, ofCondition, numbers, ofLine, ofCycle, rig, tick₀, bench}
 use Rattle.rules.specs.History.{begins, noted, notedIf, history, never, historyOf}
-use Rattle.rules.specs.Waking.{Wakes, Spared}
+use Rattle.rules_laws.specs.Waking.{WakesByRules, Spared}
 use Rattle.rules_laws.specs.WakingLaws.{waking-for}
 use Rattle.rules_laws.specs.BenchRig.{bench-ok}
 
@@ -34,7 +34,7 @@ unfolding before begins noted notedIf history never historyOf bench ofTask ofCon
 morning-history = refl
 
 -- task 3 waits at count 5, and is dispatchable after the tick that makes 6
-morning-wakes : Wakes bench 3 6 (step bench (run bench (start bench) before) (waitFor 2) .next) (tick₀ ∷ [])
+morning-wakes : WakesByRules bench 3 6 (step bench (run bench (start bench) before) (waitFor 2) .next) (tick₀ ∷ [])
 unfolding before Spared bench ofTask ofCondition numbers ofLine ofCycle rig tick₀ iter all any total over put commandWord blank relax met drive names activate takes rouse wake ready offer offers serveFlag serving serve waitOn waitUntilCount leave wakeDue family cleared deserted offs best chosen dispatch written copied rowWords busWords scheduled finished terminated cancelled cycleQueue ticked effect decide noSuch inCycle isMinor isActivation lastCount wrongBlock refusals refusal wordsAt lent output accepted after step run started start
 morning-wakes =
     waking-for bench bench-ok before (tick₀ ∷ []) 2 (tt, (tt, (tt, (tt, (tt, (tt, (tt, tt))))))) (tt, tt) refl (omega arith) ((λ z. z), tt)

@@ -18,7 +18,7 @@ use Rattle.rules.specs.Conditions.{relax, met}
 use Rattle.rules.specs.Serving.{push, activate}
 use Rattle.rules.specs.Waiting.{waitOn, waitUntilCount, isDue, wakeDue}
 use Rattle.rules.specs.Calls.{scheduled, finished, terminated, queueOne, cycleQueue, ticked, quiet}
-use Rattle.rules.specs.Soundness.{Wakes, Chains}
+use Rattle.rules.specs.Soundness.{WakingCounts, Chains}
 use Rattle.rules_laws.specs.Queued.{Fine, fine-push, look, look-other, look-absent, absent, Agree, rest-absent, rest-one}
 use Rattle.rules_laws.specs.Agreement.{restate, same-active}
 use Rattle.rules_laws.specs.Rousing.{rouse-same}
@@ -116,7 +116,7 @@ module _ (r : Rig) (ok : RigOk r) (s : State) (g : Good r s []) where
 
   -- ---- the waits: the running task goes over to waiting
 
-  wait-ready : stateOf s (s .running) ≡ 3 → (chains : ℕ → List ℕ) (wakes : List ℕ) → Wakes r wakes
+  wait-ready : stateOf s (s .running) ≡ 3 → (chains : ℕ → List ℕ) (wakes : List ℕ) → WakingCounts r wakes
       → Chains (s .count) wakes chains (set (s .states) (s .running) 2)
       → Ready r (quiet (record { count = s .count; flags = s .flags; conds = s .conds; states = set (s .states) (s .running) 2; wakes = wakes; chains = chains; running = 0 }))
   wait-ready h chains wakes w c =

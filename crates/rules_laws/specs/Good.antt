@@ -15,7 +15,7 @@ use Rattle.rules.specs.Rig.{Rig}
 use Rattle.rules.specs.RigOk.{RigOk}
 use Rattle.rules.specs.State.{State, Work, Entry, stateOf, active, chainOf}
 use Rattle.rules.specs.Serving.{inactives, activate, ready, offer, offerNext, offers, wake, takes, serveFlag, serving, serve}
-use Rattle.rules.specs.Soundness.{Tasks, Flags, Conds, Wakes, Chains, Sound}
+use Rattle.rules.specs.Soundness.{Tasks, Flags, Conds, WakingCounts, Chains, Sound}
 use Rattle.rules_laws.specs.Queued.{Fine, fine-push, look, Agree, Clear, rest, rest-absent}
 use Rattle.rules_laws.specs.Agreement.{restate, popped, clear-activate}
 use Rattle.rules_laws.specs.Rousing.{rouse-one, rouse-same}
@@ -70,7 +70,7 @@ pub record Good (r : Rig) (s : State) (q : List Entry) : Type 0 where
   pub tasks : Tasks r (s .states)
   pub flags : Flags r (s .flags)
   pub conds : Conds r (s .conds)
-  pub wakes : Wakes r (s .wakes)
+  pub wakes : WakingCounts r (s .wakes)
   pub chains : Chains (s .count) (s .wakes) (s .chains) (s .states)
   pub agree : Agree r (s .flags) (s .states) q
   pub fine : Fine r q

@@ -114,28 +114,28 @@ module _ (flag : ℕ → ℕ) (value : ℕ) (test : ℕ → Bool) (at : ℕ → 
 
 -- CANCEL: "then activation flags of those that were active are queued off, by rising task number": of the named task t and its
 -- descendants those that were active, by the states before
-pub record Struck (r : Rig) (s : State) (t u : ℕ) : Type 0 where
+pub record StruckActive (r : Rig) (s : State) (t u : ℕ) : Type 0 where
   pub known : (1 ≤ u) × (u ≤ 64)
   pub family : Under (r .controller) t u
   pub was : active (stateOf s u) ≡ 1
 
 pub offs-queued : (r : Rig) → RigOk r → (s : State) (t : ℕ) → 1 ≤ t → t ≤ 64
-    → QueuedByNumber (r .activation) off (Struck r s t) (offs (r .activation) (family (r .controller) t) (s .states))
+    → QueuedByNumber (r .activation) off (StruckActive r s t) (offs (r .activation) (family (r .controller) t) (s .states))
 unfolding offs
 offs-queued r ok s t a b =
-    queued-same (r .activation) off _ (Struck r s t) _ (λ u. (there u, back u))
+    queued-same (r .activation) off _ (StruckActive r s t) _ (λ u. (there u, back u))
     (loop-queues (r .activation) off test (λ i. i + 1) (λ i j l. omega arith) 64)
   where
     test : ℕ → Bool
     test u = isMarked (family (r .controller) t) u && eqb (active (stateOf s u)) 1
 
-    there : (u : ℕ) → Passed (r .activation) off test (λ i. i + 1) (λ i j l. omega arith) 64 u → Struck r s t u
+    there : (u : ℕ) → Passed (r .activation) off test (λ i. i + 1) (λ i j l. omega arith) 64 u → StruckActive r s t u
     there u p =
         let e = and-true (isMarked (family (r .controller) t) u) (eqb (active (stateOf s u)) 1) (p .2 .1) in
         let k : (1 ≤ u) × (u ≤ 64) = (omega (arith, p .2 .0), omega (arith, p .1, p .2 .0)) in
         record { known = k; family = family-is r ok t a b u (k .0) (k .1) .0 (eqb-true _ 1 (e .0)); was = eqb-true _ 1 (e .1) }
 
-    back : (u : ℕ) → Struck r s t u → Passed (r .activation) off test (λ i. i + 1) (λ i j l. omega arith) 64 u
+    back : (u : ℕ) → StruckActive r s t u → Passed (r .activation) off test (λ i. i + 1) (λ i j l. omega arith) 64 u
     back u h = go u refl
       where
         go : (v : ℕ) → u ≡ v → Passed (r .activation) off test (λ i. i + 1) (λ i j l. omega arith) 64 u

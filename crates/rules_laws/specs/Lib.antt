@@ -14,6 +14,7 @@ pub mod Leaving
 pub mod Cancelling
 pub mod Steps
 pub mod InOrder
+pub mod Waking
 pub mod WakingLaws
 pub mod BenchRig
 pub mod BenchWaits

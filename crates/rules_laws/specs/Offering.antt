@@ -17,7 +17,7 @@ use Rattle.laws.specs.Cases.{by, dec-eq, and-true}
 use Rattle.laws.specs.Iter.{iter, iter-ind, iter-zero}
 use Rattle.laws.specs.All.{all-same}
 use Rattle.laws.specs.Tables.{in-range}
-use Rattle.rules.specs.Rig.{Rig, place}
+use Rattle.rules.specs.Rig.{Rig, placeOf}
 use Rattle.rules.specs.State.{Work, Entry, stateOf}
 use Rattle.rules.specs.Conditions.{relax, metOne, met}
 use Rattle.rules.specs.Serving.{push, activate, ready, offer, offerNext, offers}
@@ -29,8 +29,8 @@ pub met-other : (present latched desired : ℕ → ℕ) (t u : ℕ) (conds : Lis
 unfolding met
 met-other present latched desired t u conds n =
     all-same 16 (metOne present desired t (relax present latched desired u conds)) (metOne present desired t conds)
-    (λ p l. ap (λ (v : ℕ). not (eqb (present (place t p)) 1) || eqb v (desired (place t p)))
-    (relaxed-not present latched desired u conds (place t p) (λ q m a b e. n (same-task t u p q l m e))))
+    (λ p l. ap (λ (v : ℕ). not (eqb (present (placeOf t p)) 1) || eqb v (desired (placeOf t p)))
+    (relaxed-not present latched desired u conds (placeOf t p) (λ q m a b e. n (same-task t u p q l m e))))
   where
     same-task : (t u p q : ℕ) → p < 16 → q < 16 → 16 * t + p ≡ 16 * u + q → t ≡ u
     same-task t u p q a b e = omega arith

@@ -68,15 +68,6 @@ decide-smallest xs h n z = (
         let l = decide-least 0 n xs h (p .0) in
         absurd (p .1 (decide xs) (omega (arith, l .1)) (decide-given xs (λ q. omega (arith, l .0))))
 
--- nothing is decided exactly when nothing is to be given
-pub decide-none : (xs : List Refusal) → Rising 0 xs → (decide xs ≡ 0) ↔ ((m : ℕ) → Given m xs → ⊥)
-decide-none xs h =
-    ((λ e m g. omega (arith, e, decide-least 0 m xs h g .0)), (λ f. go f (dec-eq (decide xs) 0)))
-  where
-    go : ((m : ℕ) → Given m xs → ⊥) → Dec (decide xs ≡ 0) → decide xs ≡ 0
-    go f (yes e) = e
-    go f (no e) = absurd (f (decide xs) (decide-given xs e))
-
 -- a row that is given decides; one that is not leaves it to those behind it
 pub decide-here : (n : ℕ) (b : Bool) (xs : List Refusal) → b ≡ true → decide (row n b ∷ xs) ≡ n
 unfolding decide

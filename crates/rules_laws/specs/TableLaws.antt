@@ -14,11 +14,11 @@ use Rattle.laws.specs.Cases.{dec-eq, and-true}
 use Rattle.laws.specs.Tables.{set-le, set-within, keeps-some, was-some}
 use Rattle.laws.specs.Members.{In}
 use Rattle.laws.specs.Stores.{stores-keep}
-use Rattle.rules.specs.Rig.{Rig, place}
+use Rattle.rules.specs.Rig.{Rig, placeOf}
 use Rattle.rules.specs.RigOk.{RigOk}
 use Rattle.rules.specs.Conditions.{relax, drive}
 use Rattle.rules.specs.Serving.{rouse}
-use Rattle.rules.specs.Soundness.{Tasks, Flags, Conds, Wakes}
+use Rattle.rules.specs.Soundness.{Tasks, Flags, Conds, WakingCounts}
 
 module _ (r : Rig) where
   -- ---- task states
@@ -65,7 +65,7 @@ module _ (r : Rig) where
         within = set-within (λ u. (1 ≤ u) × (u ≤ r .flags)) l f v (λ q. (a, b)) (h .within);
       }
 
-  pub wakes-set : (l : List ℕ) (t k : ℕ) → 1 ≤ t → t ≤ r .tasks → Wakes r l → Wakes r (set l t k)
+  pub wakes-set : (l : List ℕ) (t k : ℕ) → 1 ≤ t → t ≤ r .tasks → WakingCounts r l → WakingCounts r (set l t k)
   wakes-set l t k a b h =
       record {
         sized = length-set l t k ∙ h .sized;
@@ -85,11 +85,11 @@ module _ (r : Rig) where
   pub conds-relax : (t : ℕ) (l : List ℕ) → Conds r l → Conds r (relax (r .present) (r .latched) (r .desired) t l)
   unfolding relax
   conds-relax t l h =
-      stores-keep (λ p. eqb (r .present (place t p)) 1 && eqb (r .latched (place t p)) 0) (λ p. place t p) (λ p. 1 - r .desired (place t p)) (Conds r) 16
-      (λ p m a e g. conds-set m (place t p) (1 - r .desired (place t p)) (eqb-true _ 1 (and-true (eqb (r .present (place t p)) 1) _ e .0)) (omega arith) g) l h
+      stores-keep (λ p. eqb (r .present (placeOf t p)) 1 && eqb (r .latched (placeOf t p)) 0) (λ p. placeOf t p) (λ p. 1 - r .desired (placeOf t p)) (Conds r) 16
+      (λ p m a e g. conds-set m (placeOf t p) (1 - r .desired (placeOf t p)) (eqb-true _ 1 (and-true (eqb (r .present (placeOf t p)) 1) _ e .0)) (omega arith) g) l h
 
   pub conds-drive : RigOk r → (f v : ℕ) → v ≤ 1 → (l : List ℕ) → Conds r l → Conds r (drive (r .lines) (r .lineTask) (r .linePos) (r .lineFlag) f v l)
   unfolding drive
   conds-drive ok f v c l h =
-      stores-keep (λ k. eqb (r .lineFlag k) f) (λ k. place (r .lineTask k) (r .linePos k)) (λ k. v) (Conds r) (r .lines)
-      (λ k m a e g. conds-set m (place (r .lineTask k) (r .linePos k)) v (ok .line-present k a) c g) l h
+      stores-keep (λ k. eqb (r .lineFlag k) f) (λ k. placeOf (r .lineTask k) (r .linePos k)) (λ k. v) (Conds r) (r .lines)
+      (λ k m a e g. conds-set m (placeOf (r .lineTask k) (r .linePos k)) v (ok .line-present k a) c g) l h

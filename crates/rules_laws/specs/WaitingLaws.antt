@@ -21,14 +21,6 @@ use Rattle.rules.specs.Family.{isMarked, clearOne, leaveOne, cleared, deserted}
 use Rattle.rules.specs.Soundness.{Somewhere, Listed, Apart, Only, Chains}
 use Rattle.rules_laws.specs.Rousing.{rouse-in, rouse-out}
 
--- a number that is no chain's has an empty list
-pub only-empty : (X : ℕ → List ℕ) → Only X → (c : ℕ) → ((65 ≤ c) × (c ≤ 321) → ⊥) → X c ≡ []
-only-empty X h c n = go (X c) refl
-  where
-    go : (ys : List ℕ) → X c ≡ ys → ys ≡ []
-    go [] e = refl
-    go (y ∷ ys) e = absurd (n (h y c (subst (λ (zs : List ℕ). In y zs) (sym e) (inl refl))))
-
 -- ---- some of a chain, ts, are woken; the others, ys, are left
 
 module _ (X : ℕ → List ℕ) (c : ℕ) (ts ys : List ℕ) (woken : (t : ℕ) → In t ts → In t (X c)) (left : (t : ℕ) → In t ys → In t (X c))

@@ -36,7 +36,8 @@ use Rattle.rules_laws.specs.Leaving.{deserted-is}
 use Rattle.rules_laws.specs.Good.{serve-count}
 use Rattle.rules_laws.specs.Steps.{effect-ready, step-sound, run-sound, always}
 use Rattle.rules.specs.History.{nothing, onFlag, untilCount, begins}
-use Rattle.rules.specs.Waking.{Struck, Spared, Wakes}
+use Rattle.rules.specs.Waking.{Struck}
+use Rattle.rules_laws.specs.Waking.{Spared, WakesByRules}
 
 -- ---- what a serving of flags keeps, that waking the time chain would not
 
@@ -330,7 +331,7 @@ module _ (r : Rig) (ok : RigOk r) (t c : ℕ) where
       go (inr x) ih = absurd (omega (arith, x .0, run-count r (step r s k .next) ks))
 
   -- from a sound state in which task t waits for the count c
-  pub due-wakes : (s : State) → Sound r s → Due t c s → s .count < c → c ≤ lastCount → (ks : List Call) → ProperRun ks → Spared r s ks t → Wakes r t c s ks
+  pub due-wakes : (s : State) → Sound r s → Due t c s → s .count < c → c ≤ lastCount → (ks : List Call) → ProperRun ks → Spared r s ks t → WakesByRules r t c s ks
   due-wakes s sound m low top ks p n =
       record {
         waits = λ l. is-waiting r ok (run r s ks) (run-sound r ok s sound ks p) t c (stays ks s sound m low p n l) l;
@@ -419,7 +420,7 @@ module _ (r : Rig) (ok : RigOk r) where
       → refusal r (run r (start r) before) k ≡ 0
       → begins (run r (start r) before) k ≡ untilCount c
       → Spared r (step r (run r (start r) before) k .next) between (run r (start r) before .running)
-      → Wakes r (run r (start r) before .running) c (step r (run r (start r) before) k .next) between
+      → WakesByRules r (run r (start r) before .running) c (step r (run r (start r) before) k .next) between
   unfolding waitUntilCount
   waking before between k c p q u e b n =
       due-wakes r ok (s .running) c (step r s k .next) (step-sound r ok s sound k q) (begun-due s sound k c q e g)
@@ -439,7 +440,7 @@ module _ (r : Rig) (ok : RigOk r) where
       → refusal r (run r (start r) before) (waitUntil c) ≡ 0
       → run r (start r) before .count < c
       → Spared r (step r (run r (start r) before) (waitUntil c) .next) between (run r (start r) before .running)
-      → Wakes r (run r (start r) before .running) c (step r (run r (start r) before) (waitUntil c) .next) between
+      → WakesByRules r (run r (start r) before .running) c (step r (run r (start r) before) (waitUntil c) .next) between
   unfolding begins
   waking-until before between c p u e low n =
       waking before between (waitUntil c) c p tt u e
@@ -449,7 +450,7 @@ module _ (r : Rig) (ok : RigOk r) where
       → refusal r (run r (start r) before) (waitFor n) ≡ 0
       → 1 ≤ n
       → Spared r (step r (run r (start r) before) (waitFor n) .next) between (run r (start r) before .running)
-      → Wakes r (run r (start r) before .running) (run r (start r) before .count + n) (step r (run r (start r) before) (waitFor n) .next) between
+      → WakesByRules r (run r (start r) before .running) (run r (start r) before .count + n) (step r (run r (start r) before) (waitFor n) .next) between
   unfolding begins
   waking-for before between n p u e low x =
       let k = run r (start r) before .count in

@@ -10,7 +10,8 @@ use Rattle.laws.specs.Members.{In, Distinct}
 use Rattle.laws.specs.Ordered.{Ordered}
 use Rattle.chains.specs.Held.{at}
 use Rattle.chains.specs.Read.{chainAt, backAt}
-use Rattle.rules.specs.State.{timeChain, waiting, dispatchable, on}
+use Rattle.rules.specs.Sizes.{tickWords}
+use Rattle.rules.specs.State.{timeChain, lastChain, waiting, dispatchable, on}
 use Rattle.rules.specs.Calls.{tick, run, start}
 use Rattle.rules.specs.History.{Earlier, Sooner}
 use Rattle.exec.specs.Sound.{rigIn, view, Sound}
@@ -30,9 +31,9 @@ forwardIn y c = chainAt (y .st .links) c
 abbrev pub backwardIn : Exec → ℕ → List ℕ
 backwardIn y c = backAt (y .st .links) c
 
--- the chains have the anchors 65 to 321: the time chain's is 65, and `chainOf flag value` is that of flag 1 to 128, value 0 or 1
+-- the numbers of the chains: the time chain's is the first, and `chainOf flag value`, of flag 1 to 128 and value 0 or 1, follow it
 abbrev pub Anchor : ℕ → Type 0
-Anchor c = (64 < c) × (c < 322)
+Anchor c = (timeChain ≤ c) × (c ≤ lastChain)
 
 -- every record of a run: "A fresh record is sound and every call keeps it so: 12 never follows from an accepted start."
 pub record Stands (x : Exec) (ms : List Made) (y : Exec) : Type 0 where
@@ -84,5 +85,5 @@ pub record Wakes (t c : ℕ) (y : Exec) : Type 0 where
   pub waits : y .st .count < c → stateIn y t ≡ waiting
   -- the tick that makes the count c is accepted and leaves it dispatchable
   pub wakes :
-      (m : Made) (buffer : List ℕ) → MadeOn y m → m .call ≡ tick buffer → 128 ≤ length buffer → suc (y .st .count) ≡ c →
+      (m : Made) (buffer : List ℕ) → MadeOn y m → m .call ≡ tick buffer → tickWords ≤ length buffer → suc (y .st .count) ≡ c →
       (codeOf (m .step) ≡ 0) × (m .step .exec .st .count ≡ c) × (stateIn (m .step .exec) t ≡ dispatchable)

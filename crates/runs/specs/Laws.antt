@@ -25,8 +25,9 @@ use Rattle.rules_laws.specs.Demand.{flag-on, waits-in-one}
 use Rattle.rules.specs.History.{History, untilCount, begins, notedIf, history, never, historyOf, InOrder}
 use Rattle.rules.specs.History as H
 use Rattle.rules_laws.specs.InOrder.{chains-in-order}
-use Rattle.rules.specs.Waking.{Struck, Spared}
-use Rattle.rules.specs.Waking as W
+use Rattle.rules.specs.Waking.{Struck}
+use Rattle.rules_laws.specs.Waking.{Spared}
+use Rattle.rules_laws.specs.Waking as W
 use Rattle.rules_laws.specs.WakingLaws as WL
 use Rattle.rules_laws.specs.Activation.{BySchedule, ByService, activated-by}
 use Rattle.exec_state.specs.View.{rigOf}
@@ -147,10 +148,10 @@ module _ (y : Exec) (h : Sound y) where
   sound-activated t n = flag-on (rigIn y) ok (view y) (h .state) t n
 
   read : (c : ℕ) → Anchor c → chainsOf (y .st .links) c ≡ forwardIn y c
-  read c a = chains-at (y .st .links) c (a .0) (a .1)
+  read c a = chains-at (y .st .links) c (omega (arith, a .0)) (omega (arith, a .1))
 
   inside : (t c : ℕ) → In t (chainsOf (y .st .links) c) → Anchor c
-  inside t c i = let o = h .state .chains .only t c i in (o .0, omega (arith, o .1))
+  inside t c i = h .state .chains .only t c i
 
   sound-waits : (t : ℕ) → (stateIn y t ≡ 2) ↔ ((c : ℕ) × Anchor c × In t (forwardIn y c) × ((d : ℕ) → Anchor d → In t (forwardIn y d) → d ≡ c))
   sound-waits t =
@@ -224,7 +225,7 @@ module _ (g : Rig) (table : List (List ℕ)) (x : Exec) (s : AcceptedStart g tab
         let time : chainsOf (y .st .links) timeChain ≡ forwardIn y timeChain = read y h timeChain (omega arith, omega arith) in
         record {
           forward = λ c a. sym (read y h c a) ∙ ap (λ (z : S.State). z .chains c) (there .state);
-          backward = λ c a. read-backward (y .st .links) (chainsOf (y .st .links)) l c (a .0) (a .1) ∙ ap reverse (read y h c a);
+          backward = λ c a. read-backward (y .st .links) (chainsOf (y .st .links)) l c (omega (arith, a .0)) (omega (arith, a .1)) ∙ ap reverse (read y h c a);
           once = λ c a. subst Distinct (read y h c a) (h .state .chains .once c);
           waits = sound-waits y h;
           lists = λ t c a. subst (λ (z : List ℕ). In t z ↔ ((stateIn y t ≡ 2) × (historyIn x ms t .chain ≡ c))) (read y h c a) (ordered .lists t c);
@@ -299,9 +300,9 @@ module _ (g : Rig) (table : List (List ℕ)) (x : Exec) (s : AcceptedStart g tab
         end : Shows r (R.run r (R.step r now (m .call) .next) (callsOf between)) z
         end = ran-shows r (R.step r now (m .call) .next) (m .step .exec) next between z went
 
-        w : W.Wakes r t c (R.step r now (m .call) .next) (callsOf between)
+        w : W.WakesByRules r t c (R.step r now (m .call) .next) (callsOf between)
         w =
-            subst (λ (n : ℕ). W.Wakes r n c (R.step r now (m .call) .next) (callsOf between)) (ap (λ (u : S.State). u .running) (sym (at-y .state)))
+            subst (λ (n : ℕ). W.WakesByRules r n c (R.step r now (m .call) .next) (callsOf between)) (ap (λ (u : S.State). u .running) (sym (at-y .state)))
             (WL.waking r rig-right (callsOf before) (callsOf between) (m .call) c (ran-proper x before y ran) (made .proper)
             (ran-proper (m .step .exec) between z went) (sym (code-same r now y at-y m made) ∙ taken)
             (ap (λ (u : S.State). begins u (m .call)) (sym (at-y .state)) ∙ b)

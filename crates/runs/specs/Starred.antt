@@ -10,8 +10,8 @@ use Rattle.laws.specs.Iter.{iter}
 use Rattle.laws.specs.All.{all}
 use Rattle.laws.specs.Any.{any}
 use Rattle.laws.specs.Tables.{total, over}
-use Rattle.words.specs.Answers.{Report, accepted, refused}
-use Rattle.words.specs.Cases.{Case, case, Right, right-more, wordCases, words-right}
+use Rattle.words.specs.Answers.{WordReport, accepted, refused}
+use Rattle.words.specs.Cases.{Case, case, AsTold, right-more, wordCases, words-right}
 use Rattle.rules.specs.Rig.{Rig}
 use Rattle.rules.specs.State.{blank}
 use Rattle.rules.specs.Conditions.{relax, met, drive, names}
@@ -27,7 +27,7 @@ unfoldable pub lone : Rig
 lone = rig 1 2 1 (T 1 0 10 0 0 ∷ []) [] [] [] (B 1 5 7 2 2 1 0 ∷ [])
 
 -- what a call answers there: its refusal's number, or accepted with the running task after it
-unfoldable pub answers : Call → Report ℕ
+unfoldable pub answers : Call → WordReport ℕ
 answers k =
     let s = step lone (start lone) k in
     cond (eqb (s .answer .code) 0) (accepted (s .next .running)) (refused (s .answer .code))
@@ -46,7 +46,7 @@ callCases =
     ∷ case (answers (cancel 1)) (refused 7)
     ∷ []
 
-calls-right : Right callCases
+calls-right : AsTold callCases
 unfolding callCases answers lone rig ofTask ofCondition numbers ofLine ofCycle iter all any total over blank relax met drive names activate serving serve waitUntilCount best chosen dispatch scheduled effect decide noSuch lastCount wrongBlock refusals refusal output after step started start R.accepted R.lent
 calls-right = refl
 
@@ -54,5 +54,5 @@ calls-right = refl
 abbrev pub starred : List Case
 starred = wordCases ++ callCases
 
-pub starred-right : Right starred
+pub starred-right : AsTold starred
 starred-right = right-more wordCases callCases words-right calls-right

@@ -8,10 +8,10 @@
 //     parity     word                                    parity
 //     judge      image address                           number verdict
 use libc::STDOUT_FILENO;
+use word_parts::parity;
 use words::Encoded;
 use words::command;
 use words::command::Command;
-use words::parity;
 use words::status;
 use words::status::Judged;
 use words::status::Status;

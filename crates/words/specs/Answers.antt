@@ -9,25 +9,29 @@ use Rattle.words.specs.declared.status.Judged.{Judged}
 use Rattle.words.specs.declared.status.Judged.the-variants as judged
 
 -- number: 0 accepted, else the refusal's number; values: what is answered with it
-pub record Report (A : Type 0) : Type 0 where
+pub record WordReport (A : Type 0) : Type 0 where
   pub number : ℕ
   pub values : List A
 
-abbrev pub accepted : {A : Type 0} → A → Report A
+abbrev pub accepted : {A : Type 0} → A → WordReport A
 accepted value = record { number = 0; values = value ∷ [] }
 
 -- "a refused word entry answers the number alone"
-abbrev pub refused : {A : Type 0} → ℕ → Report A
+abbrev pub refused : {A : Type 0} → ℕ → WordReport A
 refused number = record { number = number; values = [] }
 
+-- the refusal's number
+abbrev pub outsideSize : ℕ
+outsideSize = 11
+
 -- 11, "Given exactly when": "a word's field, an expected address or a status image is outside its size"
-unfoldable pub sized : {A : Type 0} → Bool → A → Report A
-sized inSize value = cond inSize (accepted value) (refused 11)
+unfoldable pub sized : {A : Type 0} → Bool → A → WordReport A
+sized inSize value = cond inSize (accepted value) (refused outsideSize)
 
-abbrev pub encodedReport : Encoded → Report ℕ
+abbrev pub encodedReport : Encoded → WordReport ℕ
 encodedReport (encoded.Word w) = accepted w
-encodedReport encoded.OutsideSize = refused 11
+encodedReport encoded.OutsideSize = refused outsideSize
 
-abbrev pub judgedReport : Judged → Report Verdict
+abbrev pub judgedReport : Judged → WordReport Verdict
 judgedReport (judged.As v) = accepted v
-judgedReport judged.OutsideSize = refused 11
+judgedReport judged.OutsideSize = refused outsideSize

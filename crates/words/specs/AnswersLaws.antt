@@ -10,7 +10,7 @@ use Rattle.words.specs.declared.Encoded.the-variants as encoded
 use Rattle.words.specs.declared.status.Verdict.{Verdict}
 use Rattle.words.specs.declared.status.Judged.{Judged}
 use Rattle.words.specs.declared.status.Judged.the-variants as judged
-use Rattle.words.specs.Answers.{Report, accepted, refused, sized, encodedReport, judgedReport}
+use Rattle.words.specs.Answers.{WordReport, accepted, refused, sized, encodedReport, judgedReport}
 
 pub refused-exactly : {A : Type 0} (inSize : Bool) (value : A) → (sized inSize value .number ≡ 11) ↔ (inSize ≡ false)
 unfolding sized
@@ -28,10 +28,10 @@ sized-no y e = rw e
 
 -- an accepted report is no refusal, and says its one value
 accepted-same : {A : Type 0} (x y : A) → accepted x ≡ accepted y → x ≡ y
-accepted-same {A} x y e = let l : x ∷ [] ≡ y ∷ [] = ap (λ (r : Report A). r .values) e in cc
+accepted-same {A} x y e = let l : x ∷ [] ≡ y ∷ [] = ap (λ (r : WordReport A). r .values) e in cc
 
 accepted-never : {A : Type 0} (x : A) → accepted x ≡ refused 11 → ⊥
-accepted-never {A} x e = let z : _≡_ {A = ℕ} 0 11 = ap (λ (r : Report A). r .number) e in omega arith
+accepted-never {A} x e = let z : _≡_ {A = ℕ} 0 11 = ap (λ (r : WordReport A). r .number) e in omega arith
 
 -- two answers with one report are one answer
 pub encoded-same : (a b : Encoded) → encodedReport a ≡ encodedReport b → a ≡ b

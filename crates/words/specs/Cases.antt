@@ -7,25 +7,27 @@ use lib.Count.{ones, onesIn}
 use Rattle.laws.specs.All.{allOf}
 use Rattle.words.specs.declared.command.Command.{Command}
 use Rattle.words.specs.declared.status.Status.{Status}
-use Rattle.words.specs.Answers.{Report, accepted, refused, sized}
-use Rattle.words.specs.Command.{commandReport, commandInSize, lastInSize, commandWord}
-use Rattle.words.specs.Status.{statusReport, statusInSize, statusWord}
-use Rattle.words.specs.Parity.{parityBit}
+use Rattle.words.specs.Answers.{WordReport, accepted, refused, sized}
+use Rattle.words.specs.Command.{commandReport, commandInSize, lastInSize, lastOf, commandFields}
+use Rattle.words.specs.Status.{statusReport, statusInSize, statusFields, imageOf, isError, isException, verdictOf, judgedAs}
+use Rattle.words.specs.declared.status.Verdict.the-variants.{Error, Exception, Clean}
+use Rattle.word_parts.specs.Packed.{commandWord, statusWord}
+use Rattle.word_parts.specs.Parity.{parityBit}
 
 -- asked: what the rules answer; told: what the paper says
 pub record Case : Type 0 where
-  pub asked : Report ℕ
-  pub told : Report ℕ
+  pub asked : WordReport ℕ
+  pub told : WordReport ℕ
 
-abbrev pub case : Report ℕ → Report ℕ → Case
+abbrev pub case : WordReport ℕ → WordReport ℕ → Case
 case asked told = record { asked = asked; told = told }
 
 -- every case of a table is answered as the paper says: its two columns are equal
-abbrev pub Right : List Case → Type 0
-Right cases = map (λ (c : Case). c .asked) cases ≡ map (λ (c : Case). c .told) cases
+abbrev pub AsTold : List Case → Type 0
+AsTold cases = map (λ (c : Case). c .asked) cases ≡ map (λ (c : Case). c .told) cases
 
 -- tables that are right make a right table
-pub right-more : (first second : List Case) → Right first → Right second → Right (first ++ second)
+pub right-more : (first second : List Case) → AsTold first → AsTold second → AsTold (first ++ second)
 right-more first second f s =
     map-append (λ (c : Case). c .asked) first second ∙ (ap₂ _++_ f s ∙ sym (map-append (λ (c : Case). c .told) first second))
 
@@ -37,6 +39,12 @@ transmit address sub words = record { address = address; transmit = true; sub = 
 
 abbrev pub messageError : ℕ → Status
 messageError address = record { address = address; error = true; status = 0; failure = false }
+
+abbrev pub onlyStatus : ℕ → ℕ → Status
+onlyStatus address status = record { address = address; error = false; status = status; failure = false }
+
+abbrev pub onlyFailure : ℕ → Status
+onlyFailure address = record { address = address; error = false; status = 0; failure = true }
 
 unfoldable pub wordCases : List Case
 wordCases =
@@ -57,6 +65,51 @@ wordCases =
     ∷ []
 
 -- "Cases marked * are proved of the rules, as one table with one statement."
-pub words-right : Right wordCases
+pub words-right : AsTold wordCases
 unfolding wordCases commandReport commandInSize lastInSize commandWord statusReport statusInSize statusWord sized allOf parityBit ones onesIn
 words-right = refl
+
+-- CASES OF OUR OWN, for sentences that those leave open
+unfoldable pub ownCases : List Case
+ownCases =
+    -- "sub-address 0 makes it a mode command and the last field its number, 0 to 31"
+    case (commandReport (receive 7 0 0)) (accepted 14336)
+    ∷ case (commandReport (receive 7 0 31)) (accepted 14367)
+    ∷ case (commandReport (receive 7 0 32)) (refused 11)
+    ∷ case (accepted (commandFields 14336 .last)) (accepted 0)
+    ∷ case (accepted (commandFields 14367 .last)) (accepted 31)
+    -- sub-address 31 does not: "the sub-address is 0 to 31 and the words 1 to 32"
+    ∷ case (commandReport (receive 7 31 32)) (accepted 15328)
+    ∷ case (commandReport (receive 7 31 0)) (refused 11)
+    ∷ case (accepted (commandFields 15328 .last)) (accepted 32)
+    ∷ case (commandReport (receive 7 1 0)) (refused 11)
+    ∷ case (commandReport (receive 7 32 1)) (refused 11)
+    ∷ case (commandReport (receive 32 1 1)) (refused 11)
+    -- "Status word: address 5, message error 1, status 9, terminal failure 1."
+    ∷ case (statusReport (onlyStatus 31 511)) (accepted 64510)
+    ∷ case (statusReport (onlyStatus 31 512)) (refused 11)
+    ∷ case (statusReport (onlyStatus 32 0)) (refused 11)
+    ∷ case (statusReport (onlyFailure 1)) (accepted 2049)
+    -- "With parity it is a 17-bit image, word times two plus parity."
+    ∷ case (accepted (imageOf 14400)) (accepted 28801)
+    ∷ case (accepted (imageOf 65535)) (accepted 131071)
+    ∷ []
+
+pub own-right : AsTold ownCases
+unfolding ownCases commandReport commandInSize lastInSize commandFields lastOf commandWord statusReport statusInSize statusWord imageOf sized allOf parityBit ones onesIn
+own-right = refl
+
+-- "an error (bad parity or another address), an exception (any other field not zero), or clean"; 11 for an image or an
+-- address outside its size
+pub verdicts :
+    (judgedAs 28672 7 ≡ accepted Clean)
+    × (judgedAs 28673 7 ≡ accepted Error)
+    × (judgedAs 28672 8 ≡ accepted Error)
+    × (judgedAs (imageOf 15360) 7 ≡ accepted Exception)
+    × (judgedAs (imageOf 14338) 7 ≡ accepted Exception)
+    × (judgedAs (imageOf 14337) 7 ≡ accepted Exception)
+    × (judgedAs 131071 31 ≡ accepted Exception)
+    × (judgedAs 131072 31 ≡ refused 11)
+    × (judgedAs 28672 32 ≡ refused 11)
+unfolding judgedAs verdictOf isError isException statusFields imageOf sized allOf parityBit ones onesIn
+verdicts = (refl, refl, refl, refl, refl, refl, refl, refl, refl)

@@ -9,9 +9,10 @@ use borrow.Author.Tests.{leb-true, le-leb, eqb-true, eqb-false}
 use Rattle.laws.specs.All.{allOf, allOf-at, allOf-skip, allOf-last, and-left, and-right}
 use Rattle.laws.specs.Bits.{bit, bit-below, isOne-bit, bit-isOne}
 use Rattle.laws.specs.Cases.{by}
+use Rattle.word_parts.specs.Packed.{commandWord}
 use Rattle.words.specs.declared.command.Command.{Command}
 use Rattle.words.specs.Answers.{accepted, sized}
-use Rattle.words.specs.Command.{commandWord, wordOfCommand, isMode, lastInSize, commandInSize, commandReport, lastOf, commandFields}
+use Rattle.words.specs.Command.{wordOfCommand, isMode, lastInSize, commandInSize, commandReport, lastOf, commandFields}
 
 -- ---- the last field, for a mode command or not: what is written for it is read as it was, and the other way round
 
@@ -60,10 +61,6 @@ module _ (address transmit sub last : ℕ) (t : transmit < 2) (s : sub < 32) whe
   pub last-at : commandWord address transmit sub last % 32 ≡ last % 32
   unfolding commandWord
   last-at = omega arith
-
-pub command-below : (address transmit sub last : ℕ) → address < 32 → transmit < 2 → sub < 32 → commandWord address transmit sub last < 65536
-unfolding commandWord
-command-below address transmit sub last a t s = omega arith
 
 -- the last field may be written with or without 32 reduced
 pub command-whole : (w last : ℕ) → last % 32 ≡ w % 32 → commandWord (w / 2048) (w / 1024 % 2) (w / 32 % 32) last ≡ w

@@ -2,8 +2,6 @@ pub mod Answers
 pub mod AnswersLaws
 pub mod Command
 pub mod CommandLaws
-pub mod Parity
-pub mod ParityLaws
 pub mod Status
 pub mod StatusLaws
 pub mod Cases

@@ -8,31 +8,28 @@ use Rattle.laws.specs.Bits.{bit, isOne}
 use Rattle.words.specs.declared.status.Status.{Status}
 use Rattle.words.specs.declared.status.Verdict.{Verdict}
 use Rattle.words.specs.declared.status.Verdict.the-variants.{Error, Exception, Clean}
-use Rattle.words.specs.Answers.{Report, sized}
-use Rattle.words.specs.Parity.{parityBit}
-
--- The fields from the highest to the lowest, each shifted past those below it.
-unfoldable pub statusWord : ℕ → ℕ → ℕ → ℕ → ℕ
-statusWord address error status failure = 2048 * address + 1024 * error + 2 * status + failure
+use Rattle.words.specs.Answers.{WordReport, sized}
+use Rattle.word_parts.specs.Packed.{lastOfFive, lastOfNine, lastOfSeventeen, pastEleven, pastTen, pastOne, statusWord}
+use Rattle.word_parts.specs.Parity.{parityBit}
 
 abbrev pub wordOfStatus : Status → ℕ
 wordOfStatus s = statusWord (s .address) (bit (s .error)) (s .status) (bit (s .failure))
 
 -- "address 5", "status 9"; the other two are one bit by their type
 unfoldable pub statusInSize : Status → Bool
-statusInSize s = allOf (leb (s .address) 31 ∷ leb (s .status) 511 ∷ [])
+statusInSize s = allOf (leb (s .address) lastOfFive ∷ leb (s .status) lastOfNine ∷ [])
 
 -- What is answered to fields: their word, or 11 exactly when one is outside its size.
-unfoldable pub statusReport : Status → Report ℕ
+unfoldable pub statusReport : Status → WordReport ℕ
 statusReport s = sized (statusInSize s) (wordOfStatus s)
 
 -- The fields of any word, cut out at the same places.
 unfoldable pub statusFields : ℕ → Status
 statusFields w =
     record {
-      address = w / 2048;
-      error = isOne (w / 1024 % 2);
-      status = w / 2 % 512;
+      address = w / pastEleven;
+      error = isOne (w / pastTen % 2);
+      status = w / pastOne % 512;
       failure = isOne (w % 2);
     }
 
@@ -61,5 +58,5 @@ unfoldable pub verdictOf : ℕ → ℕ → Verdict
 verdictOf image address = cond (isError image address) Error (cond (isException (statusFields (wordIn image))) Exception Clean)
 
 -- What is answered to an image and an expected address: the verdict, or 11 exactly when the image has more than 17 bits or the address more than 5.
-unfoldable pub judgedAs : ℕ → ℕ → Report Verdict
-judgedAs image address = sized (allOf (leb image 131071 ∷ leb address 31 ∷ [])) (verdictOf image address)
+unfoldable pub judgedAs : ℕ → ℕ → WordReport Verdict
+judgedAs image address = sized (allOf (leb image lastOfSeventeen ∷ leb address lastOfFive ∷ [])) (verdictOf image address)

@@ -13,9 +13,10 @@ use Rattle.laws.specs.Cases.{by}
 use Rattle.words.specs.declared.status.Status.{Status}
 use Rattle.words.specs.declared.status.Verdict.the-variants.{Error, Exception, Clean}
 use Rattle.words.specs.Answers.{accepted, sized}
-use Rattle.words.specs.Parity.{parityBit}
-use Rattle.words.specs.ParityLaws.{parity-below}
-use Rattle.words.specs.Status.{statusWord, wordOfStatus, statusInSize, statusReport, statusFields, imageOf, wordIn, parityIn, isError, isException, verdictOf}
+use Rattle.word_parts.specs.Packed.{statusWord}
+use Rattle.word_parts.specs.Parity.{parityBit}
+use Rattle.word_parts.specs.ParityLaws.{parity-below}
+use Rattle.words.specs.Status.{wordOfStatus, statusInSize, statusReport, statusFields, imageOf, wordIn, parityIn, isError, isException, verdictOf}
 
 -- ---- the places of the fields
 
@@ -35,10 +36,6 @@ module _ (address error status failure : ℕ) (e : error < 2) (s : status < 512)
   pub failure-at : statusWord address error status failure % 2 ≡ failure
   unfolding statusWord
   failure-at = omega arith
-
-pub status-below : (address error status failure : ℕ) → address < 32 → error < 2 → status < 512 → failure < 2 → statusWord address error status failure < 65536
-unfolding statusWord
-status-below address error status failure a e s f = omega arith
 
 pub status-whole : (w : ℕ) → statusWord (w / 2048) (w / 1024 % 2) (w / 2 % 512) (w % 2) ≡ w
 unfolding statusWord

@@ -1,10 +1,23 @@
 // Command words: fields to the word, and any word to its fields.
 use crate::Encoded;
 use crate::one_bit;
+use word_parts::packed;
 ghost use mathlib.Core.Path.{_≡_};
-ghost use Prim.Native.Nat.{_<_};
 ghost use Rattle.words.specs.Answers.{encodedReport};
-ghost use Rattle.words.specs.Command.{commandWord, commandReport, commandInSize, commandFields, lastInSize, lastOf};
+ghost use Rattle.words.specs.Command.{commandReport, commandInSize, commandFields, lastInSize, lastOf};
+
+// "sub-address 0 makes it a mode command"
+const MODE_SUB: u32 = 0;
+// the last address, sub-address and mode number; the most words
+const LAST_OF_FIVE: u32 = 31;
+
+const MOST_WORDS: u32 = 32;
+// what a field was multiplied by that stands above eleven bits, above ten, above five
+const PAST_ELEVEN: u32 = 2048;
+
+const PAST_TEN: u32 = 1024;
+
+const PAST_FIVE: u32 = 32;
 
 // A command by its fields. `last` is the number of words or, at sub-address 0, the number of the mode command.
 pub struct Command {
@@ -19,7 +32,7 @@ pub fn word(c: Command) -> Encoded
     ensures { λ r. ⌜ encodedReport r ≡ commandReport c ⌝ }
 {
     if in_size(c) {
-        Encoded::Word(packed(c.address, one_bit(c.transmit), c.sub, c.last))
+        Encoded::Word(packed::command(c.address, one_bit(c.transmit), c.sub, c.last))
     } else {
         Encoded::OutsideSize
     }
@@ -30,44 +43,37 @@ pub fn fields(word: u16) -> Command
     ensures { λ r. ⌜ r ≡ commandFields word ⌝ }
 {
     let w = word as u32;
-    let sub = w / 32 % 32;
+    let sub = w / PAST_FIVE % PAST_FIVE;
     Command {
-        address: w / 2048,
-        transmit: w / 1024 % 2 == 1,
+        address: w / PAST_ELEVEN,
+        transmit: w / PAST_TEN % 2 == 1,
         sub,
-        last: last_of(sub == 0, w % 32),
+        last: last_of(sub == MODE_SUB, w % PAST_FIVE),
     }
 }
 
 fn in_size(c: Command) -> bool
     ensures { λ r. ⌜ r ≡ commandInSize c ⌝ }
 {
-    if 31 < c.address {
+    if LAST_OF_FIVE < c.address {
         return false;
     }
-    if 31 < c.sub {
+    if LAST_OF_FIVE < c.sub {
         return false;
     }
-    last_in_size(c.sub == 0, c.last)
+    last_in_size(c.sub == MODE_SUB, c.last)
 }
 
 fn last_in_size(mode: bool, last: u32) -> bool
     ensures { λ r. ⌜ r ≡ lastInSize mode last ⌝ }
 {
     if mode {
-        return last <= 31;
+        return last <= LAST_OF_FIVE;
     }
     if last == 0 {
         return false;
     }
-    last <= 32
-}
-
-fn packed(address: u32, transmit: u32, sub: u32, last: u32) -> u16
-    requires { ⌜ (address < 32) × (transmit < 2) × (sub < 32) ⌝ }
-    ensures { λ r. ⌜ r ≡ commandWord address transmit sub last ⌝ }
-{
-    (2048 * address + 1024 * transmit + 32 * sub + last % 32) as u16
+    last <= MOST_WORDS
 }
 
 // What the last five bits say.
@@ -78,7 +84,7 @@ fn last_of(mode: bool, field: u32) -> u32
         return field;
     }
     if field == 0 {
-        return 32;
+        return MOST_WORDS;
     }
     field
 }

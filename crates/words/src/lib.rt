@@ -1,11 +1,13 @@
-// Command and status words of the bus, and their parity.
+// Command and status words of the bus: fields to words, words to fields, images with parity.
 pub mod command;
-pub mod parity;
 pub mod status;
 
 ghost use mathlib.Core.Path.{_≡_};
 ghost use Rattle.laws.specs.Bits.{bit};
 ghost use Rattle.words.specs.Answers.{encodedReport};
+
+// the refusal's number
+const OUTSIDE_SIZE: u32 = 11;
 
 // The answer of an entry that makes a word of fields: the word, or that a field is outside its size (refusal 11).
 pub enum Encoded {
@@ -20,7 +22,7 @@ impl Encoded {
     {
         match self {
             Encoded::Word(_) => 0,
-            Encoded::OutsideSize => 11,
+            Encoded::OutsideSize => OUTSIDE_SIZE,
         }
     }
 }

@@ -1,11 +1,28 @@
 // Status words: fields to the word, any word to its fields, the image with parity, and its judging.
 use crate::Encoded;
+use crate::OUTSIDE_SIZE;
 use crate::one_bit;
-use crate::parity;
+use word_parts::packed;
+use word_parts::parity;
 ghost use mathlib.Core.Path.{_≡_};
 ghost use Prim.Native.Nat.{_<_};
 ghost use Rattle.words.specs.Answers.{encodedReport, judgedReport};
-ghost use Rattle.words.specs.Status.{statusWord, statusReport, statusInSize, statusFields, imageOf, judgedAs, isException, verdictOf};
+ghost use Rattle.words.specs.Status.{statusReport, statusInSize, statusFields, imageOf, judgedAs, isException, verdictOf};
+
+// the last address, status field and image
+const LAST_OF_FIVE: u32 = 31;
+
+const LAST_OF_NINE: u32 = 511;
+
+const LAST_OF_SEVENTEEN: u32 = 131071;
+// what a field was multiplied by that stands above eleven bits, above ten, above one
+const PAST_ELEVEN: u32 = 2048;
+
+const PAST_TEN: u32 = 1024;
+
+const PAST_ONE: u32 = 2;
+
+const PAST_NINE: u32 = 512;
 
 // A status word by its fields: message error, the nine status bits, terminal failure.
 pub struct Status {
@@ -34,7 +51,7 @@ impl Judged {
     {
         match self {
             Judged::As(_) => 0,
-            Judged::OutsideSize => 11,
+            Judged::OutsideSize => OUTSIDE_SIZE,
         }
     }
 }
@@ -44,7 +61,7 @@ pub fn word(s: Status) -> Encoded
     ensures { λ r. ⌜ encodedReport r ≡ statusReport s ⌝ }
 {
     if in_size(s) {
-        Encoded::Word(packed(s.address, one_bit(s.error), s.status, one_bit(s.failure)))
+        Encoded::Word(packed::status(s.address, one_bit(s.error), s.status, one_bit(s.failure)))
     } else {
         Encoded::OutsideSize
     }
@@ -56,10 +73,10 @@ pub fn fields(word: u16) -> Status
 {
     let w = word as u32;
     Status {
-        address: w / 2048,
-        error: w / 1024 % 2 == 1,
-        status: w / 2 % 512,
-        failure: w % 2 == 1,
+        address: w / PAST_ELEVEN,
+        error: w / PAST_TEN % 2 == 1,
+        status: w / PAST_ONE % PAST_NINE,
+        failure: w % PAST_ONE == 1,
     }
 }
 
@@ -67,17 +84,17 @@ pub fn fields(word: u16) -> Status
 pub fn image(word: u16) -> u32
     ensures { λ r. ⌜ r ≡ imageOf word ⌝ }
 {
-    (word as u32) * 2 + (parity::of_word(word) as u32)
+    (word as u32) * PAST_ONE + (parity::of_word(word) as u32)
 }
 
 // An image judged against the expected address, refused exactly when one of the two is outside its size.
 pub fn judge(image: u32, address: u32) -> Judged
     ensures { λ r. ⌜ judgedReport r ≡ judgedAs image address ⌝ }
 {
-    if 131071 < image {
+    if LAST_OF_SEVENTEEN < image {
         return Judged::OutsideSize;
     }
-    if 31 < address {
+    if LAST_OF_FIVE < address {
         return Judged::OutsideSize;
     }
     Judged::As(verdict_on(image, address))
@@ -86,25 +103,18 @@ pub fn judge(image: u32, address: u32) -> Judged
 fn in_size(s: Status) -> bool
     ensures { λ r. ⌜ r ≡ statusInSize s ⌝ }
 {
-    if 31 < s.address {
+    if LAST_OF_FIVE < s.address {
         return false;
     }
-    s.status <= 511
-}
-
-fn packed(address: u32, error: u32, status: u32, failure: u32) -> u16
-    requires { ⌜ (address < 32) × (error < 2) × (status < 512) × (failure < 2) ⌝ }
-    ensures { λ r. ⌜ r ≡ statusWord address error status failure ⌝ }
-{
-    (2048 * address + 1024 * error + 2 * status + failure) as u16
+    s.status <= LAST_OF_NINE
 }
 
 fn verdict_on(image: u32, address: u32) -> Verdict
     requires { ⌜ image < 131072 ⌝ }
     ensures { λ r. ⌜ r ≡ verdictOf image address ⌝ }
 {
-    let word = (image / 2) as u16;
-    if image % 2 != parity::of_word(word) as u32 {
+    let word = (image / PAST_ONE) as u16;
+    if image % PAST_ONE != parity::of_word(word) as u32 {
         return Verdict::Error;
     }
     let s = fields(word);

@@ -6,15 +6,11 @@ use borrow.Author.Needs.{needs}
 use Rattle.compool.proofs.put_row.Statement.{statement}
 use Rattle.compool.proofs.put_row.Tie as tie
 
-command-requires : tie.Need-command-requires
-command-requires c κs =
-    let p = c .before .pre .0 in
-    (p .receiver, search needs, p .receiverSub)
+receive-word-requires : tie.Need-receive-word-requires
+receive-word-requires c κs = c .before .pre .0
 
-command-requires-2 : tie.Need-command-requires-2
-command-requires-2 c κs =
-    let p = c .before .before .pre .0 in
-    (p .sender, search needs, p .senderSub)
+transmit-word-requires : tie.Need-transmit-word-requires
+transmit-word-requires c κs = c .before .before .pre .0
 
 mul-out : tie.Need-mul-out
 mul-out c = search needs
@@ -31,7 +27,7 @@ same-length c = search needs
 returns : tie.Need-returns
 returns c =
     let a = c .before .before .before .before .before .args in
-    row-from (a .master) (rowOf (a .row)) (a .out .now) (a .n) (c .before .before .before .before .before .pre .1) (c .if1 .taken) _ (c .before .before .before .command .ensures)
+    row-from (a .master) (rowOf (a .row)) (a .out .now) (a .n) (c .before .before .before .before .before .pre .1) (c .if1 .taken) _ (c .before .before .before .receive-word .ensures)
 
 mul-out-2 : tie.Need-mul-out-2
 mul-out-2 c = search needs
@@ -48,7 +44,7 @@ same-length-2 c = search needs
 returns-2 : tie.Need-returns-2
 returns-2 c =
     let a = c .before .before .before .before .before .before .before .args in
-    row-to (a .master) (rowOf (a .row)) (a .out .now) (a .n) (c .before .before .before .before .before .before .before .pre .1) (c .before .before .if1 .left) (c .if2 .taken) _ (c .before .before .before .before .command2 .ensures)
+    row-to (a .master) (rowOf (a .row)) (a .out .now) (a .n) (c .before .before .before .before .before .before .before .pre .1) (c .before .before .if1 .left) (c .if2 .taken) _ (c .before .before .before .before .transmit-word .ensures)
 
 mul-out-3 : tie.Need-mul-out-3
 mul-out-3 c = search needs
@@ -74,14 +70,14 @@ same-length-3 c = search needs
 returns-3 : tie.Need-returns-3
 returns-3 c =
     let a = c .before .before .before .before .before .before .before .args in
-    row-both (a .master) (rowOf (a .row)) (a .out .now) (a .n) (c .before .before .before .before .before .before .before .pre .1) (c .before .before .if1 .left) (c .if2 .left) _ _ (c .before .before .before .before .before .command .ensures) (c .before .before .before .before .command2 .ensures)
+    row-both (a .master) (rowOf (a .row)) (a .out .now) (a .n) (c .before .before .before .before .before .before .before .pre .1) (c .before .before .if1 .left) (c .if2 .left) _ _ (c .before .before .before .before .before .receive-word .ensures) (c .before .before .before .before .transmit-word .ensures)
 
 pub put-row-spec : {M : Type 1} → statement M
 put-row-spec =
     tie.close
     (tie.spec
-    command-requires
-    command-requires-2
+    receive-word-requires
+    transmit-word-requires
     mul-out
     slice-write-out
     add-result

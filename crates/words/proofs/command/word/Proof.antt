@@ -2,7 +2,8 @@
 use mathlib.Core.Path.{sym, ap, _∙_}
 use Prim.Native.Nat.{ℕ}
 use Rattle.laws.specs.Bits.{bit-below}
-use Rattle.words.specs.Command.{commandWord, wordOfCommand, commandReport}
+use Rattle.word_parts.specs.Packed.{commandWord}
+use Rattle.words.specs.Command.{wordOfCommand, commandReport}
 use Rattle.words.specs.CommandLaws.{in-size}
 use Rattle.words.specs.AnswersLaws.{sized-yes, sized-no}
 use borrow.Author.Needs.{needs}
@@ -15,15 +16,15 @@ in-size-requires c κs = search needs
 one-bit-requires : tie.Need-one-bit-requires
 one-bit-requires c κs = search needs
 
-packed-requires : tie.Need-packed-requires
-packed-requires c κs = let h = in-size (c .before .before .before .args .c) (sym (c .before .before .in-size .ensures) ∙ c .before .if1 .taken) in
+command-requires : tie.Need-command-requires
+command-requires c κs = let h = in-size (c .before .before .before .args .c) (sym (c .before .before .in-size .ensures) ∙ c .before .if1 .taken) in
     (h .address, rw (c .one-bit .ensures) (bit-below (c .before .before .before .args .c .transmit)), h .sub)
 
 returns : tie.Need-returns
 unfolding commandReport
 returns c = let k = c .before .before .before .before .args .c in
     sized-yes (sym (c .before .before .before .in-size .ensures) ∙ c .before .before .if1 .taken)
-    (c .packed .ensures ∙ ap (λ (t : ℕ). commandWord (k .address) t (k .sub) (k .last)) (c .before .one-bit .ensures))
+    (c .command .ensures ∙ ap (λ (t : ℕ). commandWord (k .address) t (k .sub) (k .last)) (c .before .one-bit .ensures))
 
 returns-2 : tie.Need-returns-2
 unfolding commandReport
@@ -31,4 +32,4 @@ returns-2 c = sized-no (wordOfCommand (c .before .before .args .c)) (sym (c .bef
 
 pub word-spec : {M : Type 1} → statement M
 word-spec =
-    tie.close (tie.spec in-size-requires one-bit-requires packed-requires returns returns-2)
+    tie.close (tie.spec in-size-requires one-bit-requires command-requires returns returns-2)

@@ -2,7 +2,8 @@
 use mathlib.Core.Path.{sym, ap₂, _∙_}
 use Prim.Native.Nat.{ℕ}
 use Rattle.laws.specs.Bits.{bit-below}
-use Rattle.words.specs.Status.{statusWord, wordOfStatus, statusReport}
+use Rattle.word_parts.specs.Packed.{statusWord}
+use Rattle.words.specs.Status.{wordOfStatus, statusReport}
 use Rattle.words.specs.StatusLaws.{in-size}
 use Rattle.words.specs.AnswersLaws.{sized-yes, sized-no}
 use borrow.Author.Needs.{needs}
@@ -18,8 +19,8 @@ one-bit-requires c κs = search needs
 one-bit-requires-2 : tie.Need-one-bit-requires-2
 one-bit-requires-2 c κs = search needs
 
-packed-requires : tie.Need-packed-requires
-packed-requires c κs = let s = c .before .before .before .before .args .s in
+status-requires : tie.Need-status-requires
+status-requires c κs = let s = c .before .before .before .before .args .s in
     let h = in-size s (sym (c .before .before .before .in-size .ensures) ∙ c .before .before .if1 .taken) in (
       h .address,
       rw (c .before .one-bit .ensures) (bit-below (s .error)),
@@ -31,7 +32,7 @@ returns : tie.Need-returns
 unfolding statusReport
 returns c = let s = c .before .before .before .before .before .args .s in
     sized-yes (sym (c .before .before .before .before .in-size .ensures) ∙ c .before .before .before .if1 .taken)
-    (c .packed .ensures
+    (c .status .ensures
     ∙ ap₂ (λ (e f : ℕ). statusWord (s .address) e (s .status) f) (c .before .before .one-bit .ensures) (c .before .one-bit2 .ensures))
 
 returns-2 : tie.Need-returns-2
@@ -45,6 +46,6 @@ word-spec =
     in-size-requires
     one-bit-requires
     one-bit-requires-2
-    packed-requires
+    status-requires
     returns
     returns-2)

@@ -3,10 +3,10 @@ use mathlib.Core.Path.{refl}
 use lib.Count.{ones, onesIn}
 use Rattle.laws.specs.All.{all}
 use Rattle.laws.specs.Tables.{follows}
-use Rattle.words.specs.Parity.{parityBit}
+use Rattle.word_parts.specs.Parity.{parityBit}
 use borrow.Author.Needs.{needs}
-use Rattle.words.proofs.parity.of_byte.Statement.{statement}
-use Rattle.words.proofs.parity.of_byte.Tie as tie
+use Rattle.word_parts.proofs.parity.of_byte.Statement.{statement}
+use Rattle.word_parts.proofs.parity.of_byte.Tie as tie
 
 entry-requires : tie.Need-entry-requires
 unfolding follows all parityBit ones onesIn

@@ -1,9 +1,9 @@
--- `packed` is the sum of the definition.
+-- `status` is the sum of the definition.
 use mathlib.Core.Path.{refl}
-use Rattle.words.specs.Status.{statusWord}
+use Rattle.word_parts.specs.Packed.{statusWord}
 use borrow.Author.Needs.{needs}
-use Rattle.words.proofs.status.packed.Statement.{statement}
-use Rattle.words.proofs.status.packed.Tie as tie
+use Rattle.word_parts.proofs.packed.status.Statement.{statement}
+use Rattle.word_parts.proofs.packed.status.Tie as tie
 
 mul-result : tie.Need-mul-result
 mul-result c = search needs
@@ -30,8 +30,8 @@ returns : tie.Need-returns
 unfolding statusWord
 returns c = refl
 
-pub packed-spec : {M : Type 1} → statement M
-packed-spec =
+pub status-spec : {M : Type 1} → statement M
+status-spec =
     tie.close
     (tie.spec
     mul-result

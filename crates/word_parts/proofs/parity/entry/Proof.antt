@@ -1,9 +1,9 @@
 -- `entry` reads a table that follows the rule, so what it reads is what the rule says there.
 use Rattle.laws.specs.Tables.{follows-at}
-use Rattle.words.specs.Parity.{parityBit}
+use Rattle.word_parts.specs.Parity.{parityBit}
 use borrow.Author.Needs.{needs}
-use Rattle.words.proofs.parity.entry.Statement.{statement}
-use Rattle.words.proofs.parity.entry.Tie as tie
+use Rattle.word_parts.proofs.parity.entry.Statement.{statement}
+use Rattle.word_parts.proofs.parity.entry.Tie as tie
 
 element-copy-out-result : tie.Need-element-copy-out-result
 element-copy-out-result c = search needs

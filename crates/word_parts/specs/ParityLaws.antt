@@ -5,7 +5,7 @@ use Prim.Native.Nat.{ℕ, _+_, _*_, _/_, _%_, _^_, _<_}
 use native.Mathlib.Omega.{arith}
 use native.Mathlib.Nat.{div-add-mod'}
 use lib.Count.{ones, ones-cat}
-use Rattle.words.specs.Parity.{parityBit}
+use Rattle.word_parts.specs.Parity.{parityBit}
 
 pub parity-below : (n : ℕ) → parityBit n < 2
 unfolding parityBit

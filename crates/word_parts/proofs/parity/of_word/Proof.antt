@@ -2,10 +2,10 @@
 use mathlib.Core.Path.{sym}
 use Prim.Native.Nat.{_/_, _%_}
 use native.Mathlib.Omega.{arith}
-use Rattle.words.specs.ParityLaws.{parity-below, parity-bytes}
+use Rattle.word_parts.specs.ParityLaws.{parity-below, parity-bytes}
 use borrow.Author.Needs.{needs}
-use Rattle.words.proofs.parity.of_word.Statement.{statement}
-use Rattle.words.proofs.parity.of_word.Tie as tie
+use Rattle.word_parts.proofs.parity.of_word.Statement.{statement}
+use Rattle.word_parts.proofs.parity.of_word.Tie as tie
 
 cast-of-byte : tie.Need-cast-of-byte
 cast-of-byte c = search needs

@@ -2,7 +2,7 @@
 ghost use mathlib.Core.Bool.{true};
 ghost use mathlib.Core.Path.{_≡_};
 ghost use Rattle.laws.specs.Tables.{follows};
-ghost use Rattle.words.specs.Parity.{parityBit};
+ghost use Rattle.word_parts.specs.Parity.{parityBit};
 
 // The parity bit of a word. The bit of each byte is its ones plus one; the bit of the word is the ones of both plus one,
 // so one is added again.

@@ -1,9 +1,9 @@
--- `packed` is the sum of the definition.
+-- `command` is the sum of the definition.
 use mathlib.Core.Path.{refl}
-use Rattle.words.specs.Command.{commandWord}
+use Rattle.word_parts.specs.Packed.{commandWord}
 use borrow.Author.Needs.{needs}
-use Rattle.words.proofs.command.packed.Statement.{statement}
-use Rattle.words.proofs.command.packed.Tie as tie
+use Rattle.word_parts.proofs.packed.command.Statement.{statement}
+use Rattle.word_parts.proofs.packed.command.Tie as tie
 
 mul-result : tie.Need-mul-result
 mul-result c = search needs
@@ -30,8 +30,8 @@ returns : tie.Need-returns
 unfolding commandWord
 returns c = refl
 
-pub packed-spec : {M : Type 1} → statement M
-packed-spec =
+pub command-spec : {M : Type 1} → statement M
+command-spec =
     tie.close
     (tie.spec
     mul-result

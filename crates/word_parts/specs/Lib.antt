@@ -1,0 +1,4 @@
+pub mod Packed
+pub mod PackedCases
+pub mod Parity
+pub mod ParityLaws
