@@ -17,7 +17,7 @@ use Rattle.rig_build.specs.Read.{readOf, accepted}
 use Rattle.rig_write.specs.Kept.{kept}
 use Rattle.rig_write.specs.File.{linesFrom, fileOf}
 use Rattle.rig_round_trips.specs.Read.{read-written}
-use Rattle.rules.specs.Rig.{place}
+use Rattle.rules.specs.Rig.{placeOf}
 use Rattle.rules.specs.Scripts.{FlagLine, A, B, bench, rig, ofTask, ofCondition, numbers, ofLine, ofCycle}
 use Rattle.exec_state.specs.View.{rigOf}
 use Rattle.witness.specs.Text.{bytes}
@@ -32,8 +32,8 @@ no-task : (t : ℕ) → 65 ≤ t → (eqb 1 t ≡ false) × (eqb 2 t ≡ false) 
 no-task t h = (ne-eqb 1 t (λ e. omega arith), ne-eqb 2 t (λ e. omega arith), ne-eqb 3 t (λ e. omega arith))
 
 -- the places of the two conditions
-no-condition : (p : ℕ) → 1040 ≤ p → (eqb (place 2 0) p ≡ false) × (eqb (place 3 0) p ≡ false)
-no-condition p h = (ne-eqb (place 2 0) p (λ e. omega arith), ne-eqb (place 3 0) p (λ e. omega arith))
+no-condition : (p : ℕ) → 1040 ≤ p → (eqb (placeOf 2 0) p ≡ false) × (eqb (placeOf 3 0) p ≡ false)
+no-condition p h = (ne-eqb (placeOf 2 0) p (λ e. omega arith), ne-eqb (placeOf 3 0) p (λ e. omega arith))
 
 no-line : (k : ℕ) → 1024 ≤ k → getD (A 2 0 1 ∷ A 3 0 3 ∷ []) k (A 0 0 0) ≡ A 0 0 0
 no-line k h = List·getD-eq-default (A 2 0 1 ∷ A 3 0 3 ∷ []) (A 0 0 0) {n = k} (omega (arith, h))

@@ -9,7 +9,7 @@ use Rattle.laws.specs.All.{all}
 use Rattle.laws.specs.Any.{any}
 use Rattle.laws.specs.Tables.{total, over}
 use Rattle.laws.specs.Put.{put}
-use Rattle.words.specs.Command.{commandWord}
+use Rattle.word_parts.specs.Packed.{commandWord}
 use Rattle.text.specs.Split.{onHead, split, led}
 use Rattle.decimal.specs.Decimal as D
 use Rattle.rig.specs.declared.Cycle.{Cycle}

@@ -10,7 +10,7 @@ use Rattle.laws.specs.All.{all}
 use Rattle.laws.specs.Any.{any}
 use Rattle.laws.specs.Tables.{total, over}
 use Rattle.laws.specs.Put.{put}
-use Rattle.words.specs.Command.{commandWord}
+use Rattle.word_parts.specs.Packed.{commandWord}
 use Rattle.rules.specs.Rig as G
 use Rattle.rules.specs.State as S
 use Rattle.rules.specs.State.{blank, waiting, dispatchable}
