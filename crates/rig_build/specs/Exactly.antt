@@ -3,29 +3,33 @@
 --     number-line, number-four, number-none        a number is answered only in its case
 --     line-exactly, long-exactly, four-exactly,
 --     none-exactly                                 .. and always then
+--     accepted-right                               an accepted file's rig is right
 --     first-line, next-line, no-end                which line is the first faulty one
 --     empty-file, no-last-end, no-end-refused      the empty file, one line without LF, any file that does not end in LF
 -- Assumes nothing.
 use Prim.Native.Nat.{ℕ, zero, suc, _+_, _≤_, _<_}
-use mathlib.Core.Path.{_≡_, refl, sym, ap, _∙_}
+use mathlib.Core.Path.{_≡_, refl, sym, ap, subst, _∙_}
 use mathlib.Core.Logic.{_≢_, _↔_}
 use mathlib.Core.Bool.{Bool, true, false, cond, _&&_}
 use mathlib.Core.List.{List, [], _∷_, _++_}
 use native.Mathlib.Omega.{arith}
 use lib.Dec.{eqb, ltb}
 use lib.ListN.{length}
-use borrow.Author.Tests.{ne-eqb, lt-ltb, le-ltb, ltb-true, ltb-false}
+use borrow.Author.Tests.{ne-eqb, eqb-false, lt-ltb, le-ltb, ltb-true, ltb-false}
 use Rattle.laws.specs.Cases.{by}
 use Rattle.laws.specs.First.{firstFalse}
 use Rattle.text.specs.Split.{split}
 use Rattle.text.specs.SplitLaws.{Free, split-last}
+use Rattle.rig.specs.Rules.{Right}
 use Rattle.rig.specs.Forms.{cyclesOf}
+use Rattle.rig.specs.Tests.{firstBroken}
+use Rattle.rig.specs.Whole.{broken-none}
 use Rattle.rig_lines.specs.Line.{Line, lineOf, shaped, sized, ordered, placed, judge}
 use Rattle.rig_lines.specs.File.{Fault, fault, firstFault, faultOf, linesOf}
 use Rattle.rig_lines.specs.RoundTrip.{last-byte}
 use Rattle.rig_build.specs.declared.Answer.{Answer}
-use Rattle.rig_build.specs.Built.{nothing, build}
-use Rattle.rig_build.specs.Read.{lineTests, refusal, accepted, brokenRule, judged, wholeFile, byLines, readOf}
+use Rattle.rig_build.specs.Built.{Built, nothing, build}
+use Rattle.rig_build.specs.Read.{lineTests, refusal, accepted, behind, brokenRule, judged, wholeFile, byLines, readOf}
 
 -- the whole-file rule that a file breaks, 0 for none
 abbrev pub ruleOf : List ℕ → ℕ
@@ -186,6 +190,27 @@ module _ (s : List ℕ) where
 
   pub none-exactly : (readOf s .no ≡ 0) ↔ ((length s ≤ 40960) × (faultOf s .no ≡ 0) × (ruleOf s ≡ 0))
   none-exactly = (λ e. number-none s e, λ w. ap (λ (a : Answer). a .no) (all-right s (w .0) (w .1) (w .2)))
+
+-- ---- an accepted file's rig is right
+
+behind-none : (n : ℕ) → behind n ≡ 0 → n ≡ 0
+unfolding behind
+behind-none zero e = refl
+behind-none (suc n) e = absurd (omega arith)
+
+rig-none : (n : ℕ) (b : Built) → brokenRule n b ≡ 0 → firstBroken (b .rig) (cyclesOf (b .table)) ≡ 0
+unfolding brokenRule
+rig-none n b e =
+    by (eqb n 0)
+    (λ t. behind-none (firstBroken (b .rig) (cyclesOf (b .table))) (rw t at e))
+    (λ t. let z : n ≡ 0 = rw t at e in absurd (eqb-false n 0 t z))
+
+pub accepted-right : (s : List ℕ) → readOf s .no ≡ 0 → Right (readOf s .rig) (readOf s .cycles)
+accepted-right s e =
+    let n = number-none s e in
+    let b = build nothing (linesOf s) in
+    let r = broken-none (b .rig) (cyclesOf (b .table)) .0 (rig-none (firstFalse 1 (lineTests (linesOf s))) b (n .2)) in
+    subst (λ (a : Answer). Right (a .rig) (a .cycles)) (sym (all-right s (n .0) (n .1) (n .2))) r
 
 -- the first faulty line: the lines before it are judged 0, it is not, and what stands after the last LF is no line
 pub first-line : (n p : ℕ) (l m : List ℕ) (ms : List (List ℕ)) → judge p (lineOf l) ≢ 0 → firstFault n p (l ∷ m ∷ ms) ≡ fault (judge p (lineOf l)) n

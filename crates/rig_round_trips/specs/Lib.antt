@@ -5,3 +5,4 @@ pub mod Same
 pub mod Ordered
 pub mod Filled
 pub mod Read
+pub mod Exact
