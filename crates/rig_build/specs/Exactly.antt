@@ -26,7 +26,7 @@ use Rattle.rig.specs.Tests.{firstBroken}
 use Rattle.rig.specs.Whole.{broken-none}
 use Rattle.rig_lines.specs.Line.{Line, lineOf, shaped, sized, ordered, placed, judge}
 use Rattle.rig_lines.specs.File.{Fault, fault, firstFault, faultOf, linesOf}
-use Rattle.rig_lines.specs.RoundTrip.{last-byte}
+use Rattle.rig_lines.specs.Laws.RoundTrip.{last-byte}
 use Rattle.rig_build.specs.declared.Answer.{Answer}
 use Rattle.rig_build.specs.Built.{Built, nothing, build}
 use Rattle.rig_build.specs.Read.{lineTests, refusal, accepted, behind, brokenRule, judged, wholeFile, byLines, readOf}

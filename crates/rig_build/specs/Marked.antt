@@ -17,12 +17,11 @@ use Rattle.laws.specs.Tables.{getD-set, zeros-at}
 use Rattle.laws.specs.First.{firstFalse}
 use Rattle.rig.specs.Forms.{noRig}
 use Rattle.rig_lines.specs.Kinds.{countOf, counts, keysOf, keys, highOf, highs, sorts, sortOf, under, keyed, rank, follows}
-use Rattle.rig_lines.specs.KindLaws.{within-is}
+use Rattle.rig_lines.specs.Laws.Kinds.{within-is}
 use Rattle.rig_lines.specs.Line.{Line, placed, ordered, judge}
-use Rattle.rig_lines.specs.Judged.{judged-sound, shaped-known, shaped-count, sized-fits, fits-at}
-use Rattle.rig_lines.specs.Text.{Faultless}
+use Rattle.rig_lines.specs.Laws.Judged.{Faultless, judged-sound, shaped-known, shaped-count, sized-fits, fits-at}
 use Rattle.rig_lines.specs.File.{Fault, fault, faultOf, linesOf}
-use Rattle.rig_lines.specs.RoundTrip.{written, some-line}
+use Rattle.rig_lines.specs.Laws.RoundTrip.{written, some-line}
 use Rattle.rig_build.specs.declared.Marks.{Marks}
 use Rattle.rig_build.specs.Built.{Built, built, numbers, zeros, noMarks, noTable, nothing, underOne, aboveAfter, withAbove, withCounts, byKind, store, build}
 use Rattle.rig_build.specs.Cases.{by-cases}

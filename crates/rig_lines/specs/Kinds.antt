@@ -94,6 +94,9 @@ unfoldable pub within : ℕ → ℕ → ℕ → Bool
 within k f n = leb (lowOf k f) n && leb n (highOf k f)
 
 -- "periods 1, 2, 4, 8, 16, 32, 64"
+abbrev pub periods : List ℕ
+periods = 1 ∷ 2 ∷ 4 ∷ 8 ∷ 16 ∷ 32 ∷ 64 ∷ []
+
 unfoldable pub listed : ℕ → Bool
 listed p =
     cond (eqb p 1) true (cond (eqb p 2) true (cond (eqb p 4) true (cond (eqb p 8) true (cond (eqb p 16) true (cond (eqb p 32) true (eqb p 64))))))
@@ -123,7 +126,7 @@ kindOf (a ∷ b ∷ c ∷ []) = cond (eqb a 82 && (eqb b 73 && eqb c 71)) 1 0
 kindOf (a ∷ b ∷ c ∷ d ∷ l) = 0
 
 -- a line's place in the order: its kind, then the numbers that the kind rises by. Each is below 256, so that places compare as these
--- do, one after the other: `ordered-exact` (Order)
+-- do, one after the other: `ordered-exact` (Laws/Order)
 unfoldable pub keyed : ℕ → List ℕ → ℕ → ℕ
 keyed k v j = cond (ltb j (keysOf k)) (getD v j 0) 0
 

@@ -19,11 +19,11 @@ use Rattle.decimal.specs.Decimal.{cap, number}
 use Rattle.text.specs.Split.{split, part, rest}
 use Rattle.text.specs.Parts.{Found, rest-none, part-all}
 use Rattle.rig_lines.specs.Kinds.{countOf, highOf, within, timed, kindOf, rank, follows}
-use Rattle.rig_lines.specs.KindLaws.{within-is}
+use Rattle.rig_lines.specs.Laws.Kinds.{within-is}
 use Rattle.rig_lines.specs.Line.{decimals, shaped, fits, sized, placed, ordered, judge}
 use Rattle.rig_lines.specs.File.{fault, firstFault, faultOf, linesIn, linesOf}
-use Rattle.rig_lines.specs.Judged.{judged-one, judged-two, judged-three, sound-judged, shaped-if, sized-if, fits-small, fits-at}
-use Rattle.rig_lines.specs.Turns.{said, fault-line, lines-line, lines-end, end-clean, end-empty, end-open, rest-turn, decimals-turn, decimals-bad, put-turn, put-none, put-at, fits-turn, fits-bad, fits-end, timed-same, rank-same}
+use Rattle.rig_lines.specs.Laws.Judged.{judged-one, judged-two, judged-three, sound-judged, shaped-if, sized-if, fits-small, fits-at}
+use Rattle.rig_lines.specs.Laws.Turns.{said, fault-line, lines-line, lines-end, end-clean, end-empty, end-open, rest-turn, decimals-turn, decimals-bad, put-turn, put-none, put-at, fits-turn, fits-bad, fits-end, timed-same, rank-same}
 use Rattle.rig_build.specs.Built.{Built, nothing, numbers, zeros, store, build}
 use Rattle.rig_build.specs.Laws.{store-same}
 use Rattle.laws.specs.Tables.{zeros-at}

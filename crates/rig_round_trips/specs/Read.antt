@@ -15,9 +15,10 @@ use Rattle.rig.specs.Forms.{cyclesOf, tableOf}
 use Rattle.rig.specs.Tests.{firstBroken, rightB}
 use Rattle.rig.specs.Whole.{right-is}
 use Rattle.rig_lines.specs.Line.{Line}
-use Rattle.rig_lines.specs.Text.{text, Faultless}
+use Rattle.rig_lines.specs.Text.{text}
+use Rattle.rig_lines.specs.Laws.Judged.{Faultless}
 use Rattle.rig_lines.specs.File.{Fault, faultOf, linesOf}
-use Rattle.rig_lines.specs.RoundTrip.{read-lines}
+use Rattle.rig_lines.specs.Laws.RoundTrip.{read-lines}
 use Rattle.rig_build.specs.Built.{Built, numbers, nothing, build}
 use Rattle.rig_build.specs.MarkTests.{markedOne, markTests}
 use Rattle.rig_build.specs.Marked.{after-rig, marks-say}

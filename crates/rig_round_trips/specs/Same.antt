@@ -21,10 +21,10 @@ use Rattle.rig.specs.Rules.{noRow, place}
 use Rattle.rig.specs.Forms.{cyclesOf, tableOf}
 use Rattle.rig_lines.specs.Kinds.{counts, countOf, keys, keysOf, lows, lowOf, highs, highOf, keyed, rank}
 use Rattle.rig_lines.specs.Line.{Line, placed, judge}
-use Rattle.rig_lines.specs.Judged.{judged-sound, shaped-known}
-use Rattle.rig_lines.specs.Text.{text, Faultless}
+use Rattle.rig_lines.specs.Laws.Judged.{Faultless, judged-sound, shaped-known}
+use Rattle.rig_lines.specs.Text.{text}
 use Rattle.rig_lines.specs.File.{linesOf}
-use Rattle.rig_lines.specs.RoundTrip.{written, some-line}
+use Rattle.rig_lines.specs.Laws.RoundTrip.{written, some-line}
 use Rattle.rig_build.specs.declared.Marks.{Marks}
 use Rattle.rig_build.specs.declared.Answer.{Answer}
 use Rattle.rig_build.specs.Built.{Built, built, numbers, zeros, noMarks, noTable, nothing, underOne, aboveAfter, withAbove, withTask, withCondition, withLine, withRow, rowOf, hasLine, oneFlag, putFlag, store, build}

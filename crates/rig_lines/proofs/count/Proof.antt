@@ -1,6 +1,6 @@
 use mathlib.Core.Path.{refl}
 use Rattle.rig_lines.specs.Kinds.{counts, countOf}
-use Rattle.rig_lines.specs.KindLaws.{count-small}
+use Rattle.rig_lines.specs.Laws.Kinds.{count-small}
 use borrow.Author.Needs.{needs}
 use Rattle.rig_lines.proofs.count.Statement.{statement}
 use Rattle.rig_lines.proofs.count.Tie as tie

@@ -1,6 +1,6 @@
 use native.Mathlib.Omega.{arith}
 use Rattle.rig_lines.specs.Kinds.{lows, highs, lowOf, highOf}
-use Rattle.rig_lines.specs.KindLaws.{within-low, within-high, within-fits, low-small, high-small}
+use Rattle.rig_lines.specs.Laws.Kinds.{within-low, within-high, within-fits, low-small, high-small}
 use borrow.Author.Needs.{needs}
 use Rattle.rig_lines.proofs.fits.Statement.{statement}
 use Rattle.rig_lines.proofs.fits.Tie as tie

@@ -20,13 +20,13 @@ use Rattle.decimal.specs.Laws.{number-dec, dec-number}
 use Rattle.text.specs.Split.{split, join, led}
 use Rattle.text.specs.SplitLaws.{Free, Frees, split-cons, join-split, split-piece, split-join}
 use Rattle.rig_lines.specs.Kinds.{within, nameOf, letterOf, kindOf}
-use Rattle.rig_lines.specs.KindLaws.{kind-small, within-small}
+use Rattle.rig_lines.specs.Laws.Kinds.{kind-small, within-small}
 use Rattle.rig_lines.specs.Line.{Line, first, others, lineOf, fits, placed, judge}
-use Rattle.rig_lines.specs.Judged.{judged-sound, shaped-known, sized-fits}
-use Rattle.rig_lines.specs.Order.{EachPassed, InOrder, file-order, order-file}
+use Rattle.rig_lines.specs.Laws.Judged.{Faultless, judged-sound, shaped-known, sized-fits}
+use Rattle.rig_lines.specs.Laws.Order.{EachPassed, InOrder, file-order, order-file}
 use Rattle.rig_lines.specs.File.{Fault, fault, firstFault, faultOf, linesIn, linesOf}
-use Rattle.rig_lines.specs.Turns.{fault-next, lines-next}
-use Rattle.rig_lines.specs.Text.{bytesOf, text, Faultless}
+use Rattle.rig_lines.specs.Laws.Turns.{fault-next, lines-next}
+use Rattle.rig_lines.specs.Text.{bytesOf, text}
 
 numbers-decs : (k f : ℕ) (ns : List ℕ) → fits k f ns ≡ true → map number (map dec ns) ≡ ns
 unfolding fits

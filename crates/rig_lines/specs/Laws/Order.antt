@@ -1,8 +1,5 @@
 -- "Records in this order, each kind rising strictly by its leading numbers (T task; C task and position; A and M all; B lines in row
--- order, free)", said of two lines by their kinds and leading numbers; and that the judging of a line answers exactly that.
---     leading          the numbers that a line's kind rises by
---     Below            one list of numbers before another: compared one after the other
---     Before           kind before kind, and within a kind by the leading numbers
+-- order, free)": the judging of a line answers exactly what `MayFollow` (Words) says.
 --     ordered-first    a line may be the first ↔ it is the RIG line
 --     ordered-exact    a line may follow another ↔ it comes after it, or both are B lines
 --     file-order       the same of all lines of a file, and back: order-file
@@ -18,29 +15,10 @@ use lib.ListN.{length, getD, take, length-take}
 use borrow.Author.Tests.{ltb-true, ltb-false, eqb-true, eqb-false, lt-ltb, le-ltb, le-leb, eq-eqb, ne-eqb}
 use Rattle.laws.specs.Cases.{by}
 use Rattle.rig_lines.specs.Kinds.{keys, keysOf, countOf, keyed, rank, follows}
-use Rattle.rig_lines.specs.KindLaws.{entries, entries-le}
+use Rattle.rig_lines.specs.Laws.Kinds.{entries, entries-le}
 use Rattle.rig_lines.specs.Line.{Line, shaped, sized, placed, ordered}
-use Rattle.rig_lines.specs.Text.{Faultless}
-use Rattle.rig_lines.specs.Judged.{judged-sound, sound-judged, shaped-known, shaped-count, sized-fits, fits-small}
-
--- "its leading numbers (T task; C task and position; A and M all; ..)": as many as `keys` says of the kind
-unfoldable pub leading : Line → List ℕ
-leading r = take (keysOf (r .kind)) (r .nums)
-
--- numbers before numbers: the first decides, where it is the same the others do
-abbrev pub Below : List ℕ → List ℕ → Type 0
-Below [] [] = ⊥
-Below [] (n ∷ ns) = ⊥
-Below (m ∷ ms) [] = ⊥
-Below (m ∷ ms) (n ∷ ns) = (m < n) ⊎ ((m ≡ n) × Below ms ns)
-
--- "Records in this order, each kind rising strictly by its leading numbers": line q comes before line r
-abbrev pub Before : Line → Line → Type 0
-Before q r = (q .kind < r .kind) ⊎ ((q .kind ≡ r .kind) × Below (leading q) (leading r))
-
--- "B lines in row order, free": line r may follow line q
-abbrev pub MayFollow : Line → Line → Type 0
-MayFollow q r = Before q r ⊎ ((q .kind ≡ 6) × (r .kind ≡ 6))
+use Rattle.rig_lines.specs.Words.{leading, Below, Before, MayFollow}
+use Rattle.rig_lines.specs.Laws.Judged.{Faultless, judged-sound, sound-judged, shaped-known, shaped-count, sized-fits, fits-small}
 
 -- a line that is asked for its order, and the line before it: of a known kind, and judged for shape and sizes
 pub record Passed (r : Line) : Type 0 where

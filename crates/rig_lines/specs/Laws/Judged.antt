@@ -10,14 +10,19 @@ use lib.ListN.{length, getD}
 use borrow.Author.Tests.{ltb-true, eqb-true, lt-ltb, eq-eqb}
 use Rattle.laws.specs.All.{and-left, and-right}
 use Rattle.rig_lines.specs.Kinds.{countOf, within, timed}
-use Rattle.rig_lines.specs.KindLaws.{within-small}
-use Rattle.rig_lines.specs.Line.{Line, decimals, shaped, fits, sized, ordered, judge}
+use Rattle.rig_lines.specs.Laws.Kinds.{within-small}
+use Rattle.rig_lines.specs.Line.{Line, decimals, shaped, fits, sized, placed, ordered, judge}
 
 -- a line without a fault has shape, sizes and order
 pub record Sound (p : ℕ) (r : Line) : Type 0 where
   pub shape : shaped r ≡ true
   pub size : sized r ≡ true
   pub order : ordered p r ≡ true
+
+-- lines of known kinds without a fault, after one of place p
+abbrev pub Faultless : ℕ → List Line → Type 0
+Faultless p [] = Unit {0}
+Faultless p (r ∷ rs) = (r .kind < 7) × (judge p r ≡ 0) × Faultless (placed r) rs
 
 three : (a b c : Bool) → cond {A = ℕ} a (cond b (cond c 0 3) 2) 1 ≡ 0 → (a ≡ true) × (b ≡ true) × (c ≡ true)
 three true true true e = (refl, refl, refl)
@@ -91,6 +96,10 @@ shaped-if r a b c = rw (lt-ltb _ _ a, eq-eqb _ _ b) c
 pub sized-fits : (r : Line) → sized r ≡ true → fits (r .kind) 0 (r .nums) ≡ true
 unfolding sized
 sized-fits r e = and-left (fits (r .kind) 0 (r .nums)) (timed (r .kind) (r .nums)) e
+
+pub sized-timed : (r : Line) → sized r ≡ true → timed (r .kind) (r .nums) ≡ true
+unfolding sized
+sized-timed r e = and-right (fits (r .kind) 0 (r .nums)) (timed (r .kind) (r .nums)) e
 
 pub sized-if : (r : Line) → fits (r .kind) 0 (r .nums) ≡ true → timed (r .kind) (r .nums) ≡ true → sized r ≡ true
 unfolding sized
