@@ -5,3 +5,4 @@ pub mod Shape
 pub mod Turns
 pub mod RoundTrip
 pub mod FirstFaulty
+pub mod Whole

@@ -8,7 +8,7 @@ use lib.ListN.{length, getD, take}
 use Rattle.laws.specs.Members.{In}
 use Rattle.decimal.specs.Plain.{Decimal}
 use Rattle.text.specs.Split.{split}
-use Rattle.rig_lines.specs.Kinds.{countOf, keysOf, lowOf, highOf, kindOf, periods}
+use Rattle.rig_lines.specs.Kinds.{kindRIG, kindB, countOf, keysOf, lowOf, highOf, kindOf, periods}
 use Rattle.rig_lines.specs.Line.{Line, first, others, lineOf}
 
 -- ---- shape
@@ -29,7 +29,7 @@ pub record Shape (l : List ℕ) : Type 0 where
 -- every number is within its size; of a B line, "periods 1, 2, 4, 8, 16, 32, 64, phase below the period"
 pub record Sizes (r : Line) : Type 0 where
   pub within : (i : ℕ) → i < length (r .nums) → (lowOf (r .kind) i ≤ getD (r .nums) i 0) × (getD (r .nums) i 0 ≤ highOf (r .kind) i)
-  pub timed : r .kind ≡ 6 → In (getD (r .nums) 5 0) periods × (getD (r .nums) 6 0 < getD (r .nums) 5 0)
+  pub timed : r .kind ≡ kindB → In (getD (r .nums) 5 0) periods × (getD (r .nums) 6 0 < getD (r .nums) 5 0)
 
 -- ---- order
 
@@ -50,7 +50,7 @@ Before q r = (q .kind < r .kind) ⊎ ((q .kind ≡ r .kind) × Below (leading q)
 
 -- "B lines in row order, free": line r may follow line q
 abbrev pub MayFollow : Line → Line → Type 0
-MayFollow q r = Before q r ⊎ ((q .kind ≡ 6) × (r .kind ≡ 6))
+MayFollow q r = Before q r ⊎ ((q .kind ≡ kindB) × (r .kind ≡ kindB))
 
 -- ---- the lines of a file, counted from 0
 
@@ -64,7 +64,7 @@ Ended s n = n + 1 < length (split 10 s)
 
 -- the first line is RIG, and each other one may follow the line before it
 abbrev pub InPlace : List ℕ → ℕ → Type 0
-InPlace s zero = lineOf (lineAt s 0) .kind ≡ 1
+InPlace s zero = lineOf (lineAt s 0) .kind ≡ kindRIG
 InPlace s (suc n) = MayFollow (lineOf (lineAt s n)) (lineOf (lineAt s (suc n)))
 
 -- refusal number j is due to line n: "1: a line .. has the wrong shape, or no LF; empty file (line 1)", "2: a number is outside its size",
@@ -80,3 +80,7 @@ pub record FirstFaulty (s : List ℕ) (n j : ℕ) : Type 0 where
   pub before : (i k : ℕ) → i < n → Wrong s i k → ⊥
   pub here : Wrong s n j
   pub least : (k : ℕ) → k < j → Wrong s n k → ⊥
+
+-- no line is faulty
+abbrev pub NoneFaulty : List ℕ → Type 0
+NoneFaulty s = (n k : ℕ) → Wrong s n k → ⊥

@@ -17,7 +17,7 @@ use Rattle.text.specs.Split.{split}
 use Rattle.text.specs.SplitLaws.{split-cons}
 use Rattle.rig_lines.specs.Line.{Line, lineOf, shaped, sized, placed, ordered, judge}
 use Rattle.rig_lines.specs.File.{Fault, fault, firstFault, faultOf}
-use Rattle.rig_lines.specs.Words.{lineAt, Ended, InPlace, Wrong, unended, shape, size, order, FirstFaulty}
+use Rattle.rig_lines.specs.Words.{lineAt, Ended, InPlace, Wrong, unended, shape, size, order, FirstFaulty, NoneFaulty}
 use Rattle.rig_lines.specs.Laws.Kinds.{kind-small}
 use Rattle.rig_lines.specs.Laws.Judged.{judged-sound, sound-judged, judged-one, judged-two, judged-three}
 use Rattle.rig_lines.specs.Laws.Order.{Passed, ordered-first, ordered-exact}
@@ -283,7 +283,7 @@ module _ (s : List ℕ) where
               let b : 1 + m ≡ suc n = omega arith in
               f ∙ rw (a, b)))
 
-  pub none-faulty : (faultOf s .no ≡ 0) ↔ ((n k : ℕ) → Wrong s n k → ⊥)
+  pub none-faulty : (faultOf s .no ≡ 0) ↔ NoneFaulty s
   none-faulty = (λ e. there e the-outcome, λ w. back w the-outcome)
     where
       there : faultOf s .no ≡ 0 → Outcome 1 0 (split 10 s) (faultOf s) → (n k : ℕ) → Wrong s n k → ⊥

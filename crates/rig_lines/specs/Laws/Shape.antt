@@ -19,7 +19,7 @@ use Rattle.decimal.specs.Decimal.{cap, number}
 use Rattle.decimal.specs.Plain.{number-exact}
 use Rattle.text.specs.Split.{split}
 use Rattle.rig_lines.specs.Kinds.{lowOf, highOf, within, listed, timed, periods}
-use Rattle.rig_lines.specs.Laws.Kinds.{within-is, within-fits}
+use Rattle.rig_lines.specs.Laws.Kinds.{within-is, within-fits, is-always}
 use Rattle.rig_lines.specs.Line.{Line, lineOf, others, decimals, shaped, fits, sized}
 use Rattle.rig_lines.specs.Words.{Decimals, Shape, Sizes}
 use Rattle.rig_lines.specs.Laws.Judged.{shaped-known, shaped-count, shaped-decimals, shaped-if, sized-fits, sized-timed, sized-if, fits-at}
@@ -83,10 +83,7 @@ fits-if k f (n ∷ ns) h =
 timed-exact : (r : Line) → (timed (r .kind) (r .nums) ≡ true) ↔ (r .kind ≡ 6 → In (getD (r .nums) 5 0) periods × (getD (r .nums) 6 0 < getD (r .nums) 5 0))
 unfolding timed
 timed-exact r =
-    is-said (is-if (is-eqb (r .kind) 6) (is-and (listed-exact (getD (r .nums) 5 0)) (is-ltb (getD (r .nums) 6 0) (getD (r .nums) 5 0))) (is-always)) (λ w. w .0) (λ w. (w, λ _. tt))
-  where
-    is-always : Is true (Unit {0})
-    is-always = (λ _. tt, λ _. refl)
+    is-said (is-if (is-eqb (r .kind) 6) (is-and (listed-exact (getD (r .nums) 5 0)) (is-ltb (getD (r .nums) 6 0) (getD (r .nums) 5 0))) is-always) (λ w. w .0) (λ w. (w, λ _. tt))
 
 pub sized-exact : (r : Line) → (sized r ≡ true) ↔ Sizes r
 sized-exact r = (

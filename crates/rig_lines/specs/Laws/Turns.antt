@@ -1,22 +1,23 @@
 -- What a turn of a loop over lines, fields or sizes does to what is left to be read.
 -- Assumes nothing.
 use Prim.Native.Nat.{ℕ, zero, suc, _+_, _-_, _≤_, _<_}
-use mathlib.Core.Path.{_≡_, refl, ap, _∙_}
+use mathlib.Core.Path.{_≡_, refl, sym, ap, _∙_}
 use mathlib.Core.Bool.{Bool, true, false, cond, _&&_}
 use mathlib.Core.List.{List, [], _∷_, _++_, map, append-assoc}
 use native.Mathlib.Omega.{arith}
 use native.Mathlib.Numerals.{add-one}
 use native.Mathlib.Nat.{add-zero}
 use lib.Dec.{ltb, eqb}
-use lib.ListN.{length, getD, drop, set, take-append-drop, drop-of-length-le}
-use lib.Seq.{take-suc-set, drop-set-lt, drop-cons}
+use lib.ListN.{length, getD, drop, take, set, take-append-drop, drop-of-length-le}
+use lib.Seq.{take-suc-set, drop-set-lt, drop-cons, getD-take, length-take-le}
 use borrow.Author.Tests.{lt-ltb, le-ltb, le-leb, lt-leb, ne-eqb}
 use Rattle.laws.specs.Put.{put}
 use Rattle.decimal.specs.Decimal.{cap, number}
 use Rattle.text.specs.Split.{split, part, rest}
 use Rattle.text.specs.SplitLaws.{split-cons}
 use Rattle.text.specs.Parts.{Found, piece, rest-next, rest-none, part-none, length-part}
-use Rattle.rig_lines.specs.Kinds.{kindOf, within, timed, rank, keyed}
+use Rattle.rig_lines.specs.Kinds.{kindOf, lowOf, highOf, within, timed, rank, keyed}
+use Rattle.rig_lines.specs.Laws.Kinds.{within-low, within-high, within-fits}
 use Rattle.rig_lines.specs.Line.{Line, lineOf, first, others, decimals, fits, placed, judge}
 use Rattle.rig_lines.specs.File.{Fault, fault, firstFault, linesIn}
 
@@ -130,6 +131,30 @@ fits-bad k j ns h t = rw (drop-cons ns j 0 h, t)
 pub fits-end : (k j : ℕ) (ns : List ℕ) → length ns ≤ j → fits k j (drop j ns) ≡ true
 unfolding fits
 fits-end k j ns h = rw (drop-of-length-le ns h)
+
+-- the sizes of the first m numbers of v, one after the other: a number within its size, one that is not, and the end
+module _ (k m : ℕ) (v : List ℕ) (long : m ≤ length v) (j : ℕ) (so-far : fits k j (drop j (take m v)) ≡ fits k 0 (take m v)) where
+  few : length (take m v) ≡ m
+  few = length-take-le m v long
+
+  module _ (h : j < m) where
+    here : getD (take m v) j 0 ≡ getD v j 0
+    here = getD-take m v j 0 h
+
+    pub size-on : lowOf k j ≤ getD v j 0 → getD v j 0 ≤ highOf k j → fits k (j + 1) (drop (j + 1) (take m v)) ≡ fits k 0 (take m v)
+    size-on a b = fits-turn k j (take m v) (omega (arith, few)) (rw here (sym (within-fits k j (getD v j 0) a b))) ∙ so-far
+
+    size-bad : within k j (getD v j 0) ≡ false → (t : Bool) → false ≡ (fits k 0 (take m v) && t)
+    size-bad e t = sym (rw (← so-far, fits-bad k j (take m v) (omega (arith, few)) (rw here e)))
+
+    pub size-low : getD v j 0 < lowOf k j → (t : Bool) → false ≡ (fits k 0 (take m v) && t)
+    size-low a = size-bad (sym (within-low k j (getD v j 0) a))
+
+    pub size-high : lowOf k j ≤ getD v j 0 → highOf k j < getD v j 0 → (t : Bool) → false ≡ (fits k 0 (take m v) && t)
+    size-high a b = size-bad (sym (within-high k j (getD v j 0) a b))
+
+  pub size-end : m ≤ j → (t r : Bool) → r ≡ t → r ≡ (fits k 0 (take m v) && t)
+  size-end h t r e = rw (← so-far, fits-end k j (take m v) (omega (arith, few))) e
 
 -- what goes by the numbers goes by another list with the same numbers
 pub timed-same : (k : ℕ) (v u : List ℕ) → ((i : ℕ) → getD v i 0 ≡ getD u i 0) → timed k v ≡ timed k u
