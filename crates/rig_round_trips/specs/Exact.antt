@@ -1,6 +1,7 @@
 -- A FILE, EXACTLY.
 --     accepted-exactly    a file is accepted, as the rig g with its cycles ↔ g is right and the file is g's
 --     four-exactly        4 ↔ no line is faulty, the file is not too long, and it is the file of no right rig
+--     four-in-words       the same, with what a faulty line is in the paper's words
 -- What the file of a rig is, `fileOf` says (rig_write/File): the text that the writer writes. Neither speaks of how a file is read.
 -- Assumes nothing.
 use Prim.Native.Nat.{ℕ, suc, _≤_}
@@ -14,9 +15,11 @@ use Rattle.rig.specs.declared.Rig.{Rig}
 use Rattle.rig.specs.Rules.{Right}
 use Rattle.rig.specs.Forms.{tableOf}
 use Rattle.rig_lines.specs.File.{Fault, fault, faultOf}
+use Rattle.rig_lines.specs.Words.{NoneFaulty}
+use Rattle.rig_lines.specs.Laws.FirstFaulty.{none-faulty}
 use Rattle.rig_build.specs.declared.Answer.{Answer}
 use Rattle.rig_build.specs.Read.{accepted, readOf}
-use Rattle.rig_build.specs.Exactly.{Way, long, line, whole, right, way, whole-broken, all-right, accepted-right, number-four}
+use Rattle.rig_build.specs.Laws.Exactly.{Way, long, line, whole, right, way, whole-broken, all-right, accepted-right, number-four}
 use Rattle.rig_write.specs.File.{fileOf}
 use Rattle.rig_round_trips.specs.Read.{read-written}
 use Rattle.rig_round_trips.specs.Same.{same-bytes}
@@ -50,3 +53,10 @@ four-exactly s = (there, λ w. back (w .0) (w .1) (w .2) (way s))
     back h c n (line j m k f l) = let z : _≡_ {A = ℕ} (suc j) 0 = sym (ap (λ (a : Fault). a .no) f) ∙ c in absurd (omega arith)
     back h c n (whole k l f r) = ap (λ (a : Answer). a .no) (whole-broken s l f k r)
     back h c n (right k f r) = absurd (n _ _ (accepted-exactly s _ _ .0 (all-right s k f r)))
+
+pub four-in-words : (s : List ℕ) →
+    (readOf s .no ≡ 4) ↔ ((length s ≤ 40960) × NoneFaulty s × ((g : Rig) (cycles : List Cycle) → FileOfRight s g cycles → ⊥))
+four-in-words s = (
+  λ e. let w = four-exactly s .0 e in (w .0, none-faulty s .0 (w .1), w .2),
+  λ w. four-exactly s .1 (w .0, none-faulty s .1 (w .1), w .2),
+)

@@ -1,3 +1,8 @@
+pub mod Built
+pub mod Cases
+pub mod MarkTests
+pub mod Marked
+pub mod Bridge
 pub mod Kept
 pub mod Back
 pub mod Steps

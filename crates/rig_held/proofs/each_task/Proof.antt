@@ -8,9 +8,6 @@ use Rattle.laws.specs.All.{all, all-zero, all-next, all-not}
 use Rattle.rig_held.specs.Laws.Rules.{markedOne}
 use Rattle.rig_held.proofs.each_task.Statement.{statement}
 use Rattle.rig_held.proofs.each_task.Tie as tie
-use Rattle.rig_held.proofs.each_task.Reads as reads
-use Rattle.rig_held.proofs.each_task.Lts as lts
-use Rattle.decimal.proofs.wide.Reads as wide-reads
 
 abbrev Inv-loop : tie.InvT-loop
 Inv-loop tasks has n i₀ i = (i ≤ n) × (all i (markedOne has) ≡ true)
@@ -18,39 +15,30 @@ Inv-loop tasks has n i₀ i = (i ≤ n) × (all i (markedOne has) ≡ true)
 abbrev μ-loop : tie.MeasureT-loop
 μ-loop tasks has n i₀ i = n - i
 
--- src/lib.rt:136:9
 wide-requires : tie.Need-wide-requires Inv-loop μ-loop
 wide-requires c κs = search needs
 
--- src/lib.rt:138:5
 loop-holds : tie.Need-loop-holds Inv-loop μ-loop
 loop-holds c = (search needs, all-zero _)
 
--- src/lib.rt:139:16
 add-if1 : tie.Need-add-if1 Inv-loop μ-loop
 add-if1 c = search needs
 
--- src/lib.rt:139:12
 array-read-if1 : tie.Need-array-read-if1 Inv-loop μ-loop
 array-read-if1 c = search needs
 
--- src/lib.rt:140:13
 returns : tie.Need-returns Inv-loop μ-loop
 returns c = (sym (all-not _ _ _ (omega (arith, c .before .loop-test .taken, c .before .before .before .wide .ensures .0)) (ne-eqb _ _ (c .if1 .taken))), search needs)
 
--- src/lib.rt:142:9
 add-i : tie.Need-add-i Inv-loop μ-loop
 add-i c = search needs
 
--- src/lib.rt:138:5
 loop-less : tie.Need-loop-less Inv-loop μ-loop
 loop-less c = search needs
 
--- src/lib.rt:138:5
 loop-again : tie.Need-loop-again Inv-loop μ-loop
 loop-again c = (omega arith, all-next _ _ (c .before .before .loop .inv .1) (eq-eqb _ _ (c .if1 .left)))
 
--- src/lib.rt:133:1
 returns-2 : tie.Need-returns-2 Inv-loop μ-loop
 returns-2 c = let e : c .before .loop .i ≡ c .before .before .before .args .tasks = omega (arith, c .before .before .wide .ensures .0) in (sym (rw e at (c .before .loop .inv .1)), search needs)
 

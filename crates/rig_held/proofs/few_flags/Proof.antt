@@ -8,8 +8,6 @@ use Rattle.laws.specs.All.{all, all-zero, all-next, all-not}
 use Rattle.rig_held.specs.Laws.Rules.{fewOne}
 use Rattle.rig_held.proofs.few_flags.Statement.{statement}
 use Rattle.rig_held.proofs.few_flags.Tie as tie
-use Rattle.rig_held.proofs.few_flags.Reads as reads
-use Rattle.rig_held.proofs.few_flags.Lts as lts
 
 abbrev Inv-loop : tie.InvT-loop
 Inv-loop many c₀ c = (c ≤ 64) × (all c (fewOne many) ≡ true)
@@ -17,35 +15,27 @@ Inv-loop many c₀ c = (c ≤ 64) × (all c (fewOne many) ≡ true)
 abbrev μ-loop : tie.MeasureT-loop
 μ-loop many c₀ c = 64 - c
 
--- src/lib.rt:170:5
 loop-holds : tie.Need-loop-holds Inv-loop μ-loop
 loop-holds c = (search needs, all-zero _)
 
--- src/lib.rt:171:17
 mul-if1 : tie.Need-mul-if1 Inv-loop μ-loop
 mul-if1 c = search needs
 
--- src/lib.rt:171:17
 array-read-if1 : tie.Need-array-read-if1 Inv-loop μ-loop
 array-read-if1 c = search needs
 
--- src/lib.rt:172:13
 returns : tie.Need-returns Inv-loop μ-loop
 returns c = sym (all-not _ _ _ (c .before .loop-test .taken) (lt-leb _ _ (c .if1 .taken)))
 
--- src/lib.rt:174:9
 add-c : tie.Need-add-c Inv-loop μ-loop
 add-c c = search needs
 
--- src/lib.rt:170:5
 loop-less : tie.Need-loop-less Inv-loop μ-loop
 loop-less c = search needs
 
--- src/lib.rt:170:5
 loop-again : tie.Need-loop-again Inv-loop μ-loop
 loop-again c = (omega arith, all-next _ _ (c .before .before .loop .inv .1) (le-leb _ _ (c .if1 .left)))
 
--- src/lib.rt:166:1
 returns-2 : tie.Need-returns-2 Inv-loop μ-loop
 returns-2 c = let e : c .before .loop .c ≡ 64 = omega arith in sym (rw e at (c .before .loop .inv .1))
 

@@ -7,9 +7,6 @@ use Rattle.laws.specs.Tables.{zeros-at}
 use Rattle.rig_held.specs.Laws.Rules.{Counted, counted-none, counted-on, counted-skip, counted-room}
 use Rattle.rig_held.proofs.flag_counts.Statement.{statement}
 use Rattle.rig_held.proofs.flag_counts.Tie as tie
-use Rattle.rig_held.proofs.flag_counts.Reads as reads
-use Rattle.rig_held.proofs.flag_counts.Lts as lts
-use Rattle.decimal.proofs.wide.Reads as wide-reads
 
 abbrev Inv-loop : tie.InvT-loop
 Inv-loop lines n many₀ i₀ many i = (i ≤ n) × Counted lines many i
@@ -17,63 +14,48 @@ Inv-loop lines n many₀ i₀ many i = (i ≤ n) × Counted lines many i
 abbrev μ-loop : tie.MeasureT-loop
 μ-loop lines n many₀ i₀ many i = n - i
 
--- src/lib.rt:154:5
 loop-holds : tie.Need-loop-holds Inv-loop μ-loop
 loop-holds c = (search needs, counted-none _ _ refl (zeros-at 256))
 
--- src/lib.rt:155:17
 mul-a : tie.Need-mul-a Inv-loop μ-loop
 mul-a c = search needs
 
--- src/lib.rt:156:12
 element-copy-out-if1 : tie.Need-element-copy-out-if1 Inv-loop μ-loop
 element-copy-out-if1 c = search needs
 
--- src/lib.rt:157:41
 add-wide : tie.Need-add-wide Inv-loop μ-loop
 add-wide c = search needs
 
--- src/lib.rt:157:35
 element-copy-out-wide : tie.Need-element-copy-out-wide Inv-loop μ-loop
 element-copy-out-wide c = search needs
 
--- src/lib.rt:157:17
 wide-requires : tie.Need-wide-requires Inv-loop μ-loop
 wide-requires c κs = search needs
 
--- src/lib.rt:158:23
 mul-many : tie.Need-mul-many Inv-loop μ-loop
 mul-many c = search needs
 
--- src/lib.rt:158:23
 array-read-many : tie.Need-array-read-many Inv-loop μ-loop
 array-read-many c = search needs
 
--- src/lib.rt:158:23
 add-many : tie.Need-add-many Inv-loop μ-loop
 add-many c = record { fits = omega (arith, counted-room _ _ _ (c .before .before .before .before .before .loop .inv .1) _ (c .before .before .before .before .loop-test .taken) (c .before .before .before .before .before .before .pre) _ (c .wide .ensures .1)) }
 
--- src/lib.rt:158:13
 mul-many-2 : tie.Need-mul-many-2 Inv-loop μ-loop
 mul-many-2 c = search needs
 
--- src/lib.rt:158:13
 array-write-many : tie.Need-array-write-many Inv-loop μ-loop
 array-write-many c = search needs
 
--- src/lib.rt:160:9
 add-i : tie.Need-add-i Inv-loop μ-loop
 add-i c = search needs
 
--- src/lib.rt:154:5
 loop-less : tie.Need-loop-less Inv-loop μ-loop
 loop-less c = search needs
 
--- src/lib.rt:154:5
 loop-again : tie.Need-loop-again Inv-loop μ-loop
 loop-again c = ⊎-elim (λ v. (omega arith, counted-on _ _ _ (c .before .before .before .loop .inv .1) (v .0 .taken) _ (v .2 .ensures .0) _ (v .3))) (λ v. (omega arith, rw (v .1) (counted-skip _ _ _ (c .before .before .before .loop .inv .1) (v .0 .left)))) (c .if1 .came)
 
--- src/lib.rt:148:1
 returns : tie.Need-returns Inv-loop μ-loop
 returns c = let e : c .before .loop .i ≡ c .before .before .args .n = omega arith in let w : Counted (c .before .before .args .lines .now) (c .before .loop .many) (c .before .before .args .n) = rw (← e) (c .before .loop .inv .1) in w .says
 

@@ -8,8 +8,6 @@ use Rattle.rig_held.specs.Held.{heldLine, held}
 use Rattle.rig_held.specs.Laws.Rules.{many-none, many-yes, many-no, kind-yes, kind-no}
 use Rattle.rig_held.proofs.how_many.Statement.{statement}
 use Rattle.rig_held.proofs.how_many.Tie as tie
-use Rattle.rig_held.proofs.how_many.Reads as reads
-use Rattle.rig_held.proofs.how_many.Lts as lts
 
 abbrev Inv-loop : tie.InvT-loop
 Inv-loop lines n kind c₀ i₀ c i = (i ≤ n) × ((c ≤ i) × (c ≡ howMany (isKind kind) (held lines i)))
@@ -17,35 +15,27 @@ Inv-loop lines n kind c₀ i₀ c i = (i ≤ n) × ((c ≤ i) × (c ≡ howMany 
 abbrev μ-loop : tie.MeasureT-loop
 μ-loop lines n kind c₀ i₀ c i = n - i
 
--- src/lib.rt:105:5
 loop-holds : tie.Need-loop-holds Inv-loop μ-loop
 loop-holds c = (search needs, (search needs, sym (many-none _ _)))
 
--- src/lib.rt:106:18
 mul-if1 : tie.Need-mul-if1 Inv-loop μ-loop
 mul-if1 c = search needs
 
--- src/lib.rt:106:12
 element-copy-out-if1 : tie.Need-element-copy-out-if1 Inv-loop μ-loop
 element-copy-out-if1 c = search needs
 
--- src/lib.rt:107:13
 add-c : tie.Need-add-c Inv-loop μ-loop
 add-c c = search needs
 
--- src/lib.rt:109:9
 add-i : tie.Need-add-i Inv-loop μ-loop
 add-i c = search needs
 
--- src/lib.rt:105:5
 loop-less : tie.Need-loop-less Inv-loop μ-loop
 loop-less c = search needs
 
--- src/lib.rt:105:5
 loop-again : tie.Need-loop-again Inv-loop μ-loop
 loop-again c = let w = c .before .before .before .loop .inv in ⊎-elim (λ v. (omega arith, (omega (arith, v .1, w .1 .0), v .1 ∙ (omega (arith, w .1 .1, many-yes (isKind (c .before .before .before .before .args .kind)) (c .before .before .before .before .args .lines .now) (c .before .before .before .loop .i) (kind-yes _ _ _ (v .0 .taken))))))) (λ v. (omega arith, (omega (arith, v .1, w .1 .0), v .1 ∙ (w .1 .1 ∙ sym (many-no _ _ _ (kind-no _ _ _ (v .0 .left))))))) (c .if1 .came)
 
--- src/lib.rt:99:1
 returns : tie.Need-returns Inv-loop μ-loop
 returns c = let e : c .before .loop .i ≡ c .before .before .args .n = omega arith in (rw (← e) (c .before .loop .inv .1 .1), omega arith)
 

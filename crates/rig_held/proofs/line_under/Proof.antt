@@ -12,11 +12,6 @@ use Rattle.rig_held.specs.Held.{heldLine}
 use Rattle.rig_held.specs.Laws.Rules.{task-over, task-under, flag-over, flag-under, other-under, under-all}
 use Rattle.rig_held.proofs.line_under.Statement.{statement}
 use Rattle.rig_held.proofs.line_under.Tie as tie
-use Rattle.rig_held.proofs.line_under.Reads as reads
-use Rattle.rig_held.proofs.line_under.Lts as lts
-use Rattle.decimal.proofs.wide.Reads as wide-reads
-use Rattle.rig_lines.proofs.count.Reads as count-reads
-use Rattle.rig_lines.proofs.sorts.Reads as sorts-reads
 
 abbrev Inv-loop : tie.InvT-loop
 Inv-loop lines i tasks flags a k m sort j₀ j = (j ≤ m) × ((m ≡ countOf (getD lines (10 * i) 0)) × (all j (numberUnder tasks flags (heldLine lines i)) ≡ true))
@@ -24,71 +19,54 @@ Inv-loop lines i tasks flags a k m sort j₀ j = (j ≤ m) × ((m ≡ countOf (g
 abbrev μ-loop : tie.MeasureT-loop
 μ-loop lines i tasks flags a k m sort j₀ j = m - j
 
--- src/lib.rt:62:13
 mul-a : tie.Need-mul-a Inv-loop μ-loop
 mul-a c = search needs
 
--- src/lib.rt:63:27
 element-copy-out-wide : tie.Need-element-copy-out-wide Inv-loop μ-loop
 element-copy-out-wide c = search needs
 
--- src/lib.rt:63:9
 wide-requires : tie.Need-wide-requires Inv-loop μ-loop
 wide-requires c κs = search needs
 
--- src/lib.rt:64:9
 count-requires : tie.Need-count-requires Inv-loop μ-loop
 count-requires c κs = search needs
 
--- src/lib.rt:65:16
 sorts-requires : tie.Need-sorts-requires Inv-loop μ-loop
 sorts-requires c κs = search needs
 
--- src/lib.rt:67:5
 loop-holds : tie.Need-loop-holds Inv-loop μ-loop
 loop-holds c = (search needs, (c .before .count .ensures .0 ∙ ap countOf (c .before .before .wide .ensures .0), all-zero _))
 
--- src/lib.rt:68:23
 add-x : tie.Need-add-x Inv-loop μ-loop
 add-x c = search needs
 
--- src/lib.rt:68:23
 add-x-2 : tie.Need-add-x-2 Inv-loop μ-loop
 add-x-2 c = search needs
 
--- src/lib.rt:68:17
 element-copy-out-x : tie.Need-element-copy-out-x Inv-loop μ-loop
 element-copy-out-x c = search needs
 
--- src/lib.rt:69:12
 array-read-if1 : tie.Need-array-read-if1 Inv-loop μ-loop
 array-read-if1 c = search needs
 
--- src/lib.rt:71:17
 returns : tie.Need-returns Inv-loop μ-loop
 returns c = let W = c .before .before .before .before .before .before .before .wide .ensures .0 in let s = c .before .before .before .before .before .sorts .ensures (c .before .before .before .before .loop .j) (omega arith) in let h : c .before .before .before .before .loop .j < countOf (getD (c .before .before .before .before .before .before .before .before .before .args .lines .now) (10 * c .before .before .before .before .before .before .before .before .before .args .i) 0) = omega (arith, c .before .before .before .loop-test .taken, c .before .before .before .before .loop .inv .1 .0) in let K : sortOf (getD (c .before .before .before .before .before .before .before .before .before .args .lines .now) (10 * c .before .before .before .before .before .before .before .before .before .args .i) 0) (c .before .before .before .before .loop .j) ≡ getD (c .before .before .before .before .before .sorts .result) (c .before .before .before .before .loop .j) 0 = ap (λ (x : ℕ). sortOf x (c .before .before .before .before .loop .j)) (sym W) ∙ sym s in under-all _ _ _ _ _ (c .before .before .before .before .loop .inv .1 .0) false (sym (all-not _ _ _ (c .before .before .before .loop-test .taken) (task-over _ _ _ _ _ h (K ∙ c .before .if1 .taken) (c .if2 .taken))))
 
--- src/lib.rt:73:19
 array-read-if3 : tie.Need-array-read-if3 Inv-loop μ-loop
 array-read-if3 c = search needs
 
--- src/lib.rt:75:17
 returns-2 : tie.Need-returns-2 Inv-loop μ-loop
 returns-2 c = let W = c .before .before .before .before .before .before .before .before .wide .ensures .0 in let s = c .before .before .before .before .before .before .sorts .ensures (c .before .before .before .before .before .loop .j) (omega arith) in let h : c .before .before .before .before .before .loop .j < countOf (getD (c .before .before .before .before .before .before .before .before .before .before .args .lines .now) (10 * c .before .before .before .before .before .before .before .before .before .before .args .i) 0) = omega (arith, c .before .before .before .before .loop-test .taken, c .before .before .before .before .before .loop .inv .1 .0) in let K : sortOf (getD (c .before .before .before .before .before .before .before .before .before .before .args .lines .now) (10 * c .before .before .before .before .before .before .before .before .before .before .args .i) 0) (c .before .before .before .before .before .loop .j) ≡ getD (c .before .before .before .before .before .before .sorts .result) (c .before .before .before .before .before .loop .j) 0 = ap (λ (x : ℕ). sortOf x (c .before .before .before .before .before .loop .j)) (sym W) ∙ sym s in under-all _ _ _ _ _ (c .before .before .before .before .before .loop .inv .1 .0) false (sym (all-not _ _ _ (c .before .before .before .before .loop-test .taken) (flag-over _ _ _ _ _ h (λ q. c .before .before .if1 .left (sym K ∙ q)) (K ∙ c .before .if3 .taken) (c .if4 .taken))))
 
--- src/lib.rt:78:9
 add-j : tie.Need-add-j Inv-loop μ-loop
 add-j c = search needs
 
--- src/lib.rt:67:5
 loop-less : tie.Need-loop-less Inv-loop μ-loop
 loop-less c = search needs
 
--- src/lib.rt:67:5
 loop-again : tie.Need-loop-again Inv-loop μ-loop
 loop-again c = let W = c .before .before .before .before .before .before .wide .ensures .0 in let s = c .before .before .before .before .sorts .ensures (c .before .before .before .loop .j) (omega arith) in let h : c .before .before .before .loop .j < countOf (getD (c .before .before .before .before .before .before .before .before .args .lines .now) (10 * c .before .before .before .before .before .before .before .before .args .i) 0) = omega (arith, c .before .before .loop-test .taken, c .before .before .before .loop .inv .1 .0) in let K : sortOf (getD (c .before .before .before .before .before .before .before .before .args .lines .now) (10 * c .before .before .before .before .before .before .before .before .args .i) 0) (c .before .before .before .loop .j) ≡ getD (c .before .before .before .before .sorts .result) (c .before .before .before .loop .j) 0 = ap (λ (x : ℕ). sortOf x (c .before .before .before .loop .j)) (sym W) ∙ sym s in (omega arith, (c .before .before .before .loop .inv .1 .0, all-next _ _ (c .before .before .before .loop .inv .1 .1) (⊎-elim (λ v. task-under _ _ _ _ _ h (K ∙ v .0 .taken) (v .1 .left)) (⊎-elim (λ v. flag-under _ _ _ _ _ h (λ q. v .0 .left (sym K ∙ q)) (K ∙ v .1 .taken) (v .2 .left)) (λ v. other-under _ _ _ _ _ h (λ q. v .0 .left (sym K ∙ q)) (λ q. v .1 .left (sym K ∙ q)))) (c .if1 .came))))
 
--- src/lib.rt:58:1
 returns-3 : tie.Need-returns-3 Inv-loop μ-loop
 returns-3 c = let e : c .before .loop .j ≡ c .before .before .before .count .result = omega arith in under-all _ _ _ _ _ (c .before .loop .inv .1 .0) true (sym (rw e at (c .before .loop .inv .1 .1)))
 

@@ -9,9 +9,6 @@ use Rattle.rig_held.specs.Held.{held}
 use Rattle.rig_held.specs.Laws.Rules.{every-none, every-on, every-not}
 use Rattle.rig_held.proofs.none_above.Statement.{statement}
 use Rattle.rig_held.proofs.none_above.Tie as tie
-use Rattle.rig_held.proofs.none_above.Reads as reads
-use Rattle.rig_held.proofs.none_above.Lts as lts
-use Rattle.rig_held.proofs.line_under.Reads as line-under-reads
 
 abbrev Inv-loop : tie.InvT-loop
 Inv-loop lines n tasks flags i₀ i = (i ≤ n) × (every (lineUnder tasks flags) (held lines i) ≡ true)
@@ -19,31 +16,24 @@ Inv-loop lines n tasks flags i₀ i = (i ≤ n) × (every (lineUnder tasks flags
 abbrev μ-loop : tie.MeasureT-loop
 μ-loop lines n tasks flags i₀ i = n - i
 
--- src/lib.rt:89:5
 loop-holds : tie.Need-loop-holds Inv-loop μ-loop
 loop-holds c = (search needs, every-none _ _)
 
--- src/lib.rt:90:13
 line-under-requires : tie.Need-line-under-requires Inv-loop μ-loop
 line-under-requires c κs = search needs
 
--- src/lib.rt:91:13
 returns : tie.Need-returns Inv-loop μ-loop
 returns c = sym (every-not _ _ _ _ (c .before .before .loop-test .taken) (sym (c .before .line-under .ensures) ∙ not-true _ (c .if1 .taken)))
 
--- src/lib.rt:93:9
 add-i : tie.Need-add-i Inv-loop μ-loop
 add-i c = search needs
 
--- src/lib.rt:89:5
 loop-less : tie.Need-loop-less Inv-loop μ-loop
 loop-less c = search needs
 
--- src/lib.rt:89:5
 loop-again : tie.Need-loop-again Inv-loop μ-loop
 loop-again c = (omega arith, every-on _ _ _ (c .before .before .before .loop .inv .1) (sym (c .before .line-under .ensures) ∙ not-false _ (c .if1 .left)))
 
--- src/lib.rt:84:1
 returns-2 : tie.Need-returns-2 Inv-loop μ-loop
 returns-2 c = let e : c .before .loop .i ≡ c .before .before .args .n = omega arith in sym (rw e at (c .before .loop .inv .1))
 

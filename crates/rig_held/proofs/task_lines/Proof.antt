@@ -7,9 +7,6 @@ use Rattle.laws.specs.Tables.{zeros-at}
 use Rattle.rig_held.specs.Laws.Rules.{Marked, marked-none, marked-on, marked-skip}
 use Rattle.rig_held.proofs.task_lines.Statement.{statement}
 use Rattle.rig_held.proofs.task_lines.Tie as tie
-use Rattle.rig_held.proofs.task_lines.Reads as reads
-use Rattle.rig_held.proofs.task_lines.Lts as lts
-use Rattle.decimal.proofs.wide.Reads as wide-reads
 
 abbrev Inv-loop : tie.InvT-loop
 Inv-loop lines n has₀ i₀ has i = (i ≤ n) × Marked lines has i
@@ -17,47 +14,36 @@ Inv-loop lines n has₀ i₀ has i = (i ≤ n) × Marked lines has i
 abbrev μ-loop : tie.MeasureT-loop
 μ-loop lines n has₀ i₀ has i = n - i
 
--- src/lib.rt:121:5
 loop-holds : tie.Need-loop-holds Inv-loop μ-loop
 loop-holds c = (search needs, marked-none _ _ refl (zeros-at 256))
 
--- src/lib.rt:122:17
 mul-a : tie.Need-mul-a Inv-loop μ-loop
 mul-a c = search needs
 
--- src/lib.rt:123:12
 element-copy-out-if1 : tie.Need-element-copy-out-if1 Inv-loop μ-loop
 element-copy-out-if1 c = search needs
 
--- src/lib.rt:124:41
 add-wide : tie.Need-add-wide Inv-loop μ-loop
 add-wide c = search needs
 
--- src/lib.rt:124:35
 element-copy-out-wide : tie.Need-element-copy-out-wide Inv-loop μ-loop
 element-copy-out-wide c = search needs
 
--- src/lib.rt:124:17
 wide-requires : tie.Need-wide-requires Inv-loop μ-loop
 wide-requires c κs = search needs
 
--- src/lib.rt:125:13
 array-write-has : tie.Need-array-write-has Inv-loop μ-loop
 array-write-has c = search needs
 
--- src/lib.rt:127:9
 add-i : tie.Need-add-i Inv-loop μ-loop
 add-i c = search needs
 
--- src/lib.rt:121:5
 loop-less : tie.Need-loop-less Inv-loop μ-loop
 loop-less c = search needs
 
--- src/lib.rt:121:5
 loop-again : tie.Need-loop-again Inv-loop μ-loop
 loop-again c = ⊎-elim (λ v. (omega arith, marked-on _ _ _ (c .before .before .before .loop .inv .1) (v .0 .taken) _ (v .2 .ensures .0) _ (v .3))) (λ v. (omega arith, rw (v .1) (marked-skip _ _ _ (c .before .before .before .loop .inv .1) (v .0 .left)))) (c .if1 .came)
 
--- src/lib.rt:115:1
 returns : tie.Need-returns Inv-loop μ-loop
 returns c = let e : c .before .loop .i ≡ c .before .before .args .n = omega arith in let w : Marked (c .before .before .args .lines .now) (c .before .loop .has) (c .before .before .args .n) = rw (← e) (c .before .loop .inv .1) in w .says
 

@@ -16,7 +16,7 @@ use Rattle.laws.specs.Tables.{getD-set, zeros-at}
 use Rattle.laws.specs.First.{firstFalse, first-none, first-skip, first-here}
 use Rattle.rig_lines.specs.Kinds.{kindRIG, kindT, kindA, kindM, kindB, countOf, counts, sortOf, under}
 use Rattle.rig_lines.specs.Line.{Line}
-use Rattle.rig_lines.specs.Whole.{numberOf, isKind, isTaskLine, isFlagLine, howMany, every, numberUnder, lineUnder, tasksOf, flagsOf, hasTask, fewFlags, lineTests}
+use Rattle.rig_lines.specs.Whole.{numberOf, isKind, isTaskLine, isFlagLine, howMany, every, numberUnder, lineUnder, tasksOf, flagsOf, masterOf, hasTask, fewFlags, lineTests}
 use Rattle.rig_lines.specs.Laws.Whole.{many-snoc, every-snoc}
 use Rattle.rig_held.specs.Held.{heldLine, held}
 use Rattle.rig_held.specs.Laws.Lines.{held-kind, held-number, held-at, held-none, held-more, held-length, held-first}
@@ -105,12 +105,12 @@ many-most p l n = let k = many-le p (held l n) in let e = held-length l n in ome
 -- ---- a mark for each task that has a T line; how many flags each cycle has
 
 -- a line of kind k whose first number is t
-first-is : (l : List ℕ) (i k t : ℕ) → 0 < countOf k → getD l (10 * i) 0 ≡ k → (isKind k (heldLine l i) && eqb (numberOf 0 (heldLine l i)) t) ≡ eqb (getD l (10 * i + 1) 0) t
+pub first-is : (l : List ℕ) (i k t : ℕ) → 0 < countOf k → getD l (10 * i) 0 ≡ k → (isKind k (heldLine l i) && eqb (numberOf 0 (heldLine l i)) t) ≡ eqb (getD l (10 * i + 1) 0) t
 first-is l i k t h e =
     let z : 10 * i + 1 + 0 ≡ 10 * i + 1 = omega arith in
     rw (kind-yes l i k e, held-at l i 0 k e h, z)
 
-first-not : (l : List ℕ) (i k t : ℕ) → (getD l (10 * i) 0 ≡ k → ⊥) → (isKind k (heldLine l i) && eqb (numberOf 0 (heldLine l i)) t) ≡ false
+pub first-not : (l : List ℕ) (i k t : ℕ) → (getD l (10 * i) 0 ≡ k → ⊥) → (isKind k (heldLine l i) && eqb (numberOf 0 (heldLine l i)) t) ≡ false
 first-not l i k t n = rw (kind-no l i k n)
 
 pub record Marked (l has : List ℕ) (i : ℕ) : Type 0 where
@@ -168,13 +168,17 @@ module _ (l many : List ℕ) (i : ℕ) (w : Counted l many i) where
 
 -- the RIG line's numbers, where they stand
 module _ (l : List ℕ) (n : ℕ) (some : 1 ≤ n) (rig : getD l 0 0 ≡ kindRIG) where
-  held-tasks : tasksOf (held l n) ≡ getD l 2 0
+  pub held-tasks : tasksOf (held l n) ≡ getD l 2 0
   unfolding tasksOf countOf counts
   held-tasks = let w = held-first l n some in rw (w .1) (held-at l 0 1 kindRIG rig (omega arith))
 
-  held-flags : flagsOf (held l n) ≡ getD l 3 0
+  pub held-flags : flagsOf (held l n) ≡ getD l 3 0
   unfolding flagsOf countOf counts
   held-flags = let w = held-first l n some in rw (w .1) (held-at l 0 2 kindRIG rig (omega arith))
+
+  pub held-master : masterOf (held l n) ≡ getD l 4 0
+  unfolding masterOf countOf counts
+  held-master = let w = held-first l n some in rw (w .1) (held-at l 0 3 kindRIG rig (omega arith))
 
   tests : lineTests (held l n) ≡
       every (lineUnder (getD l 2 0) (getD l 3 0)) (held l n) ∷ leb (howMany (isKind kindA) (held l n)) 1024 ∷ leb (howMany (isKind kindB) (held l n)) 64 ∷

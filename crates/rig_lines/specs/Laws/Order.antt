@@ -16,7 +16,7 @@ use borrow.Author.Tests.{ltb-true, ltb-false, eqb-true, eqb-false, lt-ltb, le-lt
 use Rattle.laws.specs.Cases.{by}
 use Rattle.rig_lines.specs.Kinds.{keys, keysOf, countOf, keyed, rank, follows}
 use Rattle.rig_lines.specs.Laws.Kinds.{entries, entries-le}
-use Rattle.rig_lines.specs.Line.{Line, shaped, sized, placed, ordered}
+use Rattle.rig_lines.specs.Line.{Line, shaped, sized, placed, ordered, judge}
 use Rattle.rig_lines.specs.Words.{leading, Below, Before, MayFollow}
 use Rattle.rig_lines.specs.Laws.Judged.{Faultless, judged-sound, sound-judged, shaped-known, shaped-count, sized-fits, fits-small}
 
@@ -147,6 +147,10 @@ low-small l s =
 pub ordered-first : (r : Line) → (ordered 0 r ≡ true) ↔ (r .kind ≡ 1)
 unfolding ordered follows
 ordered-first r = (λ e. eqb-true (r .kind) 1 e, λ e. eq-eqb (r .kind) 1 e)
+
+-- a line that is right as the first is RIG
+pub first-rig : (r : Line) → judge 0 r ≡ 0 → r .kind ≡ 1
+first-rig r e = ordered-first r .0 (judged-sound 0 r e .order)
 
 module _ (q r : Line) (u : Passed q) (w : Passed r) where
   placed-before : (placed q < placed r) ↔ Before q r
