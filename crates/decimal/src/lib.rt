@@ -11,17 +11,20 @@ const BAD: u64 = 4294967297;
 
 const START: u64 = 4294967298;
 
+// The byte of the digit 0.
+const DIGIT: u64 = 48;
+
 // One byte more of a number: the next value, CAP where that is larger, BAD where the byte does not belong there.
 fn step_on(m: u64, b: u8) -> u64
     ensures { λ r. ⌜ r ≡ step m b ⌝ }
 {
-    if b < 48 {
+    if b < b'0' {
         return BAD;
     }
-    if 57 < b {
+    if b'9' < b {
         return BAD;
     }
-    let d = wide(b) - 48;
+    let d = wide64(b) - DIGIT;
     if m == START {
         return d;
     }
@@ -35,10 +38,23 @@ fn step_on(m: u64, b: u8) -> u64
     if n < CAP { n } else { CAP }
 }
 
-fn wide(b: u8) -> u64
-    ensures { λ r. ⌜ r ≡ b ⌝ }
+// The same number in a wider type.
+pub fn wide64(x: u8) -> u64
+    ensures { λ r. ⌜ (r ≡ x) × (r < 256) ⌝ }
 {
-    b as u64
+    x as u64
+}
+
+pub fn wide(x: u8) -> usize
+    ensures { λ r. ⌜ (r ≡ x) × (r < 256) ⌝ }
+{
+    x as usize
+}
+
+pub fn wide16(x: u16) -> usize
+    ensures { λ r. ⌜ r ≡ x ⌝ }
+{
+    x as usize
 }
 
 // What the field says: its value below CAP, CAP for every larger number, and above CAP where it is no decimal.
@@ -60,10 +76,10 @@ pub fn put_number(buf: &mut [u8], at: usize, n: u64) -> usize
     ensures { λ r. ⌜ (r ≡ at + length (dec n)) × (now (buf .exit) ≡ put (now (buf .entry)) at (dec n)) ⌝ }
 {
     if n < 10 {
-        buf[at] = 48 + (n as u8);
+        buf[at] = b'0' + (n as u8);
         return at + 1;
     }
     let p = put_number(&mut *buf, at, n / 10);
-    buf[p] = 48 + ((n % 10) as u8);
+    buf[p] = b'0' + ((n % 10) as u8);
     p + 1
 }

@@ -1,48 +1,19 @@
--- Laws of reading a rig file that a start needs: an accepted file's rig is right, and a line's number is small.
-use Prim.Native.Nat.{ℕ, zero, suc, _+_, _≤_}
-use mathlib.Core.Path.{_≡_, refl, sym, ap, subst, _∙_}
-use mathlib.Core.Bool.{Bool, true, false, cond, _&&_}
+-- A law of reading a rig file that a start needs: a line's number is small. (That an accepted file's rig is right: rig_build/Laws/Exactly.)
+use Prim.Native.Nat.{ℕ, suc, _+_, _≤_}
+use mathlib.Core.Path.{_≡_, sym, subst}
+use mathlib.Core.Bool.{_&&_}
 use mathlib.Core.List.{List, [], _∷_}
 use native.Mathlib.Omega.{arith}
 use lib.Dec.{eqb, ltb}
 use lib.ListN.{length}
-use borrow.Author.Tests.{eqb-true, eqb-false}
 use Rattle.laws.specs.Cases.{by}
-use Rattle.laws.specs.First.{firstFalse}
 use Rattle.text.specs.Split.{onHead, split}
-use Rattle.rig.specs.declared.Cycle.{Cycle}
-use Rattle.rig.specs.declared.Rig.{Rig}
-use Rattle.rig.specs.Rules.{Right}
-use Rattle.rig.specs.Forms.{cyclesOf}
-use Rattle.rig_whole.specs.Tests.{firstBroken}
-use Rattle.rig_whole.specs.Whole.{broken-none}
 use Rattle.rig_lines.specs.Line.{lineOf, placed, judge}
-use Rattle.rig_lines.specs.File.{Fault, fault, firstFault, faultOf, linesOf}
+use Rattle.rig_lines.specs.File.{Fault, fault, firstFault, faultOf}
 use Rattle.rig_build.specs.declared.Answer.{Answer}
-use Rattle.rig_build.specs.Built.{Built, nothing, build}
-use Rattle.rig_build.specs.Read.{lineTests, behind, brokenRule, readOf}
-use Rattle.rig_build.specs.Exactly.{Way, long, line, whole, right, way, too-long, faulty, whole-broken, all-right, number-none}
-
--- ---- an accepted file's rig is right
-
-behind-none : (n : ℕ) → behind n ≡ 0 → n ≡ 0
-unfolding behind
-behind-none zero e = refl
-behind-none (suc n) e = absurd (omega (arith, e))
-
-rig-none : (n : ℕ) (b : Built) → brokenRule n b ≡ 0 → firstBroken (b .rig) (cyclesOf (b .table)) ≡ 0
-unfolding brokenRule
-rig-none n b e =
-    by (eqb n 0)
-    (λ t. behind-none (firstBroken (b .rig) (cyclesOf (b .table))) (rw t at e))
-    (λ t. let z : n ≡ 0 = (rw t at e) in absurd (eqb-false n 0 t z))
-
-pub accepted-right : (s : List ℕ) → readOf s .no ≡ 0 → Right (readOf s .rig) (readOf s .cycles)
-accepted-right s e =
-    let n = number-none s e in
-    let b = build nothing (linesOf s) in
-    let r = broken-none (b .rig) (cyclesOf (b .table)) .0 (rig-none (firstFalse 1 (lineTests (linesOf s))) b (n .2)) in
-    subst (λ (a : Answer). Right (a .rig) (a .cycles)) (sym (all-right s (n .0) (n .1) (n .2))) r
+use Rattle.rig_build.specs.Read.{readOf}
+pub use Rattle.rig_build.specs.Laws.Exactly.{accepted-right}
+use Rattle.rig_build.specs.Laws.Exactly.{Way, long, line, whole, right, way, too-long, faulty, whole-broken, all-right}
 
 -- ---- a file of 40,960 bytes has no more than 40,961 pieces, so every line's number fits
 

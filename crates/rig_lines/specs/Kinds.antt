@@ -1,13 +1,32 @@
 -- The kinds of a rig file's lines: "RIG, edition (always 1), tasks, flags, master's bus address; T, task, controller (0 for none), priority,
 -- privileged 0/1, activation flag (0 for none); C, task, position, latched 0/1, desired 0/1; A, task, position, flag; M, cycle 0 to 63, flag;
 -- B, sender, its sub-address, receiver, its sub-address, words, period, phase".
--- Kinds: 0 none, 1 RIG, 2 T, 3 C, 4 A, 5 M, 6 B. What an edition of the file fixes is in these tables alone: a kind's row of a table
--- starts at 9 times the kind, since the widest line of any edition has nine numbers.
+-- What an edition of the file fixes is in these tables alone: a kind's row of a table starts at 9 times the kind, since the widest line of any
+-- edition has nine numbers.
 use Prim.Native.Nat.{ℕ, _+_, _*_}
 use mathlib.Core.Bool.{Bool, true, cond, _&&_}
 use mathlib.Core.List.{List, [], _∷_}
 use lib.Dec.{leb, ltb, eqb}
 use lib.ListN.{getD}
+
+-- the kinds by their numbers, which are the order of the records; 0 is none
+abbrev pub kindRIG : ℕ
+kindRIG = 1
+
+abbrev pub kindT : ℕ
+kindT = 2
+
+abbrev pub kindC : ℕ
+kindC = 3
+
+abbrev pub kindA : ℕ
+kindA = 4
+
+abbrev pub kindM : ℕ
+kindM = 5
+
+abbrev pub kindB : ℕ
+kindB = 6
 
 -- how many numbers a line of each kind has, in the order of the kinds' numbers: none, RIG, T, C, A, M, B
 unfoldable pub counts : List ℕ
@@ -52,7 +71,13 @@ highs =
     -- B: sender, sub-address, receiver, sub-address, words, period, phase
     31 ∷ 30 ∷ 31 ∷ 30 ∷ 32 ∷ 64 ∷ 63 ∷ 0 ∷ 0 ∷ []
 
--- what each number names: 1 a task, 2 a flag, 0 something else
+-- what each number names: a task, a flag, or (0) something else
+abbrev pub namesTask : ℕ
+namesTask = 1
+
+abbrev pub namesFlag : ℕ
+namesFlag = 2
+
 unfoldable pub sorts : List ℕ
 sorts =
     -- none
@@ -87,20 +112,23 @@ sortOf k f = getD sorts (k * 9 + f) 0
 
 -- "no task or flag number is above the RIG line's": of number f of a line of kind k, n, in a rig of so many tasks and flags
 unfoldable pub under : ℕ → ℕ → ℕ → ℕ → ℕ → Bool
-under tasks flags k f n = cond (eqb (sortOf k f) 1) (leb n tasks) (cond (eqb (sortOf k f) 2) (leb n flags) true)
+under tasks flags k f n = cond (eqb (sortOf k f) namesTask) (leb n tasks) (cond (eqb (sortOf k f) namesFlag) (leb n flags) true)
 
 -- number f of a line of kind k is within its size
 unfoldable pub within : ℕ → ℕ → ℕ → Bool
 within k f n = leb (lowOf k f) n && leb n (highOf k f)
 
 -- "periods 1, 2, 4, 8, 16, 32, 64"
+abbrev pub periods : List ℕ
+periods = 1 ∷ 2 ∷ 4 ∷ 8 ∷ 16 ∷ 32 ∷ 64 ∷ []
+
 unfoldable pub listed : ℕ → Bool
 listed p =
     cond (eqb p 1) true (cond (eqb p 2) true (cond (eqb p 4) true (cond (eqb p 8) true (cond (eqb p 16) true (cond (eqb p 32) true (eqb p 64))))))
 
 -- "phase below the period": of a B line's numbers
 unfoldable pub timed : ℕ → List ℕ → Bool
-timed k v = cond (eqb k 6) (listed (getD v 5 0) && ltb (getD v 6 0) (getD v 5 0)) true
+timed k v = cond (eqb k kindB) (listed (getD v 5 0) && ltb (getD v 6 0) (getD v 5 0)) true
 
 -- a kind's name, and the kind of a name, 0 where there is none
 unfoldable pub nameOf : ℕ → List ℕ
@@ -123,7 +151,7 @@ kindOf (a ∷ b ∷ c ∷ []) = cond (eqb a 82 && (eqb b 73 && eqb c 71)) 1 0
 kindOf (a ∷ b ∷ c ∷ d ∷ l) = 0
 
 -- a line's place in the order: its kind, then the numbers that the kind rises by. Each is below 256, so that places compare as these
--- do, one after the other: `ordered-exact` (Order)
+-- do, one after the other: `ordered-exact` (Laws/Order)
 unfoldable pub keyed : ℕ → List ℕ → ℕ → ℕ
 keyed k v j = cond (ltb j (keysOf k)) (getD v j 0) 0
 
@@ -132,4 +160,4 @@ rank k v = ((k * 256 + keyed k v 0) * 256 + keyed k v 1) * 256 + keyed k v 2
 
 -- "Records in this order, each kind rising strictly": the first line is RIG, and each other one comes after the line before it; B lines are free
 unfoldable pub follows : ℕ → ℕ → ℕ → Bool
-follows p k r = cond (eqb p 0) (eqb k 1) (cond (eqb k 6) (leb p r) (ltb p r))
+follows p k r = cond (eqb p 0) (eqb k kindRIG) (cond (eqb k kindB) (leb p r) (ltb p r))

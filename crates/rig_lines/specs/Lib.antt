@@ -1,10 +1,7 @@
 pub mod Kinds
-pub mod KindLaws
 pub mod Line
 pub mod File
 pub mod Text
-pub mod Judged
-pub mod Order
-pub mod Shape
-pub mod Turns
-pub mod RoundTrip
+pub mod Words
+pub mod Whole
+pub mod Laws

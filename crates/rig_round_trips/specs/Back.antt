@@ -12,8 +12,7 @@ use borrow.Author.Tests.{eqb-false, le-ltb}
 use Rattle.laws.specs.Cases.{by}
 use Rattle.rig.specs.declared.Rig.{Rig}
 use Rattle.rig_lines.specs.Line.{Line}
-use Rattle.rig_build.specs.declared.Marks.{Marks}
-use Rattle.rig_build.specs.Built.{Built}
+use Rattle.rig_round_trips.specs.Built.{Marks, Built}
 use Rattle.rig_write.specs.Kept.{kept}
 use Rattle.rig_write.specs.File.{rigLine, taskLine, isCondition, conditionLine, isLine, flagLine, flagAt, isFlag, cycleLine, isRow, rowLine}
 use Rattle.rig_round_trips.specs.Kept.{kept-none}

@@ -20,9 +20,10 @@ use Rattle.rig_whole.specs.Tree.{controllers-low}
 use Rattle.rig.specs.Forms.{flagsOf, tableOf}
 use Rattle.rig_lines.specs.Kinds.{counts, countOf, sorts, sortOf, under}
 use Rattle.rig_lines.specs.Line.{Line}
-use Rattle.rig_build.specs.Built.{Built, built, numbers, zeros, noMarks, noTable, nothing, underOne, aboveAfter, rowOf, putFlag, byKind, store, build}
+use Rattle.rig_fill.specs.OfLines.{zeros}
+use Rattle.rig_round_trips.specs.Built.{Built, built, numbers, noMarks, noTable, nothing, underOne, aboveAfter, rowOf, putFlag, byKind, store, build}
 use Rattle.laws.specs.Tables.{zeros-at}
-use Rattle.rig_build.specs.Marked.{begun}
+use Rattle.rig_round_trips.specs.Marked.{begun}
 use Rattle.rig_write.specs.Kept.{kept}
 use Rattle.rig_write.specs.File.{rigLine, isTask, taskLine, isCondition, conditionLine, isLine, flagLine, flagAt, isFlag, cycleLine, isRow, rowLine}
 use Rattle.rig_write.specs.Sized.{mapped-at}

@@ -1,3 +1,8 @@
+pub mod Built
+pub mod Cases
+pub mod MarkTests
+pub mod Marked
+pub mod Bridge
 pub mod Kept
 pub mod Back
 pub mod Steps
@@ -5,3 +10,4 @@ pub mod Same
 pub mod Ordered
 pub mod Filled
 pub mod Read
+pub mod Exact

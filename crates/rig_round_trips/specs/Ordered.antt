@@ -17,8 +17,7 @@ use Rattle.rig.specs.Rules.{noCycle, Right, Rises}
 use Rattle.rig.specs.Forms.{flagsOf, tableOf}
 use Rattle.rig_lines.specs.Kinds.{keys, keysOf, keyed, rank, follows}
 use Rattle.rig_lines.specs.Line.{Line, placed, ordered, judge}
-use Rattle.rig_lines.specs.Judged.{sound-judged}
-use Rattle.rig_lines.specs.Text.{Faultless}
+use Rattle.rig_lines.specs.Laws.Judged.{Faultless, sound-judged}
 use Rattle.rig_write.specs.Kept.{kept}
 use Rattle.rig_write.specs.File.{rigLine, isTask, taskLine, isCondition, conditionLine, isLine, flagLine, flagAt, isFlag, cycleLine, isRow, rowLine, linesFrom}
 use Rattle.rig_write.specs.Sized.{Good, rig-good, task-good, condition-good, line-good, cycle-good, row-good, mapped-at}

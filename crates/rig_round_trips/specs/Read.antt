@@ -15,14 +15,18 @@ use Rattle.rig.specs.Forms.{cyclesOf, tableOf}
 use Rattle.rig_whole.specs.Tests.{firstBroken, rightB}
 use Rattle.rig_whole.specs.Whole.{right-is}
 use Rattle.rig_lines.specs.Line.{Line}
-use Rattle.rig_lines.specs.Text.{text, Faultless}
+use Rattle.rig_lines.specs.Text.{text}
+use Rattle.rig_lines.specs.Laws.Judged.{Faultless}
 use Rattle.rig_lines.specs.File.{Fault, faultOf, linesOf}
-use Rattle.rig_lines.specs.RoundTrip.{read-lines}
-use Rattle.rig_build.specs.Built.{Built, numbers, nothing, build}
-use Rattle.rig_build.specs.MarkTests.{markedOne, markTests}
-use Rattle.rig_build.specs.Marked.{after-rig, marks-say}
-use Rattle.rig_build.specs.Read.{lineTests, behind, brokenRule, accepted, readOf}
-use Rattle.rig_build.specs.Exactly.{ruleOf, all-right}
+use Rattle.rig_lines.specs.Laws.RoundTrip.{read-lines}
+use Rattle.rig_round_trips.specs.Built.{Built, numbers, nothing, build}
+use Rattle.rig_round_trips.specs.MarkTests.{markedOne, markTests}
+use Rattle.rig_round_trips.specs.Marked.{after-rig, marks-say}
+use Rattle.rig_lines.specs.Whole.{lineTests}
+use Rattle.rig_fill.specs.OfLines.{rigFrom, tableFrom}
+use Rattle.rig_build.specs.Read.{behind, brokenRule, accepted, readOf}
+use Rattle.rig_round_trips.specs.Bridge.{built-rig, built-table}
+use Rattle.rig_build.specs.Laws.Exactly.{ruleOf, all-right}
 use Rattle.rig_write.specs.File.{rigLine, linesFrom, fileOf}
 use Rattle.rig_write.specs.Fits.{file-fits}
 use Rattle.rig_round_trips.specs.Ordered.{rig-faultless}
@@ -77,17 +81,20 @@ module _ (g : Rig) (cycles : List Cycle) (r : Right g cycles) where
   no-fault : faultOf (fileOf g (tableOf cycles)) .no ≡ 0
   no-fault = ap (λ (s : List ℕ). faultOf s .no) text-is ∙ ap (λ (f : Fault). f .no) (read-lines (rigLine g) (others g cycles r) clean .0)
 
-  built-of : build nothing (linesOf (fileOf g (tableOf cycles))) ≡ done g cycles r
-  built-of = ap (build nothing) lines-of ∙ built-is
+  rig-of : rigFrom (linesOf (fileOf g (tableOf cycles))) ≡ g
+  rig-of = ap rigFrom lines-of ∙ (sym (built-rig (rigLine g) (others g cycles r) clean lines-none) ∙ ap (λ (b : Built). b .rig) built-is)
+
+  table-of : tableFrom (linesOf (fileOf g (tableOf cycles))) ≡ tableOf cycles
+  table-of = ap tableFrom lines-of ∙ (sym (built-table (rigLine g) (others g cycles r) clean lines-none) ∙ ap (λ (b : Built). b .table) built-is)
 
   rule-of : ruleOf (fileOf g (tableOf cycles)) ≡ 0
   unfolding brokenRule behind
   rule-of =
-      ap₂ brokenRule (ap (λ (l : List Line). firstFalse 1 (lineTests l)) lines-of ∙ lines-none) built-of
-      ∙ ap behind (ap (firstBroken g) (cycles-back cycles) ∙ rig-none)
+      rw (lines-of, lines-none)
+      (ap behind (ap₂ firstBroken (sym (ap rigFrom lines-of) ∙ rig-of) (ap cyclesOf (sym (ap tableFrom lines-of) ∙ table-of) ∙ cycles-back cycles) ∙ rig-none))
 
   -- "reading what was written of a right rig gives that rig"
   pub read-written : readOf (fileOf g (tableOf cycles)) ≡ accepted g cycles
   read-written =
       all-right (fileOf g (tableOf cycles)) (file-fits g cycles r) no-fault rule-of
-      ∙ ap₂ accepted (ap (λ (b : Built). b .rig) built-of) (ap (λ (b : Built). cyclesOf (b .table)) built-of ∙ cycles-back cycles)
+      ∙ ap₂ accepted rig-of (ap cyclesOf table-of ∙ cycles-back cycles)

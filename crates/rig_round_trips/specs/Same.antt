@@ -22,19 +22,23 @@ use Rattle.rig_tables.specs.Tests.{place}
 use Rattle.rig.specs.Forms.{cyclesOf, tableOf}
 use Rattle.rig_lines.specs.Kinds.{counts, countOf, keys, keysOf, lows, lowOf, highs, highOf, keyed, rank}
 use Rattle.rig_lines.specs.Line.{Line, placed, judge}
-use Rattle.rig_lines.specs.Judged.{judged-sound, shaped-known}
-use Rattle.rig_lines.specs.Text.{text, Faultless}
+use Rattle.rig_lines.specs.Laws.Judged.{Faultless, judged-sound, shaped-known}
+use Rattle.rig_lines.specs.Text.{text}
 use Rattle.rig_lines.specs.File.{linesOf}
-use Rattle.rig_lines.specs.RoundTrip.{written, some-line}
-use Rattle.rig_build.specs.declared.Marks.{Marks}
+use Rattle.rig_lines.specs.Laws.RoundTrip.{written, some-line}
+use Rattle.rig_round_trips.specs.Built.{Marks, Built, built, numbers, noMarks, noTable, nothing, underOne, aboveAfter, withAbove, withTask, withCondition, withLine, withRow, rowOf, hasLine, oneFlag, putFlag, store, build}
 use Rattle.rig_build.specs.declared.Answer.{Answer}
-use Rattle.rig_build.specs.Built.{Built, built, numbers, zeros, noMarks, noTable, nothing, underOne, aboveAfter, withAbove, withTask, withCondition, withLine, withRow, rowOf, hasLine, oneFlag, putFlag, store, build}
+use Rattle.rig_fill.specs.OfLines.{zeros}
 use Rattle.laws.specs.Tables.{zeros-at}
-use Rattle.rig_build.specs.Cases.{by-cases}
-use Rattle.rig_build.specs.MarkTests.{markedOne, markTests}
-use Rattle.rig_build.specs.Marked.{first-rig, not-rig, tasks-most, begun, after-rig, marks-say}
-use Rattle.rig_build.specs.Read.{lineTests, brokenRule, readOf}
-use Rattle.rig_build.specs.Exactly.{all-right, number-none}
+use Rattle.rig_round_trips.specs.Cases.{by-cases}
+use Rattle.rig_round_trips.specs.MarkTests.{markedOne, markTests}
+use Rattle.rig_round_trips.specs.Marked.{not-rig, tasks-most, begun, after-rig, marks-say}
+use Rattle.rig_lines.specs.Whole.{lineTests}
+use Rattle.rig_lines.specs.Laws.Order.{first-rig}
+use Rattle.rig_fill.specs.OfLines.{rigFrom, tableFrom}
+use Rattle.rig_build.specs.Read.{brokenRule, readOf}
+use Rattle.rig_round_trips.specs.Bridge.{built-rig, built-table}
+use Rattle.rig_build.specs.Laws.Exactly.{all-right, number-none}
 use Rattle.rig_write.specs.File.{line, rigLine, isTask, taskLine, linesFrom, fileOf}
 use Rattle.rig_round_trips.specs.Kept.{kept-same}
 use Rattle.rig_round_trips.specs.Back.{hasT, partC, partA, partM, partB, linesBuilt, Upto, no-tasks, no-conditions, no-lines, no-flags, no-rows}
@@ -264,9 +268,9 @@ lines-from p b u a t =
         (λ e. e ∙ sym (by (isTask (b .rig) i) (λ d. absurd (false≢true (sym e ∙ there i d))) (λ d. d)))
 
 -- of an accepted file: no rule of its lines is broken
-rule-none : (n : ℕ) (b : Built) → brokenRule n b ≡ 0 → n ≡ 0
+rule-none : (n : ℕ) (g : Rig) (cycles : List Cycle) → brokenRule n g cycles ≡ 0 → n ≡ 0
 unfolding brokenRule
-rule-none n b e = by (eqb n 0) (λ t. eqb-true n 0 t) (λ t. rw t at e)
+rule-none n g cycles e = by (eqb n 0) (λ t. eqb-true n 0 t) (λ t. rw t at e)
 
 module _ (r : Line) (rs : List Line) (f : Faultless 0 (r ∷ rs)) (none : firstFalse 1 (lineTests (r ∷ rs)) ≡ 0) where
   kind : r .kind ≡ 1
@@ -299,12 +303,15 @@ same-bytes s e =
     let a = all-right s (n .0) (n .1) (n .2) in
     let w = written s (n .1) in
     let l = some-line s (n .1) in
-    let z : firstFalse 1 (lineTests (linesOf s)) ≡ 0 = rule-none (firstFalse 1 (lineTests (linesOf s))) (build nothing (linesOf s)) (n .2) in
-    let k : linesFrom (build nothing (linesOf s) .rig) (build nothing (linesOf s) .table) ≡ linesOf s =
-    rw (l .2) (lines-kept (l .0) (l .1) (rw (l .2) at (w .1)) (rw (l .2) at z)) in
-    let t : tableOf (readOf s .cycles) ≡ build nothing (linesOf s) .table = ap (λ (x : Answer). tableOf (x .cycles)) a ∙ table-back (build nothing (linesOf s) .table) in
-    let g : readOf s .rig ≡ build nothing (linesOf s) .rig = ap (λ (x : Answer). x .rig) a in
-    ap₂ (λ (x : Rig) (y : List (List ℕ)). text (linesFrom x y)) g t ∙ (ap text k ∙ sym (w .0))
+    let z : firstFalse 1 (lineTests (linesOf s)) ≡ 0 = rule-none (firstFalse 1 (lineTests (linesOf s))) (rigFrom (linesOf s)) (cyclesOf (tableFrom (linesOf s))) (n .2) in
+    let f : Faultless 0 (l .0 ∷ l .1) = subst (Faultless 0) (l .2) (w .1) in
+    let o : firstFalse 1 (lineTests (l .0 ∷ l .1)) ≡ 0 = subst (λ (x : List Line). firstFalse 1 (lineTests x) ≡ 0) (l .2) z in
+    let k = lines-kept (l .0) (l .1) f o in
+    let g : readOf s .rig ≡ build nothing (l .0 ∷ l .1) .rig =
+    ap (λ (x : Answer). x .rig) a ∙ (ap rigFrom (l .2) ∙ sym (built-rig (l .0) (l .1) f o)) in
+    let t : tableOf (readOf s .cycles) ≡ build nothing (l .0 ∷ l .1) .table =
+    ap (λ (x : Answer). tableOf (x .cycles)) a ∙ (table-back (tableFrom (linesOf s)) ∙ (ap tableFrom (l .2) ∙ sym (built-table (l .0) (l .1) f o))) in
+    ap₂ (λ (x : Rig) (y : List (List ℕ)). text (linesFrom x y)) g t ∙ (ap text k ∙ (ap text (sym (l .2)) ∙ sym (w .0)))
 
 -- "every right rig has exactly one file": two accepted files with one rig and its cycles are one file
 pub one-file : (s t : List ℕ) → readOf s .no ≡ 0 → readOf t .no ≡ 0 → readOf s .rig ≡ readOf t .rig → readOf s .cycles ≡ readOf t .cycles → s ≡ t

@@ -17,11 +17,10 @@ use Rattle.rig.specs.declared.Rig.{Rig}
 use Rattle.rig.specs.Rules.{noRow}
 use Rattle.rig_tables.specs.Tests.{place}
 use Rattle.rig_lines.specs.Kinds.{counts, countOf, keys, keysOf, lows, lowOf, highs, highOf, sorts, sortOf, under, keyed, rank, follows}
-use Rattle.rig_lines.specs.KindLaws.{within-is}
+use Rattle.rig_lines.specs.Laws.Kinds.{within-is}
 use Rattle.rig_lines.specs.Line.{Line, placed, ordered, judge}
-use Rattle.rig_lines.specs.Judged.{judged-sound, shaped-count, sized-fits, fits-at}
-use Rattle.rig_build.specs.declared.Marks.{Marks}
-use Rattle.rig_build.specs.Built.{Built, built, numbers, underOne, aboveAfter, withAbove, withTask, withCondition, withLine, rowOf, withRow, hasLine, oneFlag, putFlag}
+use Rattle.rig_lines.specs.Laws.Judged.{judged-sound, shaped-count, sized-fits, fits-at}
+use Rattle.rig_round_trips.specs.Built.{Marks, Built, built, numbers, underOne, aboveAfter, withAbove, withTask, withCondition, withLine, rowOf, withRow, hasLine, oneFlag, putFlag}
 use Rattle.rig_write.specs.Kept.{kept}
 use Rattle.rig_write.specs.File.{line, rigLine, taskLine, isCondition, conditionLine, isLine, flagLine, flagAt, isFlag, cycleLine, isRow, rowLine, busNumbers}
 use Rattle.rig_round_trips.specs.Kept.{kept-more}

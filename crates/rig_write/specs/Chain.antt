@@ -8,7 +8,7 @@ use native.Mathlib.Numerals.{add-one}
 use lib.ListN.{length, take, set, getD, length-take, length-append}
 use lib.Seq.{take-suc}
 use Rattle.laws.specs.Put.{put, put-one, put-put, length-put}
-use Rattle.rig_lines.specs.Turns.{put-none}
+use Rattle.rig_lines.specs.Laws.Turns.{put-none}
 use Rattle.rig.specs.declared.Rig.{Rig}
 use Rattle.rig_write.specs.Kept.{ended, Wrote, part-short}
 use Rattle.rig_write.specs.File.{rigLine, tasksText, conditionsText, linesText, cyclesText, rowsText, fileOf, file-parts}

@@ -18,9 +18,9 @@ use Rattle.decimal.specs.Decimal.{dec}
 use Rattle.decimal.specs.Laws.{dec-small, dec-tens}
 use Rattle.text.specs.Split.{led}
 use Rattle.rig_lines.specs.Kinds.{counts, highs, countOf, highOf, within, nameOf}
-use Rattle.rig_lines.specs.KindLaws.{within-is, within-small}
+use Rattle.rig_lines.specs.Laws.Kinds.{within-is, within-small}
 use Rattle.rig_lines.specs.Line.{Line, fits}
-use Rattle.rig_lines.specs.Judged.{shaped-count, sized-fits}
+use Rattle.rig_lines.specs.Laws.Judged.{shaped-count, sized-fits}
 use Rattle.rig_lines.specs.Text.{bytesOf, text}
 use Rattle.rig_write.specs.Kept.{kept, ended, text-append}
 use Rattle.rig_write.specs.File.{rigLine, isTask, taskLine, isCondition, conditionLine, isLine, flagLine, isFlag, cycleLine, isRow, rowLine, fileOf, file-parts, tasksText, conditionsText, linesText, cyclesText, rowsText}

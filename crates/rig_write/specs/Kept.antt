@@ -8,7 +8,7 @@ use native.Mathlib.Omega.{arith}
 use native.Mathlib.Numerals.{add-one}
 use lib.ListN.{length, length-append}
 use Rattle.laws.specs.Put.{put, put-put, length-put}
-use Rattle.rig_lines.specs.Turns.{put-none}
+use Rattle.rig_lines.specs.Laws.Turns.{put-none}
 use Rattle.rig_lines.specs.Line.{Line}
 use Rattle.rig_lines.specs.Text.{bytesOf, text}
 

@@ -11,7 +11,7 @@ use Rattle.laws.specs.Put.{put, put-one, put-put, length-put}
 use Rattle.decimal.specs.Decimal.{dec}
 use Rattle.text.specs.Split.{led}
 use Rattle.rig_lines.specs.Kinds.{countOf, nameOf}
-use Rattle.rig_lines.specs.Turns.{put-turn, put-none}
+use Rattle.rig_lines.specs.Laws.Turns.{put-turn, put-none}
 use Rattle.rig_lines.specs.Text.{bytesOf}
 
 -- f numbers, each after a tab

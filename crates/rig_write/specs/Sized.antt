@@ -18,9 +18,9 @@ use Rattle.rig.specs.Forms.{flagsOf, tableOf}
 use Rattle.rig_whole.specs.Tree.{controllers-low}
 use Rattle.decimal.specs.Decimal.{cap}
 use Rattle.rig_lines.specs.Kinds.{counts, lows, highs, countOf, lowOf, highOf, within, listed, timed}
-use Rattle.rig_lines.specs.KindLaws.{within-fits, within-small}
+use Rattle.rig_lines.specs.Laws.Kinds.{within-fits, within-small}
 use Rattle.rig_lines.specs.Line.{Line, decimals, shaped, fits, sized}
-use Rattle.rig_lines.specs.Judged.{shaped-if, sized-if}
+use Rattle.rig_lines.specs.Laws.Judged.{shaped-if, sized-if}
 use Rattle.rig_write.specs.File.{rigLine, isTask, taskLine, isCondition, conditionLine, isLine, flagLine, isFlag, cycleLine, isRow, rowLine}
 
 -- shape and sizes of a line

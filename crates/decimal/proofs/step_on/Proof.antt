@@ -12,14 +12,14 @@ returns c = sym (step-not _ _ (digit-low _ (c .if1 .taken)))
 returns-2 : tie.Need-returns-2
 returns-2 c = sym (step-not _ _ (digit-high _ (c .if2 .taken)))
 
-wide-requires : tie.Need-wide-requires
-wide-requires c κs = search needs
+wide64-requires : tie.Need-wide64-requires
+wide64-requires c κs = search needs
 
 sub-d : tie.Need-sub-d
 sub-d c = search needs
 
 returns-3 : tie.Need-returns-3
-returns-3 c = on-start _ _ _ (omega arith) (omega arith) (c .if3 .taken) (c .before .wide .ensures)
+returns-3 c = on-start _ _ _ (omega arith) (omega arith) (c .if3 .taken) (c .before .wide64 .ensures .0)
 
 returns-4 : tie.Need-returns-4
 returns-4 c = on-zero _ _ (c .if4 .taken)
@@ -34,10 +34,10 @@ add-n : tie.Need-add-n
 add-n c = search needs
 
 returns-6 : tie.Need-returns-6
-returns-6 c = on-num _ _ _ (omega arith) (omega arith) (omega arith) (c .before .before .before .before .wide .ensures) (c .if6 .taken)
+returns-6 c = on-num _ _ _ (omega arith) (omega arith) (omega arith) (c .before .before .before .before .wide64 .ensures .0) (c .if6 .taken)
 
 returns-7 : tie.Need-returns-7
-returns-7 c = on-cap _ _ _ (omega arith) (omega arith) (omega arith) (omega arith) (c .before .before .before .before .wide .ensures) (c .if6 .left)
+returns-7 c = on-cap _ _ _ (omega arith) (omega arith) (omega arith) (omega arith) (c .before .before .before .before .wide64 .ensures .0) (c .if6 .left)
 
 pub step-on-spec : {M : Type 1} → statement M
 step-on-spec =
@@ -45,7 +45,7 @@ step-on-spec =
     (tie.spec
     returns
     returns-2
-    wide-requires
+    wide64-requires
     sub-d
     returns-3
     returns-4

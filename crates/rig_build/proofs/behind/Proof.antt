@@ -1,6 +1,6 @@
 use mathlib.Core.Path.{ap, _∙_}
 use Prim.Native.Nat.{ℕ, _+_}
-use Rattle.rig_build.specs.Laws.{behind-zero, behind-more}
+use Rattle.rig_build.specs.Laws.Answers.{behind-zero, behind-more}
 use borrow.Author.Needs.{needs}
 use Rattle.rig_build.proofs.behind.Statement.{statement}
 use Rattle.rig_build.proofs.behind.Tie as tie

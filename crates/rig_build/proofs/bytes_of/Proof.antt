@@ -1,5 +1,5 @@
 use native.Mathlib.Omega.{arith}
-use Rattle.rig_build.specs.Leaves.{nine}
+use Rattle.rig_build.specs.Laws.Answers.{nine}
 use borrow.Author.Needs.{needs}
 use Rattle.rig_build.proofs.bytes_of.Statement.{statement}
 use Rattle.rig_build.proofs.bytes_of.Tie as tie

@@ -1,20 +1,23 @@
-use mathlib.Core.Path.{sym, ap, _∙_}
-use Rattle.rig_build.specs.Laws.{judged-lines, judged-rig, judged-right}
-use Rattle.rig_build.specs.Built.{built}
-use Rattle.rig_whole.specs.Tests.{firstBroken}
-use Rattle.rig_build.specs.Read.{accepted}
+use mathlib.Core.Path.{_∙_}
+use Rattle.rig_build.specs.Laws.Answers.{whole-lines, whole-rows, whole-rig, whole-right}
 use borrow.Author.Needs.{needs}
 use Rattle.rig_build.proofs.whole.Statement.{statement}
 use Rattle.rig_build.proofs.whole.Tie as tie
 
-marked-rule-requires : tie.Need-marked-rule-requires
-marked-rule-requires c κs = search needs
+line-rule-requires : tie.Need-line-rule-requires
+line-rule-requires c κs = search needs
 
 refused-requires : tie.Need-refused-requires
 refused-requires c κs = search needs
 
 returns : tie.Need-returns
-returns c = c .refused .ensures ∙ rw (← c .before .before .marked-rule .ensures) (judged-lines _ _ (c .before .if1 .taken))
+returns c = c .refused .ensures ∙ whole-lines _ _ (c .before .before .line-rule .ensures) (c .before .if1 .taken)
+
+rig-from-requires : tie.Need-rig-from-requires
+rig-from-requires c κs = (c .before .before .pre .0, c .before .before .pre .1, c .before .before .pre .2, whole-rows _ _ (c .before .line-rule .ensures) (c .if1 .left))
+
+table-from-requires : tie.Need-table-from-requires
+table-from-requires c κs = search needs
 
 cycles-of-requires : tie.Need-cycles-of-requires
 cycles-of-requires c κs = search needs
@@ -29,21 +32,23 @@ refused-requires-2 : tie.Need-refused-requires-2
 refused-requires-2 c κs = search needs
 
 returns-2 : tie.Need-returns-2
-returns-2 c = c .refused2 .ensures ∙ judged-rig _ (built (c .before .before .before .before .before .before .before .args .g) (c .before .before .before .before .before .before .before .args .table) (c .before .before .before .before .before .before .before .args .marks)) (c .before .before .before .broken .result) (c .before .behind .result) (sym (c .before .before .before .before .before .before .marked-rule .ensures) ∙ c .before .before .before .before .before .if1 .left) (c .before .before .before .broken .ensures ∙ ap (firstBroken (c .before .before .before .before .before .before .before .args .g)) (c .before .before .before .before .cycles-of .ensures)) (c .before .before .if2 .taken) (c .before .behind .ensures)
+returns-2 c = c .refused2 .ensures ∙ whole-rig _ _ (c .before .before .before .before .before .before .before .before .line-rule .ensures) (c .before .before .before .before .before .before .before .if1 .left) _ (c .before .before .before .before .before .before .rig-from .ensures) _ (c .before .before .before .before .before .table-from .ensures) _ (c .before .before .before .before .cycles-of .ensures) _ (c .before .before .before .broken .ensures) (c .before .before .if2 .taken) _ (c .before .behind .ensures)
 
 taken-requires : tie.Need-taken-requires
 taken-requires c κs = search needs
 
 returns-3 : tie.Need-returns-3
-returns-3 c = c .taken .ensures ∙ (ap (accepted (c .before .before .before .before .before .before .args .g)) (c .before .before .before .cycles-of .ensures) ∙ judged-right _ (built (c .before .before .before .before .before .before .args .g) (c .before .before .before .before .before .before .args .table) (c .before .before .before .before .before .before .args .marks)) (c .before .before .broken .result) (sym (c .before .before .before .before .before .marked-rule .ensures) ∙ c .before .before .before .before .if1 .left) (c .before .before .broken .ensures ∙ ap (firstBroken (c .before .before .before .before .before .before .args .g)) (c .before .before .before .cycles-of .ensures)) (c .before .if2 .left))
+returns-3 c = c .taken .ensures ∙ whole-right _ _ (c .before .before .before .before .before .before .before .line-rule .ensures) (c .before .before .before .before .before .before .if1 .left) _ (c .before .before .before .before .before .rig-from .ensures) _ (c .before .before .before .before .table-from .ensures) _ (c .before .before .before .cycles-of .ensures) _ (c .before .before .broken .ensures) (c .before .if2 .left)
 
 pub whole-spec : {M : Type 1} → statement M
 whole-spec =
     tie.close
     (tie.spec
-    marked-rule-requires
+    line-rule-requires
     refused-requires
     returns
+    rig-from-requires
+    table-from-requires
     cycles-of-requires
     broken-requires
     behind-requires

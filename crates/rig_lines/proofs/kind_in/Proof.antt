@@ -1,7 +1,7 @@
 use mathlib.Core.Path.{sym, _∙_}
 use native.Mathlib.Omega.{arith}
 use borrow.Author.Tests.{eq-eqb, ne-eqb}
-use Rattle.rig_lines.specs.KindLaws.{kind-one, kind-three, kind-none}
+use Rattle.rig_lines.specs.Laws.Kinds.{kind-one, kind-three, kind-none}
 use borrow.Author.Needs.{needs}
 use Rattle.rig_lines.proofs.kind_in.Statement.{statement}
 use Rattle.rig_lines.proofs.kind_in.Tie as tie

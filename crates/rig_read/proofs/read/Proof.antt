@@ -1,5 +1,5 @@
 use mathlib.Core.Path.{_∙_}
-use Rattle.rig_build.specs.Laws.{read-long, read-short}
+use Rattle.rig_build.specs.Laws.Answers.{read-long, read-short}
 use borrow.Author.Needs.{needs}
 use Rattle.rig_read.proofs.read.Statement.{statement}
 use Rattle.rig_read.proofs.read.Tie as tie

@@ -1,0 +1,2 @@
+pub mod Snoc
+pub mod Tables

@@ -1,0 +1,2 @@
+pub mod OfLines
+pub mod Laws
