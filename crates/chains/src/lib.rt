@@ -3,12 +3,19 @@ ghost use mathlib.Core.Path.{_≡_};
 ghost use Prim.Native.Nat.{_≤_, _<_};
 ghost use Rattle.chains.specs.Held.{at, Sound, Leaves, Joins, Inserts, Places, Puts, Empty};
 
+// Place 0 is no node.
+pub const PLACES: usize = 65;
+
+pub const FIRST_ANCHOR: usize = 65;
+
+pub const NODES: usize = 322;
+
 #[repr(C)]
 pub struct Links {
-    pub next: [u16; 322],
-    pub prev: [u16; 322],
+    pub next: [u16; NODES],
+    pub prev: [u16; NODES],
     // the anchor of the chain that a task is in, or 0
-    pub on: [u16; 65],
+    pub on: [u16; PLACES],
 }
 
 // Task t leaves its chain.
@@ -58,7 +65,7 @@ pub fn append(l: Links, s: usize, t: usize) -> Links
 }
 
 // Task t goes to its place by waking count in the chain of anchor s, behind those with the same count.
-pub fn place(l: Links, wake: [u32; 65], s: usize, t: usize) -> Links
+pub fn place(l: Links, wake: [u32; PLACES], s: usize, t: usize) -> Links
     requires { ⌜ Sound l ⌝ }
     requires { ⌜ Puts l s s t ⌝ }
     ensures { λ r. ⌜ Places l wake s t r ⌝ }
@@ -80,14 +87,14 @@ pub fn place(l: Links, wake: [u32; 65], s: usize, t: usize) -> Links
 pub fn fresh() -> Links
     ensures { λ r. ⌜ Empty r ⌝ }
 {
-    let mut next = [0u16; 322];
-    let mut prev = [0u16; 322];
-    let mut i: usize = 65;
-    while i < 322 {
+    let mut next = [0u16; NODES];
+    let mut prev = [0u16; NODES];
+    let mut i: usize = FIRST_ANCHOR;
+    while i < NODES {
         next[i] = i as u16;
         prev[i] = i as u16;
         i += 1;
     }
-    let on = [0u16; 65];
+    let on = [0u16; PLACES];
     Links { next, prev, on }
 }

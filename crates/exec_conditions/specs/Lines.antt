@@ -1,6 +1,6 @@
 -- What the loops over A lines ask of them.
 use Prim.Native.Nat.{_+_, _<_, _≤_, ℕ}
-use Rattle.chains.specs.Held.{at}
+use Rattle.rig_tables.specs.Tests.{at}
 use mathlib.Core.List.{List}
 use lib.ListN.{getD}
 

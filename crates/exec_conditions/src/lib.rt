@@ -1,13 +1,21 @@
 // Conditions: what they take when their task is relaxed or a flag is served, and whether a task is ready. Each loop has the rule that
 // it computes as its contract.
+use rig_tables::CONDITIONS;
+use rig_tables::LINES;
+use rig_tables::POSITIONS;
 ghost use mathlib.Core.Path.{_≡_};
 ghost use mathlib.Core.Bool.{cond, not, _&&_, _||_};
 ghost use Prim.Native.Nat.{_+_, _-_, _≤_};
 ghost use lib.Dec.{eqb};
-ghost use Rattle.chains.specs.Held.{at};
+ghost use Rattle.rig_tables.specs.Tests.{at};
 ghost use Rattle.laws.specs.Any.{any};
 ghost use Rattle.rules.specs.Conditions.{relax, met, drive, names};
 ghost use Rattle.exec_conditions.specs.Lines.{Lines, past};
+
+const INACTIVE: u8 = 1;
+
+// A lines are passed over in blocks of sixteen.
+const BLOCK: usize = 16;
 
 pub fn undesired(d: u8) -> u8
     ensures { λ r. ⌜ r ≡ 1 - d ⌝ }
@@ -35,18 +43,18 @@ pub fn both(a: u8, t: u8, b: u8, f: u8) -> bool
 
 // Unlatched conditions of task t take the undesired value.
 pub fn relax<'a>(
-    present: &'a [u8; 1040],
-    latched: &'a [u8; 1040],
-    desired: &'a [u8; 1040],
+    present: &'a [u8; CONDITIONS],
+    latched: &'a [u8; CONDITIONS],
+    desired: &'a [u8; CONDITIONS],
     t: usize,
-    cond: &mut [u8; 1040],
+    cond: &mut [u8; CONDITIONS],
 )
     requires { ⌜ t ≤ 64 ⌝ }
     ensures { λ r. ⌜ now (cond .exit) ≡ relax (at (now (present .entry))) (at (now (latched .entry))) (at (now (desired .entry))) t (now (cond .entry)) ⌝ }
 {
     let mut p: usize = 0;
-    while p < 16 {
-        let i = 16 * t + p;
+    while p < POSITIONS {
+        let i = POSITIONS * t + p;
         if loose(present[i], latched[i]) {
             cond[i] = undesired(desired[i]);
         }
@@ -56,17 +64,17 @@ pub fn relax<'a>(
 
 // Whether all conditions of task t are as desired.
 pub fn met<'a>(
-    present: &'a [u8; 1040],
-    desired: &'a [u8; 1040],
+    present: &'a [u8; CONDITIONS],
+    desired: &'a [u8; CONDITIONS],
     t: usize,
-    cond: &[u8; 1040],
+    cond: &[u8; CONDITIONS],
 ) -> bool
     requires { ⌜ t ≤ 64 ⌝ }
     ensures { λ r. ⌜ r ≡ met (at (now (present .entry))) (at (now (desired .entry))) t (now (cond .entry)) ⌝ }
 {
     let mut p: usize = 0;
-    while p < 16 {
-        let i = 16 * t + p;
+    while p < POSITIONS {
+        let i = POSITIONS * t + p;
         if !stands(present[i], cond[i], desired[i]) {
             return false;
         }
@@ -78,37 +86,37 @@ pub fn met<'a>(
 // Every condition with an A line of the flag f, of the first n, takes v. Few lines are of one flag: sixteen are passed
 // over at once.
 pub fn drive<'a>(
-    lineTask: &'a [u8; 1024],
-    linePos: &'a [u8; 1024],
-    lineFlag: &'a [u8; 1024],
+    lineTask: &'a [u8; LINES],
+    linePos: &'a [u8; LINES],
+    lineFlag: &'a [u8; LINES],
     n: usize,
     f: u8,
     v: u8,
-    cond: &mut [u8; 1040],
+    cond: &mut [u8; CONDITIONS],
 )
     requires { ⌜ Lines n (now lineTask) (now linePos) ⌝ }
     ensures { λ r. ⌜ now (cond .exit) ≡ drive n (at (now (lineTask .entry))) (at (now (linePos .entry))) (at (now (lineFlag .entry))) f v (now (cond .entry)) ⌝ }
 {
     let mut k: usize = 0;
-    while k + 16 <= n {
+    while k + BLOCK <= n {
         if named_from(lineFlag, k, f) {
-            drive_from(lineTask, linePos, lineFlag, k, 16, f, v, cond);
+            drive_from(lineTask, linePos, lineFlag, k, BLOCK, f, v, cond);
         }
-        k = k + 16;
+        k = k + BLOCK;
     }
     drive_from(lineTask, linePos, lineFlag, k, n - k, f, v, cond);
 }
 
 // The same of m lines from line k on.
 fn drive_from<'a>(
-    lineTask: &'a [u8; 1024],
-    linePos: &'a [u8; 1024],
-    lineFlag: &'a [u8; 1024],
+    lineTask: &'a [u8; LINES],
+    linePos: &'a [u8; LINES],
+    lineFlag: &'a [u8; LINES],
     k: usize,
     m: usize,
     f: u8,
     v: u8,
-    cond: &mut [u8; 1040],
+    cond: &mut [u8; CONDITIONS],
 )
     requires { ⌜ Lines (k + m) (now lineTask) (now linePos) ⌝ }
     ensures { λ r. ⌜ now (cond .exit) ≡ drive m (past k (now (lineTask .entry))) (past k (now (linePos .entry))) (past k (now (lineFlag .entry))) f v (now (cond .entry)) ⌝ }
@@ -119,20 +127,20 @@ fn drive_from<'a>(
         if lineFlag[l] == f {
             let t = lineTask[l] as usize;
             let p = linePos[l] as usize;
-            cond[16 * t + p] = v;
+            cond[POSITIONS * t + p] = v;
         }
         i = i + 1;
     }
 }
 
 // Whether one of the sixteen lines from line k on is of flag f. All sixteen are looked at: so they are compared at once.
-fn named_from(lineFlag: &[u8; 1024], k: usize, f: u8) -> bool
+fn named_from(lineFlag: &[u8; LINES], k: usize, f: u8) -> bool
     requires { ⌜ k + 16 ≤ 1024 ⌝ }
     ensures { λ r. ⌜ r ≡ any 16 (λ i. eqb (past k (now (lineFlag .entry)) i) f) ⌝ }
 {
     let mut found: u8 = 0;
     let mut i: usize = 0;
-    while i < 16 {
+    while i < BLOCK {
         if lineFlag[k + i] == f {
             found = 1;
         }
@@ -142,7 +150,13 @@ fn named_from(lineFlag: &[u8; 1024], k: usize, f: u8) -> bool
 }
 
 // Whether task t has flag f in a condition.
-pub fn names<'a>(lineTask: &'a [u8; 1024], lineFlag: &'a [u8; 1024], n: usize, t: u8, f: u8) -> bool
+pub fn names<'a>(
+    lineTask: &'a [u8; LINES],
+    lineFlag: &'a [u8; LINES],
+    n: usize,
+    t: u8,
+    f: u8,
+) -> bool
     requires { ⌜ n ≤ 1024 ⌝ }
     ensures { λ r. ⌜ r ≡ names n (at (now (lineTask .entry))) (at (now (lineFlag .entry))) t f ⌝ }
 {
@@ -158,20 +172,20 @@ pub fn names<'a>(lineTask: &'a [u8; 1024], lineFlag: &'a [u8; 1024], n: usize, t
 
 // An inactive task with flag f in a condition and all conditions as desired.
 pub fn ready<'a>(
-    present: &'a [u8; 1040],
-    desired: &'a [u8; 1040],
-    lineTask: &'a [u8; 1024],
-    lineFlag: &'a [u8; 1024],
+    present: &'a [u8; CONDITIONS],
+    desired: &'a [u8; CONDITIONS],
+    lineTask: &'a [u8; LINES],
+    lineFlag: &'a [u8; LINES],
     n: usize,
     t: usize,
     f: u8,
-    cond: &[u8; 1040],
+    cond: &[u8; CONDITIONS],
     s: u8,
 ) -> bool
     requires { ⌜ (n ≤ 1024) × (t ≤ 64) ⌝ }
     ensures { λ r. ⌜ r ≡ (eqb s 1 && (names n (at (now (lineTask .entry))) (at (now (lineFlag .entry))) t f && met (at (now (present .entry))) (at (now (desired .entry))) t (now (cond .entry)))) ⌝ }
 {
-    if s != 1 {
+    if s != INACTIVE {
         return false;
     }
     if !met(present, desired, t, cond) {

@@ -1,5 +1,7 @@
 // A task with its descendants: who they are, and that they become uninvoked and leave their chains.
 use chains::Links;
+use rig_tables::TASK_PLACES;
+use rig_tables::TASKS;
 ghost use mathlib.Core.Path.{_≡_};
 ghost use mathlib.Core.Bool.{cond, _||_};
 ghost use Prim.Native.Nat.{_<_, _≤_};
@@ -7,6 +9,8 @@ ghost use lib.Dec.{eqb};
 ghost use Rattle.chains.specs.Held.{at, Sound};
 ghost use Rattle.rules.specs.Family.{family, cleared};
 ghost use Rattle.exec_family.specs.Post.{Controllers, Left, Deserted};
+
+const UNINVOKED: u8 = 0;
 
 // The mark of task u in the family of task t, by its controller's mark.
 pub fn mark(u: usize, t: usize, above: u8) -> u8
@@ -20,13 +24,13 @@ pub fn mark(u: usize, t: usize, above: u8) -> u8
 }
 
 // Task t and all its descendants are marked 1.
-pub fn family(controller: &[u8; 65], t: usize) -> [u8; 65]
+pub fn family(controller: &[u8; TASK_PLACES], t: usize) -> [u8; TASK_PLACES]
     requires { ⌜ Controllers (now controller) ⌝ }
     ensures { λ r. ⌜ r ≡ family (at (now (controller .entry))) t ⌝ }
 {
-    let mut marks = [0u8; 65];
+    let mut marks = [0u8; TASK_PLACES];
     let mut i: usize = 0;
-    while i < 64 {
+    while i < TASKS {
         let u = i + 1;
         let c = controller[u] as usize;
         let above = marks[c];
@@ -37,14 +41,14 @@ pub fn family(controller: &[u8; 65], t: usize) -> [u8; 65]
 }
 
 // The marked tasks become uninvoked.
-pub fn uninvoke(marks: &[u8; 65], state: &mut [u8; 65])
+pub fn uninvoke(marks: &[u8; TASK_PLACES], state: &mut [u8; TASK_PLACES])
     ensures { λ r. ⌜ now (state .exit) ≡ cleared (now (marks .entry)) (now (state .entry)) ⌝ }
 {
     let mut i: usize = 0;
-    while i < 64 {
+    while i < TASKS {
         let t = i + 1;
         if marks[t] == 1 {
-            state[t] = 0;
+            state[t] = UNINVOKED;
         }
         i = i + 1;
     }
@@ -64,13 +68,13 @@ pub fn leave(l: Links, t: usize) -> Links
 }
 
 // The marked tasks leave their chains.
-pub fn desert(l: Links, marks: [u8; 65]) -> Links
+pub fn desert(l: Links, marks: [u8; TASK_PLACES]) -> Links
     requires { ⌜ Sound l ⌝ }
     ensures { λ r. ⌜ Deserted l marks r ⌝ }
 {
     let mut k = l;
     let mut i: usize = 0;
-    while i < 64 {
+    while i < TASKS {
         let t = i + 1;
         if marks[t] == 1 {
             k = leave(k, t);

@@ -1,5 +1,9 @@
 // Flags: which are activation or minor-cycle flags, and the queue of those to be served.
 use rig::Cycle;
+use rig_tables::CYCLE_FLAGS;
+use rig_tables::CYCLES;
+use rig_tables::TASK_PLACES;
+use rig_tables::TASKS;
 ghost use mathlib.Core.Path.{_≡_};
 ghost use mathlib.Core.Bool.{_&&_};
 ghost use mathlib.Core.List.{[]};
@@ -12,12 +16,17 @@ ghost use Rattle.rules.specs.Family.{offs};
 ghost use Rattle.exec_queue.specs.View.{minorOf, entriesOf};
 ghost use Rattle.exec_queue.specs.Post.{Pushed};
 
+const INACTIVE: u8 = 1;
+
+// A call serves at most 79 flags.
+pub const QUEUED: usize = 80;
+
 // Whether f is some task's activation flag.
-pub fn is_activation(activation: &[u8; 65], f: u8) -> bool
+pub fn is_activation(activation: &[u8; TASK_PLACES], f: u8) -> bool
     ensures { λ r. ⌜ r ≡ isActivation (at (now (activation .entry))) f ⌝ }
 {
     let mut i: usize = 0;
-    while i < 64 {
+    while i < TASKS {
         let t = i + 1;
         if activation[t] == f {
             return true;
@@ -32,7 +41,7 @@ pub fn in_cycle(cycle: Cycle, f: u8) -> bool
     ensures { λ r. ⌜ r ≡ inCycle (at (cycle .flags)) f ⌝ }
 {
     let mut i: usize = 0;
-    while i < 15 {
+    while i < CYCLE_FLAGS {
         if cycle.flags[i] == f {
             return true;
         }
@@ -42,11 +51,11 @@ pub fn in_cycle(cycle: Cycle, f: u8) -> bool
 }
 
 // Whether f is a minor-cycle flag.
-pub fn is_minor(cycles: [Cycle; 64], f: u8) -> bool
+pub fn is_minor(cycles: [Cycle; CYCLES], f: u8) -> bool
     ensures { λ r. ⌜ r ≡ isMinor (minorOf cycles) f ⌝ }
 {
     let mut c: usize = 0;
-    while c < 64 {
+    while c < CYCLES {
         let cycle = cycles[c];
         if in_cycle(cycle, f) {
             return true;
@@ -59,8 +68,8 @@ pub fn is_minor(cycles: [Cycle; 64], f: u8) -> bool
 // What is queued: entries 0 to n - 1; the last is taken off first.
 pub struct Queue {
     pub n: usize,
-    pub flag: [u8; 80],
-    pub value: [u8; 80],
+    pub flag: [u8; QUEUED],
+    pub value: [u8; QUEUED],
 }
 
 impl Queue {
@@ -69,8 +78,8 @@ impl Queue {
     {
         Queue {
             n: 0,
-            flag: [0; 80],
-            value: [0; 80],
+            flag: [0; QUEUED],
+            value: [0; QUEUED],
         }
     }
 
@@ -95,7 +104,7 @@ impl Queue {
     {
         let mut q = Queue::empty();
         let mut i: usize = 0;
-        while i < 15 {
+        while i < CYCLE_FLAGS {
             let f = cycle.flags[i];
             q = q.push(f, 1);
             i = i + 1;
@@ -104,12 +113,16 @@ impl Queue {
     }
 
     // The activation flags of those marked who are active, each off, by rising number.
-    pub fn of_offs<'a>(activation: &'a [u8; 65], marks: &'a [u8; 65], state: &'a [u8; 65]) -> Queue
+    pub fn of_offs<'a>(
+        activation: &'a [u8; TASK_PLACES],
+        marks: &'a [u8; TASK_PLACES],
+        state: &'a [u8; TASK_PLACES],
+    ) -> Queue
         ensures { λ r. ⌜ entriesOf r ≡ offs (at (now (activation .entry))) (now (marks .entry)) (now (state .entry)) ⌝ }
     {
         let mut q = Queue::empty();
         let mut i: usize = 0;
-        while i < 64 {
+        while i < TASKS {
             let t = i + 1;
             if struck(marks[t], state[t]) {
                 let f = activation[t];
@@ -125,5 +138,5 @@ impl Queue {
 pub fn struck(mark: u8, state: u8) -> bool
     ensures { λ r. ⌜ r ≡ (eqb mark 1 && eqb (active state) 1) ⌝ }
 {
-    if mark == 1 { 1 < state } else { false }
+    if mark == 1 { INACTIVE < state } else { false }
 }

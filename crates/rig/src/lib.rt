@@ -1,4 +1,10 @@
 // The rig by value: what a rig file says, by number. Entries beyond its counts are 0.
+use rig_tables::CONDITIONS;
+use rig_tables::CYCLE_FLAGS;
+use rig_tables::CYCLES;
+use rig_tables::LINES;
+use rig_tables::ROWS;
+use rig_tables::TASK_PLACES;
 ghost use mathlib.Core.Path.{_≡_};
 ghost use Rattle.rig.specs.Forms.{cyclesOf, tableOf, noRig, noCycles};
 
@@ -17,7 +23,7 @@ pub struct Row {
 // The flags of one minor cycle in file order, and 0 behind the last.
 #[repr(C)]
 pub struct Cycle {
-    pub flags: [u8; 15],
+    pub flags: [u8; CYCLE_FLAGS],
 }
 
 // Tasks and flags stand at their number, place 0 unused; a condition at 16 * task + position, present 1 where it has a
@@ -29,17 +35,17 @@ pub struct Rig {
     pub master: u8,
     pub lines: u16,
     pub rows: u8,
-    pub controller: [u8; 65],
-    pub priority: [u8; 65],
-    pub privileged: [u8; 65],
-    pub activation: [u8; 65],
-    pub present: [u8; 1040],
-    pub latched: [u8; 1040],
-    pub desired: [u8; 1040],
-    pub lineTask: [u8; 1024],
-    pub linePos: [u8; 1024],
-    pub lineFlag: [u8; 1024],
-    pub row: [Row; 64],
+    pub controller: [u8; TASK_PLACES],
+    pub priority: [u8; TASK_PLACES],
+    pub privileged: [u8; TASK_PLACES],
+    pub activation: [u8; TASK_PLACES],
+    pub present: [u8; CONDITIONS],
+    pub latched: [u8; CONDITIONS],
+    pub desired: [u8; CONDITIONS],
+    pub lineTask: [u8; LINES],
+    pub linePos: [u8; LINES],
+    pub lineFlag: [u8; LINES],
+    pub row: [Row; ROWS],
 }
 
 // The rig of all zeros.
@@ -61,35 +67,37 @@ pub fn none() -> Rig
         master: 0,
         lines: 0,
         rows: 0,
-        controller: [0; 65],
-        priority: [0; 65],
-        privileged: [0; 65],
-        activation: [0; 65],
-        present: [0; 1040],
-        latched: [0; 1040],
-        desired: [0; 1040],
-        lineTask: [0; 1024],
-        linePos: [0; 1024],
-        lineFlag: [0; 1024],
-        row: [b; 64],
+        controller: [0; TASK_PLACES],
+        priority: [0; TASK_PLACES],
+        privileged: [0; TASK_PLACES],
+        activation: [0; TASK_PLACES],
+        present: [0; CONDITIONS],
+        latched: [0; CONDITIONS],
+        desired: [0; CONDITIONS],
+        lineTask: [0; LINES],
+        linePos: [0; LINES],
+        lineFlag: [0; LINES],
+        row: [b; ROWS],
     }
 }
 
 // Cycles with no flag.
-pub fn no_cycles() -> [Cycle; 64]
+pub fn no_cycles() -> [Cycle; CYCLES]
     ensures { λ r. ⌜ r ≡ noCycles ⌝ }
 {
-    let c = Cycle { flags: [0; 15] };
-    [c; 64]
+    let c = Cycle {
+        flags: [0; CYCLE_FLAGS],
+    };
+    [c; CYCLES]
 }
 
 // The cycles as row structs, from an array of arrays.
-pub fn cycles_of(table: [[u8; 15]; 64]) -> [Cycle; 64]
+pub fn cycles_of(table: [[u8; CYCLE_FLAGS]; CYCLES]) -> [Cycle; CYCLES]
     ensures { λ r. ⌜ r ≡ cyclesOf table ⌝ }
 {
     let mut cycles = no_cycles();
     let mut c: usize = 0;
-    while c < 64 {
+    while c < CYCLES {
         let flags = table[c];
         cycles[c] = Cycle { flags };
         c = c + 1;
@@ -98,12 +106,12 @@ pub fn cycles_of(table: [[u8; 15]; 64]) -> [Cycle; 64]
 }
 
 // The cycles as an array of arrays, from row structs.
-pub fn table_of(cycles: [Cycle; 64]) -> [[u8; 15]; 64]
+pub fn table_of(cycles: [Cycle; CYCLES]) -> [[u8; CYCLE_FLAGS]; CYCLES]
     ensures { λ r. ⌜ r ≡ tableOf cycles ⌝ }
 {
-    let mut table = [[0u8; 15]; 64];
+    let mut table = [[0u8; CYCLE_FLAGS]; CYCLES];
     let mut c: usize = 0;
-    while c < 64 {
+    while c < CYCLES {
         let cycle = cycles[c];
         let flags = cycle.flags;
         table[c] = flags;

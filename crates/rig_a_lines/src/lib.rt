@@ -1,4 +1,5 @@
 // The tests of a rig's A lines: their numbers, and that they rise.
+use rig_tables::LINES;
 ghost use mathlib.Core.Path.{_≡_};
 ghost use mathlib.Core.Bool.{not};
 ghost use Prim.Native.Nat.{_≤_, _<_};
@@ -24,9 +25,9 @@ fn fault(t: u8, p: u8, f: u8, u: u8, q: u8, h: u8) -> u8
 // looked at once.
 pub fn lines_rise<'a>(
     n: usize,
-    lineTask: &'a [u8; 1024],
-    linePos: &'a [u8; 1024],
-    lineFlag: &'a [u8; 1024],
+    lineTask: &'a [u8; LINES],
+    linePos: &'a [u8; LINES],
+    lineFlag: &'a [u8; LINES],
 ) -> bool
     requires { ⌜ n ≤ 1024 ⌝ }
     ensures { λ r. ⌜ r ≡ linesRiseB n (now (lineTask .entry)) (now (linePos .entry)) (now (lineFlag .entry)) ⌝ }
@@ -49,7 +50,7 @@ pub fn lines_rise<'a>(
 }
 
 // Each of the first n entries is one of low to high.
-fn between(l: &[u8; 1024], n: usize, low: u8, high: u8) -> bool
+fn between(l: &[u8; LINES], n: usize, low: u8, high: u8) -> bool
     requires { ⌜ n ≤ 1024 ⌝ }
     ensures { λ r. ⌜ r ≡ all n (betweenOne low high (now (l .entry))) ⌝ }
 {
@@ -73,9 +74,9 @@ pub fn lines<'a>(
     n: usize,
     tasks: u8,
     flags: u8,
-    lineTask: &'a [u8; 1024],
-    linePos: &'a [u8; 1024],
-    lineFlag: &'a [u8; 1024],
+    lineTask: &'a [u8; LINES],
+    linePos: &'a [u8; LINES],
+    lineFlag: &'a [u8; LINES],
 ) -> bool
     requires { ⌜ n ≤ 1024 ⌝ }
     ensures { λ r. ⌜ r ≡ linesB n tasks flags (now (lineTask .entry)) (now (linePos .entry)) (now (lineFlag .entry)) ⌝ }

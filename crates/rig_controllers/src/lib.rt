@@ -1,4 +1,5 @@
 // The test of a rig's controllers.
+use rig_tables::TASK_PLACES;
 ghost use mathlib.Core.Path.{_≡_};
 ghost use mathlib.Core.Bool.{_&&_, not};
 ghost use Prim.Native.Nat.{_+_, _-_, _≤_, _<_};
@@ -8,7 +9,7 @@ ghost use Rattle.rig_controllers.specs.Climb.{Low};
 
 // Up from task x, controller by controller, while the number is above c. Over all tasks of a right rig this takes no more
 // steps than there are tasks, since the next task's path leaves out what was climbed past.
-fn climbed(controller: &[u8; 65], c: usize, x: usize) -> usize
+fn climbed(controller: &[u8; TASK_PLACES], c: usize, x: usize) -> usize
     requires { ⌜ (x ≤ 64) × Low (now controller) (x + 1) ⌝ }
     ensures { λ r. ⌜ r ≡ climb (at (now (controller .entry))) c 64 x ⌝ }
 {
@@ -19,7 +20,7 @@ fn climbed(controller: &[u8; 65], c: usize, x: usize) -> usize
     y
 }
 
-fn controller_ok(controller: &[u8; 65], t: usize) -> bool
+fn controller_ok(controller: &[u8; TASK_PLACES], t: usize) -> bool
     requires { ⌜ (1 < t) × ((t < 65) × Low (now controller) t) ⌝ }
     ensures { λ r.
         ⌜
@@ -36,7 +37,7 @@ fn controller_ok(controller: &[u8; 65], t: usize) -> bool
 }
 
 // Task 1 has controller 0; every other controller is the previous task or one of that task's ancestors.
-pub fn controllers(tasks: usize, controller: &[u8; 65]) -> bool
+pub fn controllers(tasks: usize, controller: &[u8; TASK_PLACES]) -> bool
     requires { ⌜ (1 ≤ tasks) × (tasks ≤ 64) ⌝ }
     ensures { λ r. ⌜ r ≡ controllersB tasks (now (controller .entry)) ⌝ }
 {

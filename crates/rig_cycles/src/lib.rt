@@ -1,5 +1,8 @@
 // The tests of minor cycles: the flags of each rise and are small enough, and the marks of minor-cycle flags.
 use rig::Cycle;
+use rig_tables::CYCLE_FLAGS;
+use rig_tables::CYCLES;
+use rig_tables::FLAG_PLACES;
 ghost use mathlib.Core.Path.{_≡_};
 ghost use mathlib.Core.Bool.{true, not};
 ghost use Prim.Native.Nat.{ℕ, _≤_, _<_};
@@ -10,6 +13,9 @@ ghost use Rattle.rig_tables.specs.Tests.{at, flagTest, cycleRises, cycleSmall};
 ghost use Rattle.rig_cycles.specs.Cycles.{flagsOnly};
 ghost use Rattle.rig.specs.Rules.{flagAt};
 ghost use Rattle.rig_cycles.specs.Tests.{cyclesRiseB, cyclesSmallB, minorMarks};
+
+// A flag and the one behind it.
+const PAIRS: usize = CYCLE_FLAGS - 1;
 
 // 1 where flag h may not stand behind f, else 0: a flag stands behind a lower one, and 0 is none. No part of it is left out by a
 // branch: so all places of a cycle are compared at once.
@@ -23,13 +29,13 @@ fn fault(f: u8, h: u8) -> u8
 }
 
 // The flags of one cycle rise, and nothing stands behind the last.
-pub fn cycle_rises(flags: &[u8; 15]) -> bool
+pub fn cycle_rises(flags: &[u8; CYCLE_FLAGS]) -> bool
     requires { ⌜ length (now flags) ≡ 15 ⌝ }
     ensures { λ r. ⌜ r ≡ cycleRises (now (flags .entry)) ⌝ }
 {
     let mut faults: u8 = 0;
     let mut i: usize = 0;
-    while i < 14 {
+    while i < PAIRS {
         let x = fault(flags[i], flags[i + 1]);
         faults = faults | x;
         i = i + 1;
@@ -38,7 +44,7 @@ pub fn cycle_rises(flags: &[u8; 15]) -> bool
 }
 
 // No flag of a cycle is above top: the largest is not. A cycle that rises and begins with 0 has no flag.
-pub fn cycle_small(top: u8, flags: &[u8; 15]) -> bool
+pub fn cycle_small(top: u8, flags: &[u8; CYCLE_FLAGS]) -> bool
     requires { ⌜ cycleRises (now flags) ≡ true ⌝ }
     ensures { λ r. ⌜ r ≡ cycleSmall top (now (flags .entry)) ⌝ }
 {
@@ -47,7 +53,7 @@ pub fn cycle_small(top: u8, flags: &[u8; 15]) -> bool
     }
     let mut most: u8 = 0;
     let mut i: usize = 0;
-    while i < 15 {
+    while i < CYCLE_FLAGS {
         let x = flags[i];
         if most < x {
             most = x;
@@ -59,12 +65,12 @@ pub fn cycle_small(top: u8, flags: &[u8; 15]) -> bool
 
 // Marks each flag of one cycle that rises, up to its first 0. No flag has the number 0, so what is said of the table leaves
 // place 0 out.
-pub fn mark_cycle(flags: &[u8; 15], table: &mut [u8; 129])
+pub fn mark_cycle(flags: &[u8; CYCLE_FLAGS], table: &mut [u8; FLAG_PLACES])
     requires { ⌜ (cycleRises (now flags) ≡ true) × ((i : ℕ) → i < 15 → at (now flags) i ≤ 128) ⌝ }
     ensures { λ r. ⌜ flagsOnly (now (table .exit)) ≡ flagsOnly (marks 15 (at (now (flags .entry))) (now (table .entry))) ⌝ }
 {
     let mut i: usize = 0;
-    while i < 15 {
+    while i < CYCLE_FLAGS {
         let f = rig_tables::wide(flags[i]);
         if f == 0 {
             break;
@@ -75,11 +81,11 @@ pub fn mark_cycle(flags: &[u8; 15], table: &mut [u8; 129])
 }
 
 // The flags of each cycle rise, and nothing stands behind its last.
-pub fn cycles_rise(cycles: [Cycle; 64]) -> bool
+pub fn cycles_rise(cycles: [Cycle; CYCLES]) -> bool
     ensures { λ r. ⌜ r ≡ cyclesRiseB cycles ⌝ }
 {
     let mut c: usize = 0;
-    while c < 64 {
+    while c < CYCLES {
         let cycle = cycles[c];
         if !cycle_rises(&cycle.flags) {
             return false;
@@ -90,12 +96,12 @@ pub fn cycles_rise(cycles: [Cycle; 64]) -> bool
 }
 
 // No flag of a cycle is above top; the cycles rise, so that each is looked at up to its last flag only.
-pub fn cycles_small(top: u8, cycles: [Cycle; 64]) -> bool
+pub fn cycles_small(top: u8, cycles: [Cycle; CYCLES]) -> bool
     requires { ⌜ cyclesRiseB cycles ≡ true ⌝ }
     ensures { λ r. ⌜ r ≡ cyclesSmallB top cycles ⌝ }
 {
     let mut c: usize = 0;
-    while c < 64 {
+    while c < CYCLES {
         let cycle = cycles[c];
         if !cycle_small(top, &cycle.flags) {
             return false;
@@ -106,13 +112,13 @@ pub fn cycles_small(top: u8, cycles: [Cycle; 64]) -> bool
 }
 
 // The minor-cycle flags, marked by 1.
-pub fn minor_marks(cycles: [Cycle; 64]) -> [u8; 129]
+pub fn minor_marks(cycles: [Cycle; CYCLES]) -> [u8; FLAG_PLACES]
     requires { ⌜ (cyclesRiseB cycles ≡ true) × ((c : ℕ) → c < 64 → (i : ℕ) → i < 15 → flagAt cycles c i ≤ 128) ⌝ }
     ensures { λ r. ⌜ r ≡ minorMarks cycles ⌝ }
 {
-    let mut table = [0u8; 129];
+    let mut table = [0u8; FLAG_PLACES];
     let mut c: usize = 0;
-    while c < 64 {
+    while c < CYCLES {
         let cycle = cycles[c];
         mark_cycle(&cycle.flags, &mut table);
         c = c + 1;

@@ -1,4 +1,7 @@
 // The test of conditions with a minor-cycle flag. What would compare every A line with every other goes by neighbours.
+use rig_tables::CONDITIONS;
+use rig_tables::FLAG_PLACES;
+use rig_tables::LINES;
 ghost use mathlib.Core.Path.{_≡_};
 ghost use mathlib.Core.Bool.{_&&_};
 ghost use Prim.Native.Nat.{ℕ, _+_, _≤_, _<_};
@@ -9,7 +12,7 @@ ghost use Rattle.rig_tables.specs.Lines.{Placed, LinesFit, Together};
 ghost use Rattle.rig_minor.specs.Neighbours.{sameBefore, sameBehind, minorOkB};
 
 // Whether A lines k and j are of one condition.
-fn same_place<'a>(lineTask: &'a [u8; 1024], linePos: &'a [u8; 1024], k: usize, j: usize) -> bool
+fn same_place<'a>(lineTask: &'a [u8; LINES], linePos: &'a [u8; LINES], k: usize, j: usize) -> bool
     requires { ⌜ (k < 1024) × (j < 1024) ⌝ }
     ensures { λ r. ⌜ r ≡ eqb (placeOf (now (lineTask .entry)) (now (linePos .entry)) k) (placeOf (now (lineTask .entry)) (now (linePos .entry)) j) ⌝ }
 {
@@ -19,7 +22,7 @@ fn same_place<'a>(lineTask: &'a [u8; 1024], linePos: &'a [u8; 1024], k: usize, j
 }
 
 // Whether the line before A line k is of its condition.
-fn same_before<'a>(lineTask: &'a [u8; 1024], linePos: &'a [u8; 1024], k: usize) -> bool
+fn same_before<'a>(lineTask: &'a [u8; LINES], linePos: &'a [u8; LINES], k: usize) -> bool
     requires { ⌜ k < 1024 ⌝ }
     ensures { λ r. ⌜ r ≡ sameBefore (now (lineTask .entry)) (now (linePos .entry)) k ⌝ }
 {
@@ -31,7 +34,7 @@ fn same_before<'a>(lineTask: &'a [u8; 1024], linePos: &'a [u8; 1024], k: usize) 
 }
 
 // Whether the line behind A line k is of its condition.
-fn same_behind<'a>(n: usize, lineTask: &'a [u8; 1024], linePos: &'a [u8; 1024], k: usize) -> bool
+fn same_behind<'a>(n: usize, lineTask: &'a [u8; LINES], linePos: &'a [u8; LINES], k: usize) -> bool
     requires { ⌜ (k < n) × (n ≤ 1024) ⌝ }
     ensures { λ r. ⌜ r ≡ sameBehind n (now (lineTask .entry)) (now (linePos .entry)) k ⌝ }
 {
@@ -51,10 +54,10 @@ fn unlatched_on(latched: u8, desired: u8) -> bool
 // The condition of A line k has no other flag, is unlatched and desires on.
 fn minor_ok<'a>(
     n: usize,
-    latched: &'a [u8; 1040],
-    desired: &'a [u8; 1040],
-    lineTask: &'a [u8; 1024],
-    linePos: &'a [u8; 1024],
+    latched: &'a [u8; CONDITIONS],
+    desired: &'a [u8; CONDITIONS],
+    lineTask: &'a [u8; LINES],
+    linePos: &'a [u8; LINES],
     k: usize,
 ) -> bool
     requires { ⌜ Placed n (now lineTask) (now linePos) × (k < n) ⌝ }
@@ -71,7 +74,7 @@ fn minor_ok<'a>(
 }
 
 // Whether no line of the four from line k on has a marked flag. All four are looked at: so there is one branch for them.
-fn four_unmarked<'a>(lineFlag: &'a [u8; 1024], flags: &'a [u8; 129], k: usize) -> bool
+fn four_unmarked<'a>(lineFlag: &'a [u8; LINES], flags: &'a [u8; FLAG_PLACES], k: usize) -> bool
     requires { ⌜ (k + 4 ≤ 1024) × ((j : ℕ) → j < k + 4 → at (now lineFlag) j ≤ 128) ⌝ }
     ensures { λ r. ⌜ r ≡ all 4 (λ i. eqb (at (now (flags .entry)) (at (now (lineFlag .entry)) (k + i))) 0) ⌝ }
 {
@@ -88,12 +91,12 @@ fn four_unmarked<'a>(lineFlag: &'a [u8; 1024], flags: &'a [u8; 129], k: usize) -
 // Of the m lines from line k on: the condition of each that has a marked flag has no other flag, is unlatched and desires on.
 fn minor_from<'a>(
     n: usize,
-    latched: &'a [u8; 1040],
-    desired: &'a [u8; 1040],
-    lineTask: &'a [u8; 1024],
-    linePos: &'a [u8; 1024],
-    lineFlag: &'a [u8; 1024],
-    flags: &'a [u8; 129],
+    latched: &'a [u8; CONDITIONS],
+    desired: &'a [u8; CONDITIONS],
+    lineTask: &'a [u8; LINES],
+    linePos: &'a [u8; LINES],
+    lineFlag: &'a [u8; LINES],
+    flags: &'a [u8; FLAG_PLACES],
     k: usize,
     m: usize,
 ) -> bool
@@ -123,12 +126,12 @@ fn minor_from<'a>(
 // a line's neighbours tell whether its condition has another flag.
 pub fn minor_conditions<'a>(
     n: usize,
-    latched: &'a [u8; 1040],
-    desired: &'a [u8; 1040],
-    lineTask: &'a [u8; 1024],
-    linePos: &'a [u8; 1024],
-    lineFlag: &'a [u8; 1024],
-    flags: &'a [u8; 129],
+    latched: &'a [u8; CONDITIONS],
+    desired: &'a [u8; CONDITIONS],
+    lineTask: &'a [u8; LINES],
+    linePos: &'a [u8; LINES],
+    lineFlag: &'a [u8; LINES],
+    flags: &'a [u8; FLAG_PLACES],
 ) -> bool
     requires { ⌜ LinesFit n (now lineTask) (now linePos) (now lineFlag) × Together n (now lineTask) (now linePos) ⌝ }
     ensures { λ r.

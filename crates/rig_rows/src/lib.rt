@@ -1,9 +1,17 @@
 // The tests of a rig's rows: their sizes, that sender and receiver differ, and that rows beyond the count are 0.
 use rig::Row;
+use rig_tables::ROWS;
 ghost use Rattle.laws.specs.All.{allOf};
 ghost use mathlib.Core.Path.{_≡_};
 ghost use Prim.Native.Nat.{_≤_};
 ghost use Rattle.rig_rows.specs.Tests.{listedB, rowTests, rowsB, differB, rowZero, rowZerosB};
+
+// "addresses 0 to 31, data sub-addresses 1 to 30", "1 to 32 words"
+const LAST_ADDRESS: u8 = 31;
+
+const LAST_SUB_ADDRESS: u8 = 30;
+
+const MOST_WORDS: u8 = 32;
 
 const PERIODS: [u8; 7] = [1, 2, 4, 8, 16, 32, 64];
 
@@ -24,19 +32,19 @@ fn listed(p: u8) -> bool
 fn row_ok(b: Row) -> bool
     ensures { λ r. ⌜ r ≡ allOf (rowTests b) ⌝ }
 {
-    if 31 < b.sender {
+    if LAST_ADDRESS < b.sender {
         return false;
     }
-    if !rig_tables::in_range(1, b.senderSub, 30) {
+    if !rig_tables::in_range(1, b.senderSub, LAST_SUB_ADDRESS) {
         return false;
     }
-    if 31 < b.receiver {
+    if LAST_ADDRESS < b.receiver {
         return false;
     }
-    if !rig_tables::in_range(1, b.receiverSub, 30) {
+    if !rig_tables::in_range(1, b.receiverSub, LAST_SUB_ADDRESS) {
         return false;
     }
-    if !rig_tables::in_range(1, b.words, 32) {
+    if !rig_tables::in_range(1, b.words, MOST_WORDS) {
         return false;
     }
     if !listed(b.period) {
@@ -45,7 +53,7 @@ fn row_ok(b: Row) -> bool
     b.phase < b.period
 }
 
-pub fn rows_ok(n: usize, row: [Row; 64]) -> bool
+pub fn rows_ok(n: usize, row: [Row; ROWS]) -> bool
     requires { ⌜ n ≤ 64 ⌝ }
     ensures { λ r. ⌜ r ≡ rowsB n row ⌝ }
 {
@@ -60,7 +68,7 @@ pub fn rows_ok(n: usize, row: [Row; 64]) -> bool
     true
 }
 
-pub fn differ(n: usize, row: [Row; 64]) -> bool
+pub fn differ(n: usize, row: [Row; ROWS]) -> bool
     requires { ⌜ n ≤ 64 ⌝ }
     ensures { λ r. ⌜ r ≡ differB n row ⌝ }
 {
@@ -99,12 +107,12 @@ fn row_zero(b: Row) -> bool
     b.phase == 0
 }
 
-pub fn row_zeros(n: usize, row: [Row; 64]) -> bool
+pub fn row_zeros(n: usize, row: [Row; ROWS]) -> bool
     requires { ⌜ n ≤ 64 ⌝ }
     ensures { λ r. ⌜ r ≡ rowZerosB n row ⌝ }
 {
     let mut k = n;
-    while k < 64 {
+    while k < ROWS {
         let b = row[k];
         if !row_zero(b) {
             return false;

@@ -2,6 +2,13 @@
 use rig::Cycle;
 use rig::Rig;
 use rig::Row;
+use rig_tables::CONDITIONS;
+use rig_tables::CYCLES;
+use rig_tables::FLAG_PLACES;
+use rig_tables::LINES;
+use rig_tables::POSITIONS;
+use rig_tables::ROWS;
+use rig_tables::TASK_PLACES;
 ghost use Prim.Native.Nat.{ℕ, _≤_, _<_};
 ghost use Rattle.laws.specs.All.{allOf};
 ghost use Rattle.laws.specs.First.{firstFalse};
@@ -14,23 +21,36 @@ ghost use Rattle.rig.specs.Forms.{rigOf};
 ghost use Rattle.rig_cycles.specs.Tests.{cyclesRiseB};
 ghost use Rattle.rig_whole.specs.Tests.{shapedTests, countTests, sizeTests, orderTests, numberTests, taskTests, lineTests, restTests, firstBroken, rightB};
 
+// "Tasks 1 to 64, flags 1 to 128", "addresses 0 to 31", "at most 1,024 A and 64 B lines", "priority 0 to 255"
+const MOST_TASKS: u8 = 64;
+
+const MOST_FLAGS: u8 = 128;
+
+const LAST_ADDRESS: u8 = 31;
+
+const MOST_LINES: u16 = 1024;
+
+const MOST_ROWS: u8 = 64;
+
+const HIGHEST_PRIORITY: u8 = 255;
+
 // Rules 1 to 5: the counts of the RIG line, of A lines and of rows.
 fn counts(tasks: u8, flags: u8, master: u8, lines: u16, rows: u8) -> u8
     ensures { λ r. ⌜ r ≡ firstFalse 1 (countTests tasks flags master lines rows) ⌝ }
 {
-    if !rig_tables::in_range(1, tasks, 64) {
+    if !rig_tables::in_range(1, tasks, MOST_TASKS) {
         return 1;
     }
-    if !rig_tables::in_range(1, flags, 128) {
+    if !rig_tables::in_range(1, flags, MOST_FLAGS) {
         return 2;
     }
-    if 31 < master {
+    if LAST_ADDRESS < master {
         return 3;
     }
-    if 1024 < lines {
+    if MOST_LINES < lines {
         return 4;
     }
-    if 64 < rows {
+    if MOST_ROWS < rows {
         return 5;
     }
     0
@@ -38,13 +58,13 @@ fn counts(tasks: u8, flags: u8, master: u8, lines: u16, rows: u8) -> u8
 
 // Rules 6 to 9: priorities, privileges, conditions, rows.
 fn sizes<'a>(
-    priority: &'a [u8; 65],
-    privileged: &'a [u8; 65],
-    present: &'a [u8; 1040],
-    latched: &'a [u8; 1040],
-    desired: &'a [u8; 1040],
+    priority: &'a [u8; TASK_PLACES],
+    privileged: &'a [u8; TASK_PLACES],
+    present: &'a [u8; CONDITIONS],
+    latched: &'a [u8; CONDITIONS],
+    desired: &'a [u8; CONDITIONS],
     rows: usize,
-    row: [Row; 64],
+    row: [Row; ROWS],
 ) -> u8
     requires { ⌜ rows ≤ 64 ⌝ }
     ensures { λ r.
@@ -53,7 +73,7 @@ fn sizes<'a>(
         ≡ firstFalse 6 (sizeTests (now (priority .entry)) (now (privileged .entry)) (now (present .entry)) (now (latched .entry)) (now (desired .entry)) rows row)
         ⌝ }
 {
-    if !rig_tables::small(priority, 255) {
+    if !rig_tables::small(priority, HIGHEST_PRIORITY) {
         return 6;
     }
     if !rig_tables::small(privileged, 1) {
@@ -71,10 +91,10 @@ fn sizes<'a>(
 // Rules 10 and 11: A lines and the flags of each cycle rise.
 fn orders<'a>(
     lines: usize,
-    lineTask: &'a [u8; 1024],
-    linePos: &'a [u8; 1024],
-    lineFlag: &'a [u8; 1024],
-    cycles: [Cycle; 64],
+    lineTask: &'a [u8; LINES],
+    linePos: &'a [u8; LINES],
+    lineFlag: &'a [u8; LINES],
+    cycles: [Cycle; CYCLES],
 ) -> u8
     requires { ⌜ lines ≤ 1024 ⌝ }
     ensures { λ r. ⌜ r ≡ firstFalse 10 (orderTests lines (now (lineTask .entry)) (now (linePos .entry)) (now (lineFlag .entry)) cycles) ⌝ }
@@ -93,12 +113,12 @@ fn numbers<'a>(
     tasks: u8,
     flags: u8,
     lines: usize,
-    activation: &'a [u8; 65],
-    present: &'a [u8; 1040],
-    lineTask: &'a [u8; 1024],
-    linePos: &'a [u8; 1024],
-    lineFlag: &'a [u8; 1024],
-    cycles: [Cycle; 64],
+    activation: &'a [u8; TASK_PLACES],
+    present: &'a [u8; CONDITIONS],
+    lineTask: &'a [u8; LINES],
+    linePos: &'a [u8; LINES],
+    lineFlag: &'a [u8; LINES],
+    cycles: [Cycle; CYCLES],
 ) -> u8
     requires { ⌜ (lines ≤ 1024) × (cyclesRiseB cycles ≡ true) ⌝ }
     ensures { λ r.
@@ -125,9 +145,9 @@ fn numbers<'a>(
 // Rules 16 to 18: controllers, and activation flags against each other and against the marked minor-cycle flags.
 fn task_rules<'a>(
     tasks: usize,
-    controller: &'a [u8; 65],
-    activation: &'a [u8; 65],
-    flags: &'a [u8; 129],
+    controller: &'a [u8; TASK_PLACES],
+    activation: &'a [u8; TASK_PLACES],
+    flags: &'a [u8; FLAG_PLACES],
 ) -> u8
     requires { ⌜ (1 ≤ tasks) × ((tasks ≤ 64) × ((t : ℕ) → t < 65 → at (now activation) t ≤ 128)) ⌝ }
     ensures { λ r. ⌜ r ≡ firstFalse 16 (taskTests tasks (now (controller .entry)) (now (activation .entry)) (marked (now (flags .entry)))) ⌝ }
@@ -150,13 +170,13 @@ fn task_rules<'a>(
 fn line_rules<'a>(
     tasks: usize,
     lines: usize,
-    present: &'a [u8; 1040],
-    latched: &'a [u8; 1040],
-    desired: &'a [u8; 1040],
-    lineTask: &'a [u8; 1024],
-    linePos: &'a [u8; 1024],
-    lineFlag: &'a [u8; 1024],
-    flags: &'a [u8; 129],
+    present: &'a [u8; CONDITIONS],
+    latched: &'a [u8; CONDITIONS],
+    desired: &'a [u8; CONDITIONS],
+    lineTask: &'a [u8; LINES],
+    linePos: &'a [u8; LINES],
+    lineFlag: &'a [u8; LINES],
+    flags: &'a [u8; FLAG_PLACES],
 ) -> u8
     requires { ⌜ LinesFit lines (now lineTask) (now linePos) (now lineFlag) × (Together lines (now lineTask) (now linePos) × Ends tasks lines (now present) (now lineTask) (now linePos)) ⌝ }
     ensures { λ r.
@@ -167,7 +187,7 @@ fn line_rules<'a>(
 {
     let table = rig_conditions::place_marks(lines, lineTask, linePos);
     // one pass for both rules; where it fails, which
-    if !rig_conditions::matched(16 * (tasks + 1), present, &table) {
+    if !rig_conditions::matched(POSITIONS * (tasks + 1), present, &table) {
         if !rig_conditions::names_present(lines, present, lineTask, linePos) {
             return 19;
         }
@@ -184,14 +204,14 @@ fn rest_rules<'a>(
     tasks: u8,
     lines: usize,
     rows: usize,
-    controller: &'a [u8; 65],
-    priority: &'a [u8; 65],
-    privileged: &'a [u8; 65],
-    activation: &'a [u8; 65],
-    lineTask: &'a [u8; 1024],
-    linePos: &'a [u8; 1024],
-    lineFlag: &'a [u8; 1024],
-    row: [Row; 64],
+    controller: &'a [u8; TASK_PLACES],
+    priority: &'a [u8; TASK_PLACES],
+    privileged: &'a [u8; TASK_PLACES],
+    activation: &'a [u8; TASK_PLACES],
+    lineTask: &'a [u8; LINES],
+    linePos: &'a [u8; LINES],
+    lineFlag: &'a [u8; LINES],
+    row: [Row; ROWS],
 ) -> u8
     requires { ⌜ (lines ≤ 1024) × (rows ≤ 64) ⌝ }
     ensures { λ r.
@@ -223,18 +243,18 @@ pub fn broken_in<'a>(
     master: u8,
     lines: u16,
     rows: u8,
-    controller: &'a [u8; 65],
-    priority: &'a [u8; 65],
-    privileged: &'a [u8; 65],
-    activation: &'a [u8; 65],
-    present: &'a [u8; 1040],
-    latched: &'a [u8; 1040],
-    desired: &'a [u8; 1040],
-    lineTask: &'a [u8; 1024],
-    linePos: &'a [u8; 1024],
-    lineFlag: &'a [u8; 1024],
-    row: [Row; 64],
-    cycles: [Cycle; 64],
+    controller: &'a [u8; TASK_PLACES],
+    priority: &'a [u8; TASK_PLACES],
+    privileged: &'a [u8; TASK_PLACES],
+    activation: &'a [u8; TASK_PLACES],
+    present: &'a [u8; CONDITIONS],
+    latched: &'a [u8; CONDITIONS],
+    desired: &'a [u8; CONDITIONS],
+    lineTask: &'a [u8; LINES],
+    linePos: &'a [u8; LINES],
+    lineFlag: &'a [u8; LINES],
+    row: [Row; ROWS],
+    cycles: [Cycle; CYCLES],
 ) -> u8
     requires { ⌜ allOf (shapedTests (rigOf tasks flags master lines rows (now controller) (now priority) (now privileged) (now activation) (now present) (now latched) (now desired) (now lineTask) (now linePos) (now lineFlag) row)) ≡ true ⌝ }
     ensures { λ r.
@@ -307,7 +327,7 @@ pub fn broken_in<'a>(
 }
 
 // The number of the first rule that the rig and its cycles break, 0 for none.
-pub fn broken(rig: Rig, cycles: [Cycle; 64]) -> u8
+pub fn broken(rig: Rig, cycles: [Cycle; CYCLES]) -> u8
     ensures { λ r. ⌜ r ≡ firstBroken rig cycles ⌝ }
 {
     let row = rig.row;
@@ -333,7 +353,7 @@ pub fn broken(rig: Rig, cycles: [Cycle; 64]) -> u8
 }
 
 // Whether the rig and its cycles obey every rule.
-pub fn right(rig: Rig, cycles: [Cycle; 64]) -> bool
+pub fn right(rig: Rig, cycles: [Cycle; CYCLES]) -> bool
     ensures { λ r. ⌜ r ≡ rightB rig cycles ⌝ }
 {
     broken(rig, cycles) == 0

@@ -1,4 +1,8 @@
 // The tests that a rig's entries beyond its counts are 0.
+use rig_tables::CONDITIONS;
+use rig_tables::LINES;
+use rig_tables::POSITIONS;
+use rig_tables::TASK_PLACES;
 ghost use mathlib.Core.Path.{_≡_};
 ghost use mathlib.Core.Bool.{_&&_};
 ghost use Prim.Native.Nat.{_≤_};
@@ -25,14 +29,14 @@ fn zeros(l: &[u8], from: usize, to: usize) -> bool
 }
 
 // No condition is of a task above the count.
-pub fn condition_tasks(tasks: u8, present: &[u8; 1040]) -> bool
+pub fn condition_tasks(tasks: u8, present: &[u8; CONDITIONS]) -> bool
     ensures { λ r. ⌜ r ≡ conditionTasksB tasks (now (present .entry)) ⌝ }
 {
-    let top = 16 * (tasks as usize + 1);
-    if !zeros(present, 0, 16) {
+    let top = POSITIONS * (tasks as usize + 1);
+    if !zeros(present, 0, POSITIONS) {
         return false;
     }
-    zeros(present, top, 1040)
+    zeros(present, top, CONDITIONS)
 }
 
 fn four_zeros(a: u8, b: u8, c: u8, d: u8) -> bool
@@ -53,10 +57,10 @@ fn four_zeros(a: u8, b: u8, c: u8, d: u8) -> bool
 // entries at once.
 pub fn task_zeros<'a>(
     tasks: u8,
-    controller: &'a [u8; 65],
-    priority: &'a [u8; 65],
-    privileged: &'a [u8; 65],
-    activation: &'a [u8; 65],
+    controller: &'a [u8; TASK_PLACES],
+    priority: &'a [u8; TASK_PLACES],
+    privileged: &'a [u8; TASK_PLACES],
+    activation: &'a [u8; TASK_PLACES],
 ) -> bool
     ensures { λ r.
         ⌜ r ≡ taskZerosB tasks (now (controller .entry)) (now (priority .entry)) (now (privileged .entry)) (now (activation .entry)) ⌝ }
@@ -66,7 +70,7 @@ pub fn task_zeros<'a>(
     let mut c = privileged[0];
     let mut d = activation[0];
     let mut t = rig_tables::wide(tasks) + 1;
-    while t < 65 {
+    while t < TASK_PLACES {
         let x = controller[t];
         if a < x {
             a = x;
@@ -90,18 +94,18 @@ pub fn task_zeros<'a>(
 
 pub fn line_zeros<'a>(
     n: usize,
-    lineTask: &'a [u8; 1024],
-    linePos: &'a [u8; 1024],
-    lineFlag: &'a [u8; 1024],
+    lineTask: &'a [u8; LINES],
+    linePos: &'a [u8; LINES],
+    lineFlag: &'a [u8; LINES],
 ) -> bool
     requires { ⌜ n ≤ 1024 ⌝ }
     ensures { λ r. ⌜ r ≡ lineZerosB n (now (lineTask .entry)) (now (linePos .entry)) (now (lineFlag .entry)) ⌝ }
 {
-    if !zeros(lineTask, n, 1024) {
+    if !zeros(lineTask, n, LINES) {
         return false;
     }
-    if !zeros(linePos, n, 1024) {
+    if !zeros(linePos, n, LINES) {
         return false;
     }
-    zeros(lineFlag, n, 1024)
+    zeros(lineFlag, n, LINES)
 }

@@ -1,16 +1,18 @@
 -- The laws that the proofs of the check cite.
 use mathlib.Core.Path.{_≡_, refl, sym, _∙_, ap, subst}
 use mathlib.Core.Logic.{_⊎_, inl, inr, _≢_, _↔_}
-use mathlib.Core.Bool.{Bool, true, false, not, false≢true}
+use mathlib.Core.Bool.{Bool, true, false, _&&_, false≢true, true≢false}
 use mathlib.Core.List.{List, _∷_}
 use Prim.Native.Nat.{ℕ, zero, suc, _+_, _-_, _≤_, _<_}
 use native.Mathlib.Omega.{arith}
+use lib.Bits.{bitOr, bitXor}
 use lib.Dec.{eqb}
 use lib.ListN.{length, set, length-set, replicate}
 use Rattle.laws.specs.Tables.{zeros-at}
 use borrow.Author.Tests.{eq-eqb, ne-eqb, eqb-true, lt-leb, le-leb, le-ltb, lt-ltb}
-use Rattle.laws.specs.Cases.{by, and-true, and-no}
-use Rattle.laws.specs.All.{all, Passed, passed-next, passed-not}
+use Rattle.laws.specs.Cases.{by, and-true, and-yes}
+use Rattle.laws.specs.All.{all, all-at}
+use Rattle.laws.specs.Faults.{or-zero, xor-zero}
 use Rattle.chains.specs.Ops.{walk}
 use Rattle.chains.specs.Check.{stepb, step-out, ringb, marked, rings-start, rings-next, taskb, ring-end, ring-out, ring-bad, ring-next, walk-end, walk-next, tasks-accepted, accepted-tasks, equivalence}
 use Rattle.chains.specs.Held.{at, at-set, Sound}
@@ -102,30 +104,29 @@ module _ (l : Links) (s : ℕ) (seen : List ℕ) (ls : 64 < s) where
     unfolding N P O
     ring-wrong n b = refused (ring-bad N P O 64 s ls left u (λ q. n (k .here ∙ q)) (rw (k .here) at b))
 
--- task_ok's three ways out
-module _ (N P O S : ℕ → ℕ) (t : ℕ) where
-  pub task-idle : O t ≡ 0 → N t ≡ 0 → eqb (P t) 0 ≡ taskb N P O S t
-  unfolding taskb
-  task-idle o n = rw (eq-eqb (O t) 0 o, eq-eqb (N t) 0 n)
+-- what alone_from keeps: an anchor's two links, each compared with its own number
+pub alone-fault : (N P : ℕ → ℕ) (s : ℕ) → aloneb N P s ≡ eqb (bitOr (bitXor (N s) s) (bitXor (P s) s)) 0
+unfolding aloneb
+alone-fault N P s = sym (or-zero (bitXor (N s) s) (bitXor (P s) s) ∙ rw (xor-zero (N s) s, xor-zero (P s) s))
 
-  pub task-stray : O t ≡ 0 → N t ≢ 0 → false ≡ taskb N P O S t
-  unfolding taskb
-  task-stray o n = rw (eq-eqb (O t) 0 o, ne-eqb (N t) 0 n)
+-- one of several tests fails
+fails-at : (n : ℕ) (p : ℕ → Bool) → all n p ≡ false → (k : ℕ) × (k < n) × (p k ≡ false)
+unfolding all
+fails-at zero p e = absurd (true≢false e)
+fails-at (suc n) p e =
+    by (p n)
+    (λ t.
+    let w = fails-at n p (sym (and-yes (all n p)) ∙ ap (λ (b : Bool). all n p && b) (sym t) ∙ e) in
+    (w .0, omega (arith, w .1), w .2))
+    (λ f. (n, omega arith, f))
 
-  pub task-on : O t ≢ 0 → not (eqb (S t) 0) ≡ taskb N P O S t
-  unfolding taskb
-  task-on o = rw (ne-eqb (O t) 0 o)
-
--- what alone_from keeps: an anchor's two tests
-module _ (N P : ℕ → ℕ) (s i : ℕ) {bad mid new : ℕ} (p : Passed bad i (λ k. aloneb N P (s + k))) where
-  pub alone-turn : ((N (s + i) ≢ s + i) × (mid ≡ 1)) ⊎ ((N (s + i) ≡ s + i) × (mid ≡ bad))
-      → ((P (s + i) ≢ s + i) × (new ≡ 1)) ⊎ ((P (s + i) ≡ s + i) × (new ≡ mid))
-      → Passed new (i + 1) (λ k. aloneb N P (s + k))
-  unfolding aloneb
-  alone-turn n (inl b) = passed-not i (λ k. aloneb N P (s + k)) (rw (ne-eqb (P (s + i)) (s + i) (b .0)) (and-no (eqb (N (s + i)) (s + i)))) (b .1)
-  alone-turn (inl a) (inr b) = passed-not i (λ k. aloneb N P (s + k)) (rw (ne-eqb (N (s + i)) (s + i) (a .0))) (b .1 ∙ a .1)
-  alone-turn (inr a) (inr b) =
-      passed-next i (λ k. aloneb N P (s + k)) p (rw (eq-eqb (N (s + i)) (s + i) (a .0), eq-eqb (P (s + i)) (s + i) (b .0))) (b .1 ∙ a .1)
+pub tasks-tested : (l : Links) (seen : List ℕ) (r : Bool) → r ≡ all 65 (taskb (at (l .next)) (at (l .prev)) (at (l .on)) (at seen)) → TasksTested l seen r
+tasks-tested l seen r e =
+    let test = taskb (at (l .next)) (at (l .prev)) (at (l .on)) (at seen) in
+    record {
+      yes = λ q t h. all-at 65 test (sym e ∙ q) t (omega (arith, h));
+      no = λ q. let w = fails-at 65 test (sym e ∙ q) in (w .0, omega (arith, w .1), w .2);
+    }
 
 module _ (l : Links) where
   pub all-start : RingsTo l (replicate 65 0) 65

@@ -1,19 +1,29 @@
 // The check of arbitrary links: do they hold chains?
+use chains::FIRST_ANCHOR;
+use chains::NODES;
+use chains::PLACES;
 ghost use mathlib.Core.Path.{_≡_};
 ghost use mathlib.Core.Logic.{_↔_};
-ghost use mathlib.Core.Bool.{true, false};
+ghost use mathlib.Core.Bool.{true, false, not, cond, _&&_};
 ghost use Prim.Native.Nat.{ℕ, _+_, _≤_, _<_};
 ghost use lib.ListN.{length};
 ghost use Rattle.chains.specs.Held.{at, Held, Sound};
-ghost use Rattle.chains.specs.Check.{stepb, taskb};
+ghost use lib.Dec.{eqb};
+ghost use Rattle.chains.specs.Check.{stepb};
 ghost use mathlib.Core.List.{List};
 ghost use Rattle.sound_chains.specs.Order.{risingb};
 ghost use Rattle.laws.specs.All.{all};
 ghost use Rattle.sound_chains.specs.Post.{linksOf, aloneb, Walked, WalkedFrom, AllWalked, TasksTested};
 
+// Nodes 1 to 64 are tasks.
+const TASKS: usize = 64;
+
+// Anchors are looked at in blocks of sixteen.
+const BLOCK: usize = 16;
+
 pub struct Ring {
     pub ok: bool,
-    pub seen: [u8; 65],
+    pub seen: [u8; PLACES],
 }
 
 pub fn wide(x: u16) -> usize
@@ -23,13 +33,19 @@ pub fn wide(x: u16) -> usize
 }
 
 // v, behind u in the chain of anchor s, is a task that links back to u and names s.
-pub fn step_ok<'a>(prev: &'a [u16; 322], on: &'a [u16; 65], s: usize, u: usize, v: usize) -> bool
+pub fn step_ok<'a>(
+    prev: &'a [u16; NODES],
+    on: &'a [u16; PLACES],
+    s: usize,
+    u: usize,
+    v: usize,
+) -> bool
     ensures { λ r. ⌜ r ≡ stepb (at (now (prev .entry))) (at (now (on .entry))) 64 s u v ⌝ }
 {
     if v == 0 {
         return false;
     }
-    if 64 < v {
+    if TASKS < v {
         return false;
     }
     let p = wide(prev[v]);
@@ -39,16 +55,16 @@ pub fn step_ok<'a>(prev: &'a [u16; 322], on: &'a [u16; 65], s: usize, u: usize, 
 
 // The ring of anchor s, walked once; its tasks are marked.
 pub fn walk_ring<'a>(
-    next: &'a [u16; 322],
-    prev: &'a [u16; 322],
-    on: &'a [u16; 65],
+    next: &'a [u16; NODES],
+    prev: &'a [u16; NODES],
+    on: &'a [u16; PLACES],
     s: usize,
-    seen: &mut [u8; 65],
+    seen: &mut [u8; PLACES],
 ) -> bool
     requires { ⌜ (64 < s) × (s < 322) × (length (now seen) ≡ 65) ⌝ }
     ensures { λ r. ⌜ Walked (linksOf (now (next .entry)) (now (prev .entry)) (now (on .entry))) s (now (seen .entry)) (record { ok = r; seen = now (seen .exit) }) ⌝ }
 {
-    let mut left: usize = 64;
+    let mut left: usize = TASKS;
     let mut u = s;
     let mut v = wide(next[s]);
     while v != s {
@@ -69,12 +85,12 @@ pub fn walk_ring<'a>(
 
 // Every ring of the m anchors from s on, walked once.
 fn walk_from<'a>(
-    next: &'a [u16; 322],
-    prev: &'a [u16; 322],
-    on: &'a [u16; 65],
+    next: &'a [u16; NODES],
+    prev: &'a [u16; NODES],
+    on: &'a [u16; PLACES],
     s: usize,
     m: usize,
-    seen: &mut [u8; 65],
+    seen: &mut [u8; PLACES],
 ) -> bool
     requires { ⌜ (64 < s) × (s + m ≤ 322) × (length (now seen) ≡ 65) ⌝ }
     ensures { λ r. ⌜ WalkedFrom (linksOf (now (next .entry)) (now (prev .entry)) (now (on .entry))) s m (now (seen .entry)) (record { ok = r; seen = now (seen .exit) }) ⌝ }
@@ -89,33 +105,29 @@ fn walk_from<'a>(
     true
 }
 
-// Whether the sixteen anchors from s on are linked to themselves. All sixteen are looked at: so they are compared at once.
-fn alone_from<'a>(next: &'a [u16; 322], prev: &'a [u16; 322], s: usize) -> bool
+// Whether the sixteen anchors from s on are linked to themselves. What differs is joined and looked at once: so many anchors are
+// compared at a time.
+fn alone_from<'a>(next: &'a [u16; NODES], prev: &'a [u16; NODES], s: usize) -> bool
     requires { ⌜ s + 16 ≤ 322 ⌝ }
     ensures { λ r. ⌜ r ≡ all 16 (λ i. aloneb (at (now (next .entry))) (at (now (prev .entry))) (s + i)) ⌝ }
 {
-    let mut found: u16 = 0;
+    let mut faults: u16 = 0;
     let mut i: usize = 0;
-    while i < 16 {
+    while i < BLOCK {
         let own = (s + i) as u16;
-        if next[s + i] != own {
-            found = 1;
-        }
-        if prev[s + i] != own {
-            found = 1;
-        }
+        faults = faults | ((next[s + i] ^ own) | (prev[s + i] ^ own));
         i = i + 1;
     }
-    found == 0
+    faults == 0
 }
 
 // The rings of the sixteen anchors from s on. Mostly they are all empty, and then there is nothing to walk.
 fn walk_block<'a>(
-    next: &'a [u16; 322],
-    prev: &'a [u16; 322],
-    on: &'a [u16; 65],
+    next: &'a [u16; NODES],
+    prev: &'a [u16; NODES],
+    on: &'a [u16; PLACES],
     s: usize,
-    seen: &mut [u8; 65],
+    seen: &mut [u8; PLACES],
 ) -> bool
     requires { ⌜ (64 < s) × (s + 16 ≤ 322) × (length (now seen) ≡ 65) ⌝ }
     ensures { λ r. ⌜ WalkedFrom (linksOf (now (next .entry)) (now (prev .entry)) (now (on .entry))) s 16 (now (seen .entry)) (record { ok = r; seen = now (seen .exit) }) ⌝ }
@@ -123,64 +135,57 @@ fn walk_block<'a>(
     if alone_from(next, prev, s) {
         return true;
     }
-    walk_from(next, prev, on, s, 16, &mut *seen)
+    walk_from(next, prev, on, s, BLOCK, &mut *seen)
 }
 
 // Every ring, by blocks of sixteen anchors and what is left of them.
-pub fn walk_all<'a>(next: &'a [u16; 322], prev: &'a [u16; 322], on: &'a [u16; 65]) -> Ring
+pub fn walk_all<'a>(next: &'a [u16; NODES], prev: &'a [u16; NODES], on: &'a [u16; PLACES]) -> Ring
     ensures { λ r. ⌜ AllWalked (linksOf (now (next .entry)) (now (prev .entry)) (now (on .entry))) r ⌝ }
 {
-    let mut seen = [0u8; 65];
-    let mut s: usize = 65;
-    while s + 16 <= 322 {
+    let mut seen = [0u8; PLACES];
+    let mut s: usize = FIRST_ANCHOR;
+    while s + BLOCK <= NODES {
         if !walk_block(next, prev, on, s, &mut seen) {
             return Ring { ok: false, seen };
         }
-        s += 16;
+        s += BLOCK;
     }
-    let ok = walk_from(next, prev, on, s, 322 - s, &mut seen);
+    let ok = walk_from(next, prev, on, s, NODES - s, &mut seen);
     Ring { ok, seen }
 }
 
-// A task (or entry 0, which is no task) is in no chain, with links 0, or was met on a ring.
-pub fn task_ok<'a>(
-    next: &'a [u16; 322],
-    prev: &'a [u16; 322],
-    on: &'a [u16; 65],
-    seen: &'a [u8; 65],
-    t: usize,
-) -> bool
-    requires { ⌜ t ≤ 64 ⌝ }
-    ensures { λ r. ⌜ r ≡ taskb (at (now (next .entry))) (at (now (prev .entry))) (at (now (on .entry))) (at (now (seen .entry))) t ⌝ }
+// 0 where a task (or entry 0, which is no task) is in no chain, with links 0, or was met on a ring; else a fault.
+fn task_fault(next: u16, prev: u16, on: u16, seen: u8) -> u16
+    ensures { λ r. ⌜ eqb r 0 ≡ cond (eqb on 0) (eqb next 0 && eqb prev 0) (not (eqb seen 0)) ⌝ }
 {
-    if on[t] == 0 {
-        if next[t] == 0 { prev[t] == 0 } else { false }
+    if on == 0 {
+        next | prev
     } else {
-        seen[t] != 0
+        if seen == 0 { 1 } else { 0 }
     }
 }
 
 // Every task is in no chain, with links 0, or was met on a ring.
 pub fn tasks_ok<'a>(
-    next: &'a [u16; 322],
-    prev: &'a [u16; 322],
-    on: &'a [u16; 65],
-    seen: &'a [u8; 65],
+    next: &'a [u16; NODES],
+    prev: &'a [u16; NODES],
+    on: &'a [u16; PLACES],
+    seen: &'a [u8; PLACES],
 ) -> bool
     ensures { λ r. ⌜ TasksTested (linksOf (now (next .entry)) (now (prev .entry)) (now (on .entry))) (now (seen .entry)) r ⌝ }
 {
+    let mut faults: u16 = 0;
     let mut t: usize = 0;
-    while t < 65 {
-        if !task_ok(next, prev, on, seen, t) {
-            return false;
-        }
+    while t < PLACES {
+        let x = task_fault(next[t], prev[t], on[t], seen[t]);
+        faults = faults | x;
         t += 1;
     }
-    true
+    faults == 0
 }
 
 // The links hold chains.
-pub fn sound<'a>(next: &'a [u16; 322], prev: &'a [u16; 322], on: &'a [u16; 65]) -> bool
+pub fn sound<'a>(next: &'a [u16; NODES], prev: &'a [u16; NODES], on: &'a [u16; PLACES]) -> bool
     ensures { λ r. ⌜ (r ≡ true) ↔ Sound (linksOf (now (next .entry)) (now (prev .entry)) (now (on .entry))) ⌝ }
 {
     let k = walk_all(next, prev, on);
@@ -192,10 +197,10 @@ pub fn sound<'a>(next: &'a [u16; 322], prev: &'a [u16; 322], on: &'a [u16; 65]) 
 
 // The tasks of the chain of anchor s are in order of waking count, none below lo.
 pub fn in_order<'a>(
-    next: &'a [u16; 322],
-    prev: &'a [u16; 322],
-    on: &'a [u16; 65],
-    wake: &'a [u32; 65],
+    next: &'a [u16; NODES],
+    prev: &'a [u16; NODES],
+    on: &'a [u16; PLACES],
+    wake: &'a [u32; PLACES],
     s: usize,
     lo: u32,
 ) -> bool

@@ -1,15 +1,25 @@
 // The loops of the soundness check: each over single tables, with the test that it computes as its contract.
+use rig_tables::CONDITIONS;
+use rig_tables::FLAG_PLACES;
+use rig_tables::TASK_PLACES;
 ghost use mathlib.Core.Path.{_≡_};
 ghost use mathlib.Core.Bool.{not, cond, _||_};
 ghost use Prim.Native.Nat.{ℕ, _<_, _≤_};
 ghost use lib.Dec.{eqb};
 ghost use lib.ListN.{length, getD};
 ghost use Rattle.laws.specs.All.{all, since};
+ghost use Rattle.laws.specs.Bits.{bit};
 ghost use Rattle.rules.specs.State.{active};
 ghost use Rattle.rules.specs.Calls.{noSuch};
 ghost use Rattle.rules.specs.Soundness.{Within};
 ghost use Rattle.sound_tables.specs.Tests.{withinB, emptyB, condsB, treeB, waitsB, flagsB};
 ghost use Rattle.sound_tables.specs.Passes.{cap, After};
+
+const UNINVOKED: u8 = 0;
+
+const WAITING: u8 = 2;
+
+const FIRST_TASK: usize = 1;
 
 // Whether n is none of the numbers 1 to many.
 pub fn no_such(many: usize, n: usize) -> bool
@@ -62,16 +72,16 @@ pub fn within(table: &[u8], many: usize, top: u8) -> bool
 }
 
 // The entries of other numbers than 1 to many are 0. The loop marks what fails and goes on, as in conds.
-pub fn empty(table: &[u32; 65], many: usize) -> bool
+pub fn empty(table: &[u32; TASK_PLACES], many: usize) -> bool
     ensures { λ r. ⌜ r ≡ emptyB (now (table .entry)) many ⌝ }
 {
-    let first = after(many, 65);
+    let first = after(many, TASK_PLACES);
     if table[0] != 0 {
         return false;
     }
     let mut bad: u32 = 0;
     let mut i = first;
-    while i < 65 {
+    while i < TASK_PLACES {
         if table[i] != 0 {
             bad = 1;
         }
@@ -89,12 +99,12 @@ fn allowed(present: u8) -> u8
 
 // A condition has the value 0 or 1, and one that is not there 0. The loop marks what fails and goes on: one that does not
 // leave early tests many entries at once.
-pub fn conds<'a>(present: &'a [u8; 1040], conds: &'a [u8; 1040]) -> bool
+pub fn conds<'a>(present: &'a [u8; CONDITIONS], conds: &'a [u8; CONDITIONS]) -> bool
     ensures { λ r. ⌜ r ≡ condsB (now (present .entry)) (now (conds .entry)) ⌝ }
 {
     let mut bad: u8 = 0;
     let mut i: usize = 0;
-    while i < 1040 {
+    while i < CONDITIONS {
         if allowed(present[i]) < conds[i] {
             bad = 1;
         }
@@ -106,17 +116,21 @@ pub fn conds<'a>(present: &'a [u8; 1040], conds: &'a [u8; 1040]) -> bool
 fn tree_ok(t: usize, state: u8, above: u8) -> bool
     ensures { λ r. ⌜ r ≡ (eqb t 1 || (eqb state 0 || not (eqb above 0))) ⌝ }
 {
-    if t == 1 {
+    if t == FIRST_TASK {
         return true;
     }
-    if state == 0 {
+    if state == UNINVOKED {
         return true;
     }
-    above != 0
+    above != UNINVOKED
 }
 
 // Each invoked task but task 1 has an invoked controller. Beyond the last task none is invoked.
-pub fn tree<'a>(controller: &'a [u8; 65], states: &'a [u8; 65], many: usize) -> bool
+pub fn tree<'a>(
+    controller: &'a [u8; TASK_PLACES],
+    states: &'a [u8; TASK_PLACES],
+    many: usize,
+) -> bool
     requires { ⌜ ((t : ℕ) → t < 65 → getD (now controller) t 0 < 65) × (Within many (now states) × (many ≤ 64)) ⌝ }
     ensures { λ r. ⌜ r ≡ treeB (now (controller .entry)) (now (states .entry)) ⌝ }
 {
@@ -131,30 +145,39 @@ pub fn tree<'a>(controller: &'a [u8; 65], states: &'a [u8; 65], many: usize) -> 
     true
 }
 
-fn wait_ok(state: u8, on: u16) -> bool
-    ensures { λ r. ⌜ r ≡ cond (eqb state 2) (not (eqb on 0)) (eqb on 0) ⌝ }
+// 1 where a task with the state is waiting.
+fn waiting(state: u8) -> u16
+    ensures { λ r. ⌜ r ≡ bit (eqb state 2) ⌝ }
 {
-    if state == 2 { on != 0 } else { on == 0 }
+    if state == WAITING { 1 } else { 0 }
 }
 
-// Who is waiting is in a chain, and no other is.
-pub fn waits<'a>(states: &'a [u8; 65], on: &'a [u16; 65]) -> bool
+// 1 where a task is in a chain.
+fn chained(on: u16) -> u16
+    ensures { λ r. ⌜ r ≡ bit (not (eqb on 0)) ⌝ }
+{
+    if on == 0 { 0 } else { 1 }
+}
+
+// Who is waiting is in a chain, and no other is. What differs is joined and looked at once.
+pub fn waits<'a>(states: &'a [u8; TASK_PLACES], on: &'a [u16; TASK_PLACES]) -> bool
     ensures { λ r. ⌜ r ≡ waitsB (now (states .entry)) (now (on .entry)) ⌝ }
 {
+    let mut faults: u16 = 0;
     let mut t: usize = 0;
-    while t < 65 {
-        if !wait_ok(states[t], on[t]) {
-            return false;
-        }
+    while t < TASK_PLACES {
+        let waits = waiting(states[t]);
+        let held = chained(on[t]);
+        faults = faults | (waits ^ held);
         t = t + 1;
     }
-    true
+    faults == 0
 }
 
 fn active_of(state: u8) -> u8
     ensures { λ r. ⌜ r ≡ active state ⌝ }
 {
-    if state < 2 { 0 } else { 1 }
+    if state < WAITING { 0 } else { 1 }
 }
 
 fn flag_ok(activation: u8, value: u8, state: u8) -> bool
@@ -168,9 +191,9 @@ fn flag_ok(activation: u8, value: u8, state: u8) -> bool
 
 // An activation flag is on exactly when its task is active. Beyond the last task none has one.
 pub fn flags<'a>(
-    activation: &'a [u8; 65],
-    states: &'a [u8; 65],
-    values: &'a [u8; 129],
+    activation: &'a [u8; TASK_PLACES],
+    states: &'a [u8; TASK_PLACES],
+    values: &'a [u8; FLAG_PLACES],
     many: usize,
 ) -> bool
     requires { ⌜ ((t : ℕ) → t < 65 → getD (now activation) t 0 < 129) × (Within many (now activation) × (many ≤ 64)) ⌝ }

@@ -3,7 +3,7 @@ use mathlib.Core.Path.{_≡_, sym, _∙_, ap}
 use mathlib.Core.Logic.{⊎-elim}
 use Prim.Native.Nat.{ℕ, _+_, _≤_, _-_}
 use native.Mathlib.Omega.{arith}
-use Rattle.chains.specs.Held.{at}
+use Rattle.rig_tables.specs.Tests.{at}
 use Rattle.rules.specs.Conditions.{drive}
 use Rattle.laws.specs.Iter.{iter-zero}
 use Rattle.exec_conditions.specs.Driving.{lines-fewer, drive-more, drive-pass}

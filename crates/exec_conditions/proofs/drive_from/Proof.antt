@@ -7,7 +7,7 @@ use Rattle.laws.specs.Cases.{if-yes, if-no}
 use Rattle.laws.specs.Iter.{iter, iter-zero, iter-step}
 use borrow.Author.Tests.{eq-eqb, ne-eqb}
 use Rattle.rules.specs.Conditions.{drive, driveOne}
-use Rattle.chains.specs.Held.{at}
+use Rattle.rig_tables.specs.Tests.{at}
 use Rattle.exec_conditions.specs.Lines.{past}
 use Rattle.exec_conditions.proofs.drive_from.Statement.{statement}
 use Rattle.exec_conditions.proofs.drive_from.Tie as tie

@@ -4,7 +4,7 @@ use mathlib.Core.Bool.{false}
 use Prim.Native.Nat.{_≤_, _-_}
 use native.Mathlib.Omega.{arith}
 use Rattle.laws.specs.Any.{any, any-zero, any-next, any-at}
-use Rattle.chains.specs.Held.{at}
+use Rattle.rig_tables.specs.Tests.{at}
 use Rattle.rules.specs.Conditions.{names, namesOne}
 use Rattle.exec_conditions.proofs.names.Statement.{statement}
 use Rattle.exec_conditions.proofs.names.Tie as tie

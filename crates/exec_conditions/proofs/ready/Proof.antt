@@ -2,7 +2,7 @@ use mathlib.Core.Path.{sym, _∙_}
 use borrow.Author.Tests.{eq-eqb, ne-eqb, not-true, not-false}
 use Rattle.exec_conditions.specs.Tests.{and-one, and-two, and-three}
 use lib.Dec.{eqb}
-use Rattle.chains.specs.Held.{at}
+use Rattle.rig_tables.specs.Tests.{at}
 use Rattle.rules.specs.Conditions.{names}
 use borrow.Author.Needs.{needs}
 use Rattle.exec_conditions.proofs.ready.Statement.{statement}

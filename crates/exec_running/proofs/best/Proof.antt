@@ -5,7 +5,7 @@ use Prim.Native.Nat.{_≤_, _-_}
 use native.Mathlib.Omega.{arith}
 use Rattle.laws.specs.Cases.{if-yes, if-no}
 use Rattle.laws.specs.Iter.{iter, iter-zero, iter-step}
-use Rattle.chains.specs.Held.{at}
+use Rattle.rig_tables.specs.Tests.{at}
 use Rattle.rules.specs.Running.{best, bestOne}
 use Rattle.exec_running.specs.Tests.{best-compares, best-passes}
 use Rattle.exec_running.proofs.best.Statement.{statement}

@@ -2,7 +2,7 @@ use mathlib.Core.Path.{_≡_, refl, sym, _∙_}
 use Rattle.laws.specs.Cases.{if-yes, if-no}
 use Rattle.rules.specs.Running.{chosen, best}
 use mathlib.Core.Bool.{cond}
-use Rattle.chains.specs.Held.{at}
+use Rattle.rig_tables.specs.Tests.{at}
 use Rattle.exec_running.specs.Tests.{choice}
 use borrow.Author.Needs.{needs}
 use Rattle.exec_running.proofs.chosen.Statement.{statement}

@@ -1,33 +1,50 @@
 use borrow.Author.Needs.{needs}
-use Prim.Native.Nat.{ℕ, _-_, _≤_, _<_}
-use mathlib.Core.Path.{_≡_, sym, _∙_}
-use mathlib.Core.Bool.{true, false≢true}
+use mathlib.Core.Path.{_≡_, refl, sym}
+use Prim.Native.Nat.{ℕ, _-_, _≤_}
 use native.Mathlib.Omega.{arith}
-use borrow.Author.Count.{below-more}
-use borrow.Author.Tests.{not-true, not-false}
+use Rattle.laws.specs.All.{all, Passed, passed-none}
+use Rattle.laws.specs.Faults.{or-next}
 use Rattle.chains.specs.Held.{at}
 use Rattle.chains.specs.Check.{taskb}
+use Rattle.sound_chains.specs.Post.{linksOf}
+use Rattle.sound_chains.specs.Laws.{tasks-tested}
 use Rattle.sound_chains.proofs.tasks_ok.Statement.{statement}
 use Rattle.sound_chains.proofs.tasks_ok.Tie as tie
 
 abbrev Inv-loop : tie.InvT-loop
-Inv-loop next prev on seen t₀ t = (t ≤ 65) × ((k : ℕ) → k < t → taskb (at next) (at prev) (at on) (at seen) k ≡ true)
+Inv-loop next prev on seen faults₀ t₀ faults t = Passed faults t (taskb (at next) (at prev) (at on) (at seen)) × (t ≤ 65)
 
 abbrev μ-loop : tie.MeasureT-loop
-μ-loop next prev on seen t₀ t = 65 - t
+μ-loop next prev on seen faults₀ t₀ faults t = 65 - t
 
 loop-holds : tie.Need-loop-holds Inv-loop μ-loop
-loop-holds c = (omega arith, (λ k a. let z : ⊥ = omega arith in absurd z))
+loop-holds c =
+    let a = c .args in
+    (passed-none (taskb (at (a .next .now)) (at (a .prev .now)) (at (a .on .now)) (at (a .seen .now))), search needs)
 
-task-ok-requires : tie.Need-task-ok-requires Inv-loop μ-loop
-task-ok-requires c κs = search needs
+mul-task-fault : tie.Need-mul-task-fault Inv-loop μ-loop
+mul-task-fault c = search needs
 
-returns : tie.Need-returns Inv-loop μ-loop
-returns c =
-    record {
-      yes = λ q. absurd (false≢true q);
-      no = λ q. (c .before .before .before .loop .t, omega (arith, c .before .before .loop-test .taken), sym (c .before .task-ok .ensures) ∙ not-true (c .before .task-ok .result) (c .if1 .taken));
-    }
+element-copy-out-task-fault : tie.Need-element-copy-out-task-fault Inv-loop μ-loop
+element-copy-out-task-fault c = search needs
+
+mul-task-fault-2 : tie.Need-mul-task-fault-2 Inv-loop μ-loop
+mul-task-fault-2 c = search needs
+
+element-copy-out-task-fault-2 : tie.Need-element-copy-out-task-fault-2 Inv-loop μ-loop
+element-copy-out-task-fault-2 c = search needs
+
+mul-task-fault-3 : tie.Need-mul-task-fault-3 Inv-loop μ-loop
+mul-task-fault-3 c = search needs
+
+element-copy-out-task-fault-3 : tie.Need-element-copy-out-task-fault-3 Inv-loop μ-loop
+element-copy-out-task-fault-3 c = search needs
+
+element-copy-out-task-fault-4 : tie.Need-element-copy-out-task-fault-4 Inv-loop μ-loop
+element-copy-out-task-fault-4 c = search needs
+
+task-fault-requires : tie.Need-task-fault-requires Inv-loop μ-loop
+task-fault-requires c κs = search needs
 
 add-t : tie.Need-add-t Inv-loop μ-loop
 add-t c = search needs
@@ -36,14 +53,17 @@ loop-less : tie.Need-loop-less Inv-loop μ-loop
 loop-less c = search needs
 
 loop-again : tie.Need-loop-again Inv-loop μ-loop
-loop-again c = (omega (arith, c .before .before .loop-test .taken), below-more _ _ (c .before .before .before .loop .inv .1) (sym (c .before .task-ok .ensures) ∙ not-false (c .before .task-ok .result) (c .if1 .left)))
+unfolding taskb
+loop-again c =
+    let a = c .before .before .before .before .before .before .before .args in
+    let l = c .before .before .before .before .before .before .loop in
+    (or-next (l .faults) (l .t) (taskb (at (a .next .now)) (at (a .prev .now)) (at (a .on .now)) (at (a .seen .now))) (c .task-fault .result) (l .inv .0) (sym (c .task-fault .ensures)) refl, search needs)
 
-returns-2 : tie.Need-returns-2 Inv-loop μ-loop
-returns-2 c =
-    record {
-      yes = λ q t a. c .before .loop .inv .1 t (omega arith);
-      no = λ q. absurd (false≢true (sym q));
-    }
+returns : tie.Need-returns Inv-loop μ-loop
+returns c =
+    let a = c .before .before .args in
+    let e : c .before .loop .t ≡ 65 = omega arith in
+    tasks-tested (linksOf (a .next .now) (a .prev .now) (a .on .now)) (a .seen .now) _ (rw e at (c .before .loop .inv .0))
 
 pub tasks-ok-spec : {M : Type 1} → statement M
 tasks-ok-spec =
@@ -52,9 +72,15 @@ tasks-ok-spec =
     Inv-loop
     μ-loop
     loop-holds
-    task-ok-requires
-    returns
+    mul-task-fault
+    element-copy-out-task-fault
+    mul-task-fault-2
+    element-copy-out-task-fault-2
+    mul-task-fault-3
+    element-copy-out-task-fault-3
+    element-copy-out-task-fault-4
+    task-fault-requires
     add-t
     loop-less
     loop-again
-    returns-2)
+    returns)

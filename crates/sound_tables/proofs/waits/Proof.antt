@@ -1,37 +1,39 @@
 use borrow.Author.Needs.{needs}
-use mathlib.Core.Path.{_≡_, sym, _∙_}
-use mathlib.Core.Bool.{true}
-use borrow.Author.Tests.{not-true, not-false}
-use Prim.Native.Nat.{_≤_, _-_}
+use mathlib.Core.Path.{_≡_, refl}
+use Prim.Native.Nat.{_-_, _≤_}
 use native.Mathlib.Omega.{arith}
-use Rattle.laws.specs.All.{all, all-zero, all-next, all-not}
+use lib.Bits.{bitXor}
+use lib.ListN.{getD}
+use Rattle.laws.specs.All.{Passed, passed-none}
+use Rattle.laws.specs.Faults.{or-next}
 use Rattle.sound_tables.specs.Tests.{waitOne}
+use Rattle.sound_tables.specs.Laws.{wait-fault}
 use Rattle.sound_tables.proofs.waits.Statement.{statement}
 use Rattle.sound_tables.proofs.waits.Tie as tie
 
 abbrev Inv-loop : tie.InvT-loop
-Inv-loop states on t₀ t = (all t (waitOne states on) ≡ true) × (t ≤ 65)
+Inv-loop states on faults₀ t₀ faults t = Passed faults t (waitOne states on) × (t ≤ 65)
 
 abbrev μ-loop : tie.MeasureT-loop
-μ-loop states on t₀ t = 65 - t
+μ-loop states on faults₀ t₀ faults t = 65 - t
 
 loop-holds : tie.Need-loop-holds Inv-loop μ-loop
-loop-holds c = (all-zero _, search needs)
+loop-holds c = (passed-none _, search needs)
 
-element-copy-out-wait-ok : tie.Need-element-copy-out-wait-ok Inv-loop μ-loop
-element-copy-out-wait-ok c = search needs
+element-copy-out-waiting : tie.Need-element-copy-out-waiting Inv-loop μ-loop
+element-copy-out-waiting c = search needs
 
-mul-wait-ok : tie.Need-mul-wait-ok Inv-loop μ-loop
-mul-wait-ok c = search needs
+waiting-requires : tie.Need-waiting-requires Inv-loop μ-loop
+waiting-requires c κs = search needs
 
-element-copy-out-wait-ok-2 : tie.Need-element-copy-out-wait-ok-2 Inv-loop μ-loop
-element-copy-out-wait-ok-2 c = search needs
+mul-chained : tie.Need-mul-chained Inv-loop μ-loop
+mul-chained c = search needs
 
-wait-ok-requires : tie.Need-wait-ok-requires Inv-loop μ-loop
-wait-ok-requires c κs = search needs
+element-copy-out-chained : tie.Need-element-copy-out-chained Inv-loop μ-loop
+element-copy-out-chained c = search needs
 
-returns : tie.Need-returns Inv-loop μ-loop
-returns c = sym (all-not _ _ (c .before .before .before .before .before .loop .t) (c .before .before .before .before .loop-test .taken) (sym (c .before .wait-ok .ensures) ∙ not-true _ (c .if1 .taken)))
+chained-requires : tie.Need-chained-requires Inv-loop μ-loop
+chained-requires c κs = search needs
 
 add-t : tie.Need-add-t Inv-loop μ-loop
 add-t c = search needs
@@ -40,12 +42,17 @@ loop-less : tie.Need-loop-less Inv-loop μ-loop
 loop-less c = search needs
 
 loop-again : tie.Need-loop-again Inv-loop μ-loop
-loop-again c = (all-next _ _ (c .before .before .before .before .before .loop .inv .0) (sym (c .before .wait-ok .ensures) ∙ not-false _ (c .if1 .left)), search needs)
+loop-again c =
+    let a = c .before .before .before .before .before .before .args in
+    let l = c .before .before .before .before .before .loop in
+    let w = c .before .before .waiting in
+    let h = c .chained in
+    (or-next (l .faults) (l .t) (waitOne (a .states .now) (a .on .now)) (bitXor (w .result) (h .result)) (l .inv .0) (wait-fault (getD (a .states .now) (l .t) 0) (getD (a .on .now) (l .t) 0) (w .ensures) (h .ensures)) refl, search needs)
 
-returns-2 : tie.Need-returns-2 Inv-loop μ-loop
-returns-2 c =
+returns : tie.Need-returns Inv-loop μ-loop
+returns c =
     let e : c .before .loop .t ≡ 65 = omega arith in
-    sym (rw e at (c .before .loop .inv .0))
+    rw e at (c .before .loop .inv .0)
 
 pub waits-spec : {M : Type 1} → statement M
 waits-spec =
@@ -54,12 +61,12 @@ waits-spec =
     Inv-loop
     μ-loop
     loop-holds
-    element-copy-out-wait-ok
-    mul-wait-ok
-    element-copy-out-wait-ok-2
-    wait-ok-requires
-    returns
+    element-copy-out-waiting
+    waiting-requires
+    mul-chained
+    element-copy-out-chained
+    chained-requires
     add-t
     loop-less
     loop-again
-    returns-2)
+    returns)
