@@ -28,6 +28,8 @@ HERE = Path(__file__).parent
 # crate: the record, what a call by value returns with its two fields, the answer, and whether that is an enum
 CRATES = {
     'exec_lent': ('exec::Exec', 'exec::Step', 'exec', 'answer', 'exec::Answer', True),
+    'exec_lent_waits': ('exec::Exec', 'exec::Step', 'exec', 'answer', 'exec::Answer', True),
+    'exec_lent_bus': ('exec::Exec', 'exec::Step', 'exec', 'answer', 'exec::Answer', True),
     'host': ('exec::Exec', 'host::Coded', 'exec', 'reply', 'host::Reply', False),
 }
 

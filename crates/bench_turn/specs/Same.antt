@@ -4,8 +4,8 @@ use mathlib.Core.Logic.{⊎-elim}
 use mathlib.Core.List.{List, [], _∷_}
 use Prim.Native.Nat.{ℕ}
 use native.Mathlib.Omega.{arith}
-use Rattle.exec.specs.Meeting.{withState}
-use Rattle.exec.specs.Unique.{meets-same}
+use Rattle.exec.specs.Call.{withState}
+use Rattle.exec.specs.Laws.Unique.{meets-same}
 use Rattle.exec.specs.declared.Exec.{Exec}
 use Rattle.exec.specs.declared.Step.{Step}
 use Rattle.bench_script.specs.Script.{saidOf}

@@ -10,7 +10,7 @@ use lib.Dec.{eqb}
 use lib.ListN.{length, take, replicate}
 use Rattle.rules.specs.Calls as R
 use Rattle.exec.specs.Call.{bit, Meets}
-use Rattle.exec.specs.Meeting.{withState}
+use Rattle.exec.specs.Call.{withState}
 use Rattle.exec.specs.declared.Exec.{Exec}
 use Rattle.exec.specs.declared.Report.{Report}
 use Rattle.exec.specs.declared.Step.{Step}

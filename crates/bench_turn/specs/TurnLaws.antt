@@ -10,7 +10,7 @@ use lib.Seq.{take-all}
 use borrow.Author.Tests.{eq-eqb, ne-eqb, leb-true, leb-false}
 use Rattle.laws.specs.Cases.{by, if-yes, if-no}
 use Rattle.exec.specs.Call.{bit, Meets}
-use Rattle.exec.specs.Meeting.{withState}
+use Rattle.exec.specs.Call.{withState}
 use Rattle.exec.specs.declared.Exec.{Exec}
 use Rattle.exec.specs.declared.Report.{Report}
 use Rattle.exec.specs.declared.Step.{Step}
@@ -63,7 +63,7 @@ kept : (e : Exec) (k : R.Call) (s : Step) (ws : List ℕ) → Meets e k s ws →
 kept e k s ws m =
     ⊎-elim
     (λ w. λ i. record { rig = w .1 .rig i; cycles = w .1 .cycles i; st = s .exec .st })
-    (λ w. let q : s .exec ≡ e = ap (λ (x : Step). x .exec) (w .1) in q ∙ ap (λ (x : Exec). withState e (x .st)) (sym q))
+    (λ w. let q : s .exec ≡ e = w .1 .exec in q ∙ ap (λ (x : Exec). withState e (x .st)) (sym q))
     (m .is)
 
 -- the line of a call

@@ -4,9 +4,11 @@ use mathlib.Core.Path.{_≡_}
 use mathlib.Core.Logic.{_≢_, _⊎_}
 use mathlib.Core.Bool.{Bool}
 use mathlib.Core.List.{List}
-use Prim.Native.Nat.{ℕ, zero, suc}
+use Prim.Native.Nat.{ℕ}
 use Rattle.rules.specs.Calls as R
 use Rattle.exec_refusals.specs.Bits.{bit as valueNumber}
+use Rattle.exec_refusals.specs.Numbers.{notSound}
+use Rattle.exec_state.specs.declared.State.{State}
 use Rattle.exec.specs.Sound.{rigIn, view, Sound}
 use Rattle.exec.specs.declared.Exec.{Exec}
 use Rattle.exec.specs.declared.Report.{Report}
@@ -26,19 +28,23 @@ abbrev pub answerOf : Answer → R.Answer
 answerOf (Accepted p) = record { code = 0; report = reportOf p }
 answerOf (Refused n) = record { code = n; report = R.nothing }
 
--- the answer of a number and of what is told: accepted where the number is 0
-abbrev pub answerFrom : ℕ → Report → Answer
-answerFrom zero p = Accepted p
-answerFrom (suc n) p = Refused (suc n)
-
 -- 0 is no refusal's number
 abbrev pub Proper : Answer → Type 0
 Proper (Accepted p) = Unit {0}
 Proper (Refused n) = n ≢ 0
 
+-- the record with another state
+abbrev pub withState : Exec → State → Exec
+withState x s = record { rig = x .rig; cycles = x .cycles; st = s }
+
 -- the record as it was, and a refusal's number
 abbrev pub refuse : Exec → ℕ → Step
 refuse x n = record { exec = x; answer = Refused n }
+
+-- "A refused call returns the record unchanged": this record, and an answer that gives this number and no values
+pub record Refuses (x : Exec) (n : ℕ) (r : Step) : Type 0 where
+  pub exec : r .exec ≡ x
+  pub answer : answerOf (r .answer) ≡ record { code = n; report = R.nothing }
 
 -- the rules' step: the state that the record shows, the answer, what the buffer that the call may write holds `after` it;
 -- the rig and its cycles are kept, and the record is sound
@@ -53,4 +59,4 @@ pub record Follows (x : Exec) (k : R.Call) (r : Step) (after : List ℕ) : Type 
 
 -- "For a call, 12 comes first, then the smallest number. A refused call returns the record unchanged and writes nothing"
 pub record Meets (x : Exec) (k : R.Call) (r : Step) (after : List ℕ) : Type 0 where
-  pub is : (Sound x × Follows x k r after) ⊎ ((Sound x → ⊥) × (r ≡ refuse x 12) × (after ≡ R.lent k))
+  pub is : (Sound x × Follows x k r after) ⊎ ((Sound x → ⊥) × Refuses x notSound r × (after ≡ R.lent k))

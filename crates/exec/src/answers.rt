@@ -9,7 +9,8 @@ ghost use mathlib.Core.List.{List};
 ghost use Prim.Native.Nat.{ℕ};
 ghost use Rattle.rules.specs.Calls.{Call};
 ghost use Rattle.exec_outcome.specs.Outcome.{Tells};
-ghost use Rattle.exec.specs.Call.{answerFrom, Meets};
+ghost use Rattle.exec.specs.Call.{Meets};
+ghost use Rattle.exec.specs.Laws.Made.{answerFrom};
 
 impl Exec {
     // The record with the state that a call left, and what is told of it: what the parts of the record owe is owed by it.

@@ -1,8 +1,8 @@
 // Signal and reading of a flag.
 use exec_outcome::Outcome;
+use exec_queue::Queue;
 use exec_state::State;
 use exec_state::Work;
-use exec_queue::Queue;
 use rig::Cycle;
 use rig::Rig;
 ghost use mathlib.Core.List.{[]};

@@ -6,8 +6,9 @@ use Prim.Native.Nat.{ℕ}
 use Rattle.rig.specs.declared.Rig.{Rig}
 use Rattle.rules.specs.Calls as R
 use Rattle.exec.specs.Call.{Meets}
-use Rattle.exec.specs.Starting.{Starts, starts-same}
-use Rattle.exec.specs.Unique.{meets-same}
+use Rattle.exec.specs.Starting.{Starts}
+use Rattle.exec.specs.Laws.Starting.{starts-same}
+use Rattle.exec.specs.Laws.Unique.{meets-same}
 use Rattle.exec.specs.declared.Exec.{Exec}
 use Rattle.exec.specs.declared.Step.{Step}
 use Rattle.exec.specs.declared.Answer.{Answer}

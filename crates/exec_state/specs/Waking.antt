@@ -3,12 +3,10 @@ use mathlib.Core.Path.{_≡_, sym, _∙_, ap}
 use mathlib.Core.Logic.{_≢_}
 use mathlib.Core.List.{List, []}
 use Prim.Native.Nat.{ℕ, _<_}
-use native.Mathlib.Omega.{arith}
 use lib.ListN.{set}
-use Rattle.laws.specs.Cases.{by-eqb}
 use Rattle.laws.specs.Functions.{upd}
 use Rattle.chains.specs.Held.{at, Held, Sound, Leaves}
-use Rattle.chains.specs.Front.{Leaving, leaving-own, leaving-start, leaving-step, leaving-none, left-start, left-step, left-none}
+use Rattle.chains.specs.Front.{Leaving, leaving-start, leaving-step, leaving-none, left-start, left-step, left-none}
 use Rattle.chains.specs.Read.{chainsOf, sound-chains, held-chains, only-of, only-upd}
 use Rattle.chains.specs.declared.Links.{Links}
 use Rattle.rules.specs.State.{withChains}
@@ -59,10 +57,3 @@ module _ (s : ℕ) (ls : 64 < s) (hs : s < 322) (l : Links) (a : List ℕ) where
   -- nobody waits
   pub waking-none : Sound l → at (l .next) s ≡ s → Awoken l a s l a
   waking-none h d = waking-done a l (at (l .next) s) (waking-start h) d
-
-  -- who is first, or the anchor
-  pub waking-next : Sound l → at (l .next) s < 322
-  unfolding X
-  waking-next h =
-      by-eqb (at (l .next) s) s (λ b. at (l .next) s < 322) (λ e. omega (arith, hs))
-      (λ d. omega (arith, leaving-own s ls hs X l (at (l .next) s) (waking-start h .leaving) d .1))

@@ -3,10 +3,36 @@ use chains::Links;
 use exec_queue::Queue;
 use rig::Cycle;
 use rig::Rig;
+ghost use mathlib.Core.Path.{_≡_};
+ghost use mathlib.Core.Bool.{not};
 ghost use Prim.Native.Nat.{_+_, _<_, _≤_};
+ghost use lib.Dec.{eqb};
+ghost use lib.ListN.{getD};
 ghost use Rattle.chains.specs.Held.{Sound};
 ghost use Rattle.exec_state.specs.Post.{FlagOk, Begins, MayWait, Timed, TickOk, CancelOk, Awoken, WokenDue, WaitsOn, WaitsUntil, Dispatched, Offering, Emptied, Finished, Terminated, Cancelled, Scheduled, Ticked, Blank, Room};
 ghost use Rattle.exec_state.specs.Set.{withTables, withPlaces, withRanks};
+
+// "States: 0 uninvoked, 1 inactive, 2 waiting, 3 dispatchable."
+const INACTIVE: u8 = 1;
+
+const WAITING: u8 = 2;
+
+const DISPATCHABLE: u8 = 3;
+
+// The values of a flag.
+const OFF: u8 = 0;
+
+const ON: u8 = 1;
+
+// The anchor of the time chain; that of the chain for value v of flag f is FLAG_CHAINS + 2 * f + v.
+const TIME_CHAIN: usize = 65;
+
+const FLAG_CHAINS: usize = 64;
+
+// "Tasks 1 to 64"; "64 minor cycles a major frame"
+const MOST_TASKS: usize = 64;
+
+const CYCLES: u32 = 64;
 
 // Tables by number, place 0 unused; a condition at 16 * task + position.
 #[repr(C)]
@@ -57,14 +83,14 @@ impl State {
     {
         let count = self.count;
         let mut k = self.links;
-        let mut v = k.next[65] as usize;
-        while v != 65 {
+        let mut v = k.next[TIME_CHAIN] as usize;
+        while v != TIME_CHAIN {
             if count < self.wake[v] {
                 break;
             }
             k = chains::unlink(k, v);
-            self.state[v] = 3;
-            v = k.next[65] as usize;
+            self.state[v] = DISPATCHABLE;
+            v = k.next[TIME_CHAIN] as usize;
         }
         self.links = k;
         self
@@ -77,8 +103,8 @@ impl State {
         ensures { λ r. ⌜ WaitsOn self f v r ⌝ }
     {
         let t = self.running as usize;
-        let l = chains::append(self.links, 64 + 2 * f + v, t);
-        self.state[t] = 2;
+        let l = chains::append(self.links, FLAG_CHAINS + 2 * f + v, t);
+        self.state[t] = WAITING;
         self.links = l;
         self.running = 0;
         self
@@ -92,8 +118,8 @@ impl State {
         let t = self.running as usize;
         self.wake[t] = count;
         let w = self.wake;
-        let l = chains::place(self.links, w, 65, t);
-        self.state[t] = 2;
+        let l = chains::place(self.links, w, TIME_CHAIN, t);
+        self.state[t] = WAITING;
         self.links = l;
         self.running = 0;
         self
@@ -117,8 +143,8 @@ impl State {
     {
         let t = self.running as usize;
         let f = rig.activation[t];
-        let q = Queue::empty().push(f, 0);
-        self.state[t] = 1;
+        let q = Queue::empty().push(f, OFF);
+        self.state[t] = INACTIVE;
         self.running = 0;
         Work { st: self, queue: q }
     }
@@ -130,9 +156,9 @@ impl State {
         ensures { λ r. ⌜ Terminated self rig t r ⌝ }
     {
         let f = rig.activation[t];
-        let q = Queue::empty().push(f, 0);
+        let q = Queue::empty().push(f, OFF);
         let l = exec_family::leave(self.links, t);
-        self.state[t] = 1;
+        self.state[t] = INACTIVE;
         self.links = l;
         Work { st: self, queue: q }
     }
@@ -159,7 +185,7 @@ impl State {
     {
         let none = Queue::empty();
         exec_conditions::relax(&rig.present, &rig.latched, &rig.desired, t, &mut self.cond);
-        self.state[t] = 1;
+        self.state[t] = INACTIVE;
         if !exec_conditions::met(&rig.present, &rig.desired, t, &self.cond) {
             return Work {
                 st: self,
@@ -167,8 +193,8 @@ impl State {
             };
         }
         let f = rig.activation[t];
-        let q = none.push(f, 1);
-        self.state[t] = 3;
+        let q = none.push(f, ON);
+        self.state[t] = DISPATCHABLE;
         exec_conditions::relax(&rig.present, &rig.latched, &rig.desired, t, &mut self.cond);
         Work { st: self, queue: q }
     }
@@ -181,7 +207,7 @@ impl State {
     {
         let count = self.count + 1;
         self.count = count;
-        let i = (count % 64) as usize;
+        let i = (count % CYCLES) as usize;
         let cycle = cycles[i];
         let q = Queue::of_cycle(cycle);
         let s = self.wake_due();
@@ -209,14 +235,14 @@ pub fn offers<'a>(
 {
     let mut q = queue;
     let mut i: usize = 0;
-    while i < 64 {
+    while i < MOST_TASKS {
         let t = i + 1;
         let a = state[t];
         if exec_conditions::ready(present, desired, lineTask, lineFlag, n, t, f, &*cond, a) {
-            state[t] = 3;
+            state[t] = DISPATCHABLE;
             exec_conditions::relax(present, latched, desired, t, &mut *cond);
             let g = activation[t];
-            q = q.push(g, 1);
+            q = q.push(g, ON);
         }
         i = i + 1;
     }
@@ -233,15 +259,23 @@ pub fn wake(links: Links, state: &mut [u8; 65], s: usize) -> Links
     let mut v = k.next[s] as usize;
     while v != s {
         k = chains::unlink(k, v);
-        state[v] = 3;
+        state[v] = DISPATCHABLE;
         v = k.next[s] as usize;
     }
     k
 }
 
-// The last queued is taken off and served, until the queue is empty. States and links are locals: two fields of one
-// struct cannot be lent at once, and a call by value would copy the state for each flag. The links are copied only where
-// somebody waits. The rig's tables are lent: the rig by value would be copied twice.
+// Whether somebody waits in the chain of anchor c.
+fn waited(next: &[u16; 322], c: usize) -> bool
+    requires { ⌜ c < 322 ⌝ }
+    ensures { λ r. ⌜ r ≡ not (eqb (getD (now (next .entry)) c 0) c) ⌝ }
+{
+    next[c] != c as u16
+}
+
+// The last queued is taken off and served, until the queue is empty. The states are a local: two fields of one struct cannot
+// be lent at once, and a call by value would copy the state for each flag. The links are copied only where somebody waits.
+// The rig's tables are lent: the rig by value would be copied twice.
 pub fn serve<'a>(
     mut st: State,
     queue: Queue,
@@ -258,7 +292,6 @@ pub fn serve<'a>(
     ensures { λ r. ⌜ ((g : Rig) → Emptied (withTables (now (present .entry)) (now (latched .entry)) (now (desired .entry)) (now (lineTask .entry)) (now (lineFlag .entry)) (now (activation .entry)) n (withPlaces (now (linePos .entry)) g)) st queue r) ⌝ }
 {
     let mut state = st.state;
-    let mut links = st.links;
     let mut q = queue;
     let mut k: u32 = 0;
     while q.n != 0 {
@@ -268,9 +301,10 @@ pub fn serve<'a>(
         q.n = j;
         st.value[f as usize] = v;
         exec_conditions::drive(lineTask, linePos, lineFlag, n, f, v, &mut st.cond);
-        let c = 64 + 2 * (f as usize) + (v as usize);
-        if links.next[c] as usize != c {
-            links = wake(links, &mut state, c);
+        let c = FLAG_CHAINS + 2 * (f as usize) + (v as usize);
+        if waited(&st.links.next, c) {
+            let links = wake(st.links, &mut state, c);
+            st.links = links;
         }
         q = offers(
             present,
@@ -288,6 +322,5 @@ pub fn serve<'a>(
         k = k + 1;
     }
     st.state = state;
-    st.links = links;
     Done { st: st, served: k }
 }

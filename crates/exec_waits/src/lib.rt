@@ -1,8 +1,8 @@
 // Waits of the running task: until a count, for a number of cycles, for a flag's value.
 use exec_outcome::Outcome;
+use exec_queue::Queue;
 use exec_state::State;
 use exec_state::Work;
-use exec_queue::Queue;
 use rig::Cycle;
 use rig::Rig;
 ghost use mathlib.Core.Path.{_≡_};

@@ -8,8 +8,9 @@ use Rattle.rules_laws.specs.Refusals.{code-is}
 use Rattle.rig_build.specs.Read.{readOf}
 use Rattle.exec.specs.Sound.{rigIn, view, Sound}
 use Rattle.exec.specs.Call.{Meets, answerOf, refuse}
-use Rattle.exec.specs.Starting.{noExec, zeros-refused}
-use Rattle.exec.specs.Promises.{twelve-exactly, refused-unchanged, stays-sound}
+use Rattle.exec.specs.Starting.{noExec}
+use Rattle.exec.specs.Laws.Starting.{zeros-refused}
+use Rattle.exec.specs.Laws.Promises.{twelve-exactly, refused-unchanged, stays-sound}
 use Rattle.exec.specs.declared.Exec.{Exec}
 use Rattle.exec.specs.declared.Step.{Step}
 use Rattle.host.specs.Told.{coded, Replies, BeginsFrom}
@@ -53,7 +54,7 @@ module _ (x : Exec) (k : R.Call) (r : Coded) (after : List ℕ) (p : Replies x k
   refused-keeps n =
       ⊎-elim
       (λ m. of-sound (m .0) (R.refusal (rigIn x) (view x) k) (ap (λ (a : R.Answer). a .code) (m .1 .answer) ∙ code-is (rigIn x) (view x) k) refl)
-      (λ m. (same-record ∙ ap (λ (s : Step). s .exec) (m .1), m .2))
+      (λ m. (same-record ∙ m .1 .exec, m .2))
       (p .meets .is)
     where
       of-sound : Sound x → (c : ℕ) → answerOf (p .step .answer) .code ≡ c → R.refusal (rigIn x) (view x) k ≡ c → (r .exec ≡ x) × (after ≡ R.lent k)
@@ -83,7 +84,7 @@ module _ (file : List ℕ) (r : Coded) (p : BeginsFrom file r) where
   pub start-accepted : (r .reply .refusal ≡ 0) ↔ (readOf file .no ≡ 0)
   start-accepted = (
     (λ e. ⊎-elim (λ q. q .0) (λ q. sym (ap (λ (c : Coded). c .reply .refusal) (q .1)) ∙ e) (p .is)),
-    (λ e. ⊎-elim (λ q. ap (λ (c : Coded). c .reply .refusal) (q .1 .told) ∙ ap (λ a. answerOf a .code) (q .1 .started .answer)) (λ q. absurd (q .0 e)) (p .is)),
+    (λ e. ⊎-elim (λ q. ap (λ (c : Coded). c .reply .refusal) (q .1 .told) ∙ ap (λ (a : R.Answer). a .code) (q .1 .started .answer)) (λ q. absurd (q .0 e)) (p .is)),
   )
 
   -- a fresh record is sound

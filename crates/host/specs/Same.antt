@@ -9,8 +9,9 @@ use Rattle.rig.specs.Rules.{Right}
 use Rattle.rig.specs.Forms.{cyclesOf, tableOf, cycles-of-table}
 use Rattle.rules.specs.Calls as R
 use Rattle.rig_build.specs.Read.{readOf}
-use Rattle.exec.specs.Unique.{meets-same}
-use Rattle.exec.specs.Starting.{Started, Starts, starts-same}
+use Rattle.exec.specs.Laws.Unique.{meets-same}
+use Rattle.exec.specs.Starting.{Started, Starts}
+use Rattle.exec.specs.Laws.Starting.{starts-same}
 use Rattle.exec.specs.declared.Exec.{Exec}
 use Rattle.exec.specs.declared.Step.{Step}
 use Rattle.host.specs.Told.{coded, Replies, Begins, BeginsFrom}

@@ -32,11 +32,11 @@ use Rattle.rules_laws.specs.WakingLaws as WL
 use Rattle.rules_laws.specs.Activation.{BySchedule, ByService, activated-by}
 use Rattle.exec_state.specs.View.{rigOf}
 use Rattle.exec.specs.Sound.{rigIn, view, Sound}
-use Rattle.exec.specs.Call.{Follows, Meets, answerOf, refuse}
-use Rattle.exec.specs.Unique.{record-same}
+use Rattle.exec.specs.Call.{Follows, Meets, Refuses, answerOf}
+use Rattle.exec.specs.Laws.Unique.{record-same}
 use Rattle.exec_sound.specs.RightRig.{rig-ok}
-use Rattle.exec.specs.Promises.{twelve-exactly}
-use Rattle.exec.specs.Starting.{Started, noExec}
+use Rattle.exec.specs.Laws.Promises.{twelve-exactly}
+use Rattle.exec.specs.Starting.{Started, noExec, brokenRig}
 use Rattle.runs.specs.Runs.{Made, MadeOn, Ran, callsOf, codeOf, servedOf, AcceptedStart, noting, historyIn, SparedIn}
 use Rattle.runs.specs.Demands.{Anchor, Stands, Chained, Activated, Bounded, Demand, Wakes, forwardIn, stateIn}
 use Rattle.exec.specs.declared.Exec.{Exec}
@@ -52,7 +52,7 @@ refused-same x k r after m n =
     let f = p .1 in
     let u = refused-unchanged (rigIn x) (view x) k (λ q. n (ap (λ (a : R.Answer). a .code) (f .answer) ∙ q)) in
     (record-same (r .exec) x (f .sound) (p .0) (f .rig) (f .cycles) (f .next ∙ u .0), f .lent ∙ u .1))
-    (λ p. (ap (λ (s : Step). s .exec) (p .1), p .2))
+    (λ p. (p .1 .exec, p .2))
     (m .is)
 
 -- ---- a record that shows the state s of the rules' rig r, and is sound
@@ -165,8 +165,8 @@ module _ (y : Exec) (h : Sound y) where
 
 -- ---- FROM AN ACCEPTED START
 
-refused-four : (r : Step) → codeOf r ≡ 0 → r ≡ refuse noExec 4 → ⊥
-refused-four r e q = omega (arith, e, ap codeOf q)
+refused-four : (r : Step) → codeOf r ≡ 0 → Refuses noExec brokenRig r → ⊥
+refused-four r e q = omega (arith, e, ap (λ (a : R.Answer). a .code) (q .answer))
 
 module _ (g : Rig) (table : List (List ℕ)) (x : Exec) (s : AcceptedStart g table x) where
   begun : Right g (cyclesOf table) × Started g (cyclesOf table) (s .begun)
@@ -181,7 +181,7 @@ module _ (g : Rig) (table : List (List ℕ)) (x : Exec) (s : AcceptedStart g tab
 
   -- the start serves one flag at most
   pub started-served : servedOf (s .begun) ≤ 1
-  started-served = omega (arith, ap (λ a. answerOf a .report .served) (begun .1 .answer), start-served (rigOf g (cyclesOf table)))
+  started-served = omega (arith, ap (λ (a : R.Answer). a .report .served) (begun .1 .answer), start-served (rigOf g (cyclesOf table)))
 
   shown : Shows (rigIn x) (R.start (rigIn x)) x
   shown =

@@ -29,7 +29,7 @@ use Rattle.exec.specs.Call as C
 use Rattle.exec.specs.Starting.{servedOnly}
 use Rattle.exec_sound.specs.RightRig.{rig-ok}
 use Rattle.exec.specs.Starting.{Started, Starts, noExec}
-use Rattle.exec.specs.Unique.{record-same, meets-same}
+use Rattle.exec.specs.Laws.Unique.{record-same, meets-same}
 use Rattle.exec.specs.declared.Exec.{Exec}
 use Rattle.exec.specs.declared.Step.{Step}
 use Rattle.exec.specs.declared.Answer.{Answer}

@@ -1,4 +1,4 @@
-use Rattle.exec.specs.Starting.{refused-start, accepted-start}
+use Rattle.exec.specs.Laws.Starting.{refused-start, accepted-start}
 use borrow.Author.Needs.{needs}
 use Rattle.exec.proofs.start.Statement.{statement}
 use Rattle.exec.proofs.start.Tie as tie

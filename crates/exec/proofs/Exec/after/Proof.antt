@@ -1,6 +1,7 @@
 use mathlib.Core.Path.{sym, ap, subst}
 use Rattle.exec.specs.Call.{Meets}
-use Rattle.exec.specs.Meeting.{withState, tells-meets}
+use Rattle.exec.specs.Call.{withState}
+use Rattle.exec.specs.Laws.Meeting.{tells-meets}
 use Rattle.exec.specs.declared.Step.{Step}
 use Rattle.exec.specs.declared.Answer.{Answer}
 use borrow.Author.Needs.{needs}

@@ -1,4 +1,4 @@
-use Rattle.exec.specs.Meeting.{answer-refused, answer-accepted}
+use Rattle.exec.specs.Laws.Meeting.{answer-refused, answer-accepted}
 use Rattle.exec.proofs.answers.answer_of.Statement.{statement}
 use Rattle.exec.proofs.answers.answer_of.Tie as tie
 

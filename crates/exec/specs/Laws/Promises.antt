@@ -11,8 +11,8 @@ use Rattle.rules.specs.Calls as R
 use Rattle.rules_laws.specs.Refusals.{code-is}
 use Rattle.exec.specs.Sound.{rigIn, view, Sound}
 use Rattle.exec.specs.Call.{Meets, answerOf, refuse}
-use Rattle.exec.specs.Unique.{meets-same}
-use Rattle.exec.specs.Meeting.{refused}
+use Rattle.exec.specs.Laws.Unique.{meets-same}
+use Rattle.exec.specs.Laws.Meeting.{refused}
 use Rattle.exec.specs.declared.Exec.{Exec}
 use Rattle.exec.specs.declared.Step.{Step}
 use Rattle.exec.specs.declared.Answer.{Answer}
@@ -58,7 +58,7 @@ module _ (x : Exec) (k : R.Call) (r : Step) (after : List ℕ) (m : Meets x k r 
     (λ e. ⊎-elim
         (λ p. absurd (omega (arith, e, ap (λ (a : R.Answer). a .code) (p .1 .answer), code-is (rigIn x) (view x) k, refusal-low (rigIn x) (view x) k)))
         (λ p. p .0) (m .is)),
-    (λ n. ⊎-elim (λ p. absurd (n (p .0))) (λ p. ap (λ (s : Step). answerOf (s .answer) .code) (p .1)) (m .is)),
+    (λ n. ⊎-elim (λ p. absurd (n (p .0))) (λ p. ap (λ (a : R.Answer). a .code) (p .1 .answer)) (m .is)),
   )
 
   -- "A refused call returns the record unchanged and writes nothing"
@@ -74,4 +74,4 @@ module _ (x : Exec) (k : R.Call) (r : Step) (after : List ℕ) (m : Meets x k r 
   -- the rig and its cycles are what they were
   pub rig-kept : (r .exec .rig ≡ x .rig) × (r .exec .cycles ≡ x .cycles)
   rig-kept =
-      ⊎-elim (λ p. (p .1 .rig, p .1 .cycles)) (λ p. (ap (λ (s : Step). s .exec .rig) (p .1), ap (λ (s : Step). s .exec .cycles) (p .1))) (m .is)
+      ⊎-elim (λ p. (p .1 .rig, p .1 .cycles)) (λ p. (ap (λ (y : Exec). y .rig) (p .1 .exec), ap (λ (y : Exec). y .cycles) (p .1 .exec))) (m .is)

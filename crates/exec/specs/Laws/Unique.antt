@@ -1,8 +1,10 @@
 -- THE STATEMENT FIXES THE RESULT: two results that meet what a call owes are equal.
-use mathlib.Core.Path.{_≡_, sym, _∙_, ap, subst}
-use mathlib.Core.Logic.{_⊎_, ⊎-elim}
+use mathlib.Core.Path.{_≡_, refl, sym, _∙_, ap, subst}
+use mathlib.Core.Logic.{_≢_, _⊎_, ⊎-elim, _↔_}
+use mathlib.Core.Bool.{Bool, true, false}
 use mathlib.Core.List.{List}
 use Prim.Native.Nat.{ℕ}
+use native.Mathlib.Omega.{arith}
 use Rattle.chains.specs.Held.{Held, Sized}
 use Rattle.chains.specs.Held as Links
 use Rattle.chains.specs.Read.{chainsOf, sound-chains}
@@ -11,8 +13,9 @@ use Rattle.rules.specs.State as S
 use Rattle.rules.specs.Calls as R
 use Rattle.exec_state.specs.View.{viewOf}
 use Rattle.exec_state.specs.declared.State.{State}
+use Rattle.exec_refusals.specs.Numbers.{notSound}
 use Rattle.exec.specs.Sound.{view, Sound}
-use Rattle.exec.specs.Call.{Follows, Meets, Proper, answerOf}
+use Rattle.exec.specs.Call.{Follows, Meets, Proper, Refuses, answerOf, refuse}
 use Rattle.exec.specs.declared.Exec.{Exec}
 use Rattle.exec.specs.declared.Report.{Report}
 use Rattle.exec.specs.declared.Step.{Step}
@@ -54,6 +57,16 @@ answer-same (Accepted m) (Refused n) p q e = absurd (q (sym (ap (λ (r : R.Answe
 answer-same (Refused m) (Accepted n) p q e = absurd (p (ap (λ (r : R.Answer). r .code) e))
 answer-same (Refused m) (Refused n) p q e = ap Refused (ap (λ (r : R.Answer). r .code) e)
 
+-- what a refusal says fixes the step
+refused-same : (n : ℕ) → n ≢ 0 → (a : Answer) → answerOf a ≡ record { code = n; report = R.nothing } → a ≡ Refused n
+refused-same n z (Accepted p) e = absurd (z (sym (ap (λ (r : R.Answer). r .code) e)))
+refused-same n z (Refused m) e = ap Refused (ap (λ (r : R.Answer). r .code) e)
+
+pub refuses-is : (x : Exec) (n : ℕ) → n ≢ 0 → (r : Step) → Refuses x n r → r ≡ refuse x n
+refuses-is x n z r h =
+    let w = refused-same n z (r .answer) (h .answer) in
+    λ i. record { exec = h .exec i; answer = w i }
+
 follows-same : (x : Exec) (k : R.Call) (r s : Step) (u v : List ℕ) → Follows x k r u → Follows x k s v → (r ≡ s) × (u ≡ v)
 follows-same x k r s u v a b =
     let e : r .exec ≡ s .exec =
@@ -65,5 +78,15 @@ pub meets-same : (x : Exec) (k : R.Call) (r s : Step) (u v : List ℕ) → Meets
 meets-same x k r s u v a b =
     ⊎-elim
     (λ p. ⊎-elim (λ q. follows-same x k r s u v (p .1) (q .1)) (λ q. absurd (q .0 (p .0))) (b .is))
-    (λ p. ⊎-elim (λ q. absurd (p .0 (q .0))) (λ q. (p .1 ∙ sym (q .1), p .2 ∙ sym (q .2))) (b .is))
+    (λ p. ⊎-elim (λ q. absurd (p .0 (q .0))) (λ q. (twelve r (p .1) ∙ sym (twelve s (q .1)), p .2 ∙ sym (q .2))) (b .is))
     (a .is)
+  where
+    twelve : (w : Step) → Refuses x notSound w → w ≡ refuse x notSound
+    twelve w h = refuses-is x notSound (λ z. omega arith) w h
+
+-- so does what `sound` answers: two answers to one question are equal
+pub sound-same : (x : Exec) (a b : Bool) → (a ≡ true) ↔ Sound x → (b ≡ true) ↔ Sound x → a ≡ b
+sound-same x true true f g = refl
+sound-same x true false f g = sym (g .1 (f .0 refl))
+sound-same x false true f g = f .1 (g .0 refl)
+sound-same x false false f g = refl

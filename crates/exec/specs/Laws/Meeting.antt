@@ -7,26 +7,16 @@ use native.Mathlib.Omega.{arith}
 use Rattle.rules.specs.Rig as G
 use Rattle.rules.specs.State as S
 use Rattle.rules.specs.Calls as R
-use Rattle.exec_state.specs.declared.State.{State}
 use Rattle.exec_outcome.specs.Outcome.{answerIn, refusedBy, Tells}
 use Rattle.exec_outcome.specs.declared.Outcome.{Outcome}
 use Rattle.exec.specs.Sound.{rigIn, view, Sound}
-use Rattle.exec.specs.Call.{Follows, Meets, Proper, answerOf, answerFrom, refuse}
+use Rattle.exec.specs.Call.{Follows, Meets, Proper, answerOf, withState, refuse}
+use Rattle.exec.specs.Laws.Made.{answerFrom, reportFrom, stepFrom}
 use Rattle.exec.specs.declared.Exec.{Exec}
 use Rattle.exec.specs.declared.Report.{Report}
 use Rattle.exec.specs.declared.Step.{Step}
 use Rattle.exec.specs.declared.Answer.{Answer}
 use Rattle.exec.specs.declared.Answer.the-variants.{Accepted, Refused}
-
--- the record with another state
-abbrev pub withState : Exec → State → Exec
-withState x s = record { rig = x .rig; cycles = x .cycles; st = s }
-
-abbrev pub reportFrom : Outcome → Report
-reportFrom o = record { served = o .served; words = o .words; value = o .value }
-
-abbrev pub stepFrom : Exec → Outcome → Step
-stepFrom x o = record { exec = withState x (o .st); answer = answerFrom (o .refusal) (reportFrom o) }
 
 -- what is told of a refused call is nothing
 pub refused-tells-nothing : (r : G.Rig) (s : S.State) (k : R.Call) → R.step r s k .answer .code ≢ 0 → R.step r s k .answer .report ≡ R.nothing
@@ -76,7 +66,16 @@ module _ (x : Exec) (k : R.Call) where
           },
         );
       })
-      (λ p. record { is = inr (p .0, ap (stepFrom x) (p .1), p .2) })
+      (λ p. record {
+        is = inr (
+          p .0,
+          record {
+            exec = λ i. withState x (p .1 i .st);
+            answer = ap (λ (w : Outcome). answerOf (answerFrom (w .refusal) (reportFrom w))) (p .1);
+          },
+          p .2,
+        );
+      })
       (t .is)
 
   -- a sound record that is refused by its table

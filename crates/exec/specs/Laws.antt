@@ -1,0 +1,5 @@
+pub mod Unique
+pub mod Made
+pub mod Meeting
+pub mod Starting
+pub mod Promises

@@ -1,0 +1,28 @@
+-- What every walk over a lent `Exec` cites: the machine values of a record and of an answer, and what whoever has a `Step` knows
+-- of the two. Made by tools/walks.
+use mathlib.Core.List.{[], _∷_, List}
+use mir.Val.{Val}
+use denote.Laws.{Is}
+use denote.Struct.Laws as SL
+use denote.Enum.Laws as EL
+use Rattle.exec.specs.declared.Exec.{Exec}
+use Rattle.exec.specs.declared.Step.{Step}
+use Rattle.exec.specs.declared.Answer.{Answer}
+use Rattle.exec.proofs.Exec as X
+use Rattle.exec.proofs.Exec.Laws as X′
+use Rattle.exec.proofs.Step as S
+use Rattle.exec.proofs.Step.Laws as S′
+use Rattle.exec.proofs.Answer as N
+use Rattle.exec.proofs.Answer.Laws as N′
+
+abbrev pub xval : Exec → Val
+xval = SL.val X.the-type X′.the-laws
+
+abbrev pub nval : Answer → Val
+nval = EL.val N.the-type N′.the-laws
+
+pub is-exec : (r : Step) (vs : List Val) → Is S.the-row r vs → Is X.the-row (r .exec) (xval (r .exec) ∷ [])
+is-exec r vs p = SL.owed S.the-type S′.the-laws r vs p .0
+
+pub is-answer : (r : Step) (vs : List Val) → Is S.the-row r vs → Is N.the-row (r .answer) (nval (r .answer) ∷ [])
+is-answer r vs p = SL.owed S.the-type S′.the-laws r vs p .1 .0
