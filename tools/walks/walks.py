@@ -28,7 +28,7 @@ HERE = Path(__file__).parent
 # crate: the record, what a call by value returns with its two fields, the answer, and whether that is an enum
 CRATES = {
     'exec_lent': ('exec::Exec', 'exec::Step', 'exec', 'answer', 'exec::Answer', True),
-    'host': ('exec::Exec', 'host::Coded', 'exec', 'reply', 'host::Reply', False),
+    'host': ('exec::Exec', 'host_replies::Coded', 'exec', 'reply', 'host_replies::Reply', False),
 }
 
 WIDTHS = {'u8': 'w8', 'u16': 'w16', 'u32': 'w32', 'u64': 'w64', 'usize': 'w64'}

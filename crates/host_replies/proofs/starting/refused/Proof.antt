@@ -1,11 +1,11 @@
 use mathlib.Core.Path.{ap}
 use Rattle.exec.specs.declared.Exec.{Exec}
-use Rattle.host.specs.Told.{codedOf, refusedFile}
+use Rattle.host_replies.specs.Told.{codedOf, refusedFile}
 use borrow.Author.Needs.{needs}
-use Rattle.host.proofs.starting.refused.Statement.{statement}
-use Rattle.host.proofs.starting.refused.Tie as tie
-use Rattle.host.proofs.starting.refused.Reads as reads
-use Rattle.host.proofs.starting.refused.Lts as lts
+use Rattle.host_replies.proofs.starting.refused.Statement.{statement}
+use Rattle.host_replies.proofs.starting.refused.Tie as tie
+use Rattle.host_replies.proofs.starting.refused.Reads as reads
+use Rattle.host_replies.proofs.starting.refused.Lts as lts
 use Rattle.exec.proofs.none.Reads as none-reads
 
 -- src/starting.rt:10:9

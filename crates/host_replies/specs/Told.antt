@@ -12,15 +12,8 @@ use Rattle.exec.specs.Starting.{noExec, Started}
 use Rattle.exec.specs.declared.Exec.{Exec}
 use Rattle.exec.specs.declared.Step.{Step}
 use Rattle.exec.specs.declared.Answer.{Answer}
-use Rattle.host.specs.declared.Reply.{Reply}
-use Rattle.host.specs.declared.Coded.{Coded}
-
--- bytes of a record, and what its address is a multiple of
-abbrev pub recordSize : ℕ
-recordSize = 10788
-
-abbrev pub recordAlign : ℕ
-recordAlign = 4
+use Rattle.host_replies.specs.declared.Reply.{Reply}
+use Rattle.host_replies.specs.declared.Coded.{Coded}
 
 -- the paper's number and values of an answer, with a count and a running task
 abbrev pub replyOf : Answer → ℕ → ℕ → Reply

@@ -1,11 +1,11 @@
 use mathlib.Core.Path.{ap}
-use Rattle.host.specs.Told.{codedOf}
+use Rattle.host_replies.specs.Told.{codedOf}
 use borrow.Author.Needs.{needs}
-use Rattle.host.proofs.calls.told.Statement.{statement}
-use Rattle.host.proofs.calls.told.Tie as tie
-use Rattle.host.proofs.calls.told.Reads as reads
-use Rattle.host.proofs.calls.told.Lts as lts
-use Rattle.host.proofs.calls.reply_of.Reads as reply-of-reads
+use Rattle.host_replies.proofs.calls.told.Statement.{statement}
+use Rattle.host_replies.proofs.calls.told.Tie as tie
+use Rattle.host_replies.proofs.calls.told.Reads as reads
+use Rattle.host_replies.proofs.calls.told.Lts as lts
+use Rattle.host_replies.proofs.calls.reply_of.Reads as reply-of-reads
 
 -- src/calls.rt:44:49
 cast-reply-of : tie.Need-cast-reply-of

@@ -12,9 +12,9 @@ use Rattle.exec.specs.Starting.{noExec, zeros-refused}
 use Rattle.exec.specs.Promises.{twelve-exactly, refused-unchanged, stays-sound}
 use Rattle.exec.specs.declared.Exec.{Exec}
 use Rattle.exec.specs.declared.Step.{Step}
-use Rattle.host.specs.Told.{coded, Replies, BeginsFrom}
-use Rattle.host.specs.declared.Reply.{Reply}
-use Rattle.host.specs.declared.Coded.{Coded}
+use Rattle.host_replies.specs.Told.{coded, Replies, BeginsFrom}
+use Rattle.host_replies.specs.declared.Reply.{Reply}
+use Rattle.host_replies.specs.declared.Coded.{Coded}
 
 -- the numbers of a step of the rules
 abbrev pub numbersOf : R.Step → Reply

@@ -13,9 +13,9 @@ use Rattle.exec.specs.Unique.{meets-same}
 use Rattle.exec.specs.Starting.{Started, Starts, starts-same}
 use Rattle.exec.specs.declared.Exec.{Exec}
 use Rattle.exec.specs.declared.Step.{Step}
-use Rattle.host.specs.Told.{coded, Replies, Begins, BeginsFrom}
-use Rattle.host.specs.Files.{accepted-right}
-use Rattle.host.specs.declared.Coded.{Coded}
+use Rattle.host_replies.specs.Told.{coded, Replies, Begins, BeginsFrom}
+use Rattle.host_replies.specs.Files.{accepted-right}
+use Rattle.host_replies.specs.declared.Coded.{Coded}
 
 pub replies-same : (x : Exec) (k : R.Call) (r s : Coded) (u v : List ℕ) → Replies x k r u → Replies x k s v → (r ≡ s) × (u ≡ v)
 replies-same x k r s u v a b =

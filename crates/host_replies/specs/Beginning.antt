@@ -11,9 +11,9 @@ use Rattle.rig_build.specs.declared.Answer.{Answer}
 use Rattle.rig_build.specs.Read.{readOf}
 use Rattle.exec.specs.Starting.{Started, Starts}
 use Rattle.exec.specs.declared.Step.{Step}
-use Rattle.host.specs.Told.{coded, refusedFile, Begins, BeginsFrom}
-use Rattle.host.specs.Files.{accepted-right, line-small}
-use Rattle.host.specs.declared.Coded.{Coded}
+use Rattle.host_replies.specs.Told.{coded, refusedFile, Begins, BeginsFrom}
+use Rattle.host_replies.specs.Files.{accepted-right, line-small}
+use Rattle.host_replies.specs.declared.Coded.{Coded}
 
 module _ (file : List ℕ) (a : Answer) (e : a ≡ readOf file) where
   pub line-fits : a .line ≤ 40962

@@ -8,7 +8,7 @@ ghost use mathlib.Core.Path.{_≡_};
 ghost use mathlib.Core.List.{[]};
 ghost use Rattle.rules.specs.Calls as Call;
 ghost use Rattle.exec.specs.Call.{bit};
-ghost use Rattle.host.specs.Told.{replyOf, coded, Replies};
+ghost use Rattle.host_replies.specs.Told.{replyOf, coded, Replies};
 
 fn reply_of(a: Answer, count: u32, running: u32) -> Reply
     ensures { λ r. ⌜ r ≡ replyOf a count running ⌝ }
@@ -45,79 +45,79 @@ pub(crate) fn told(s: Step) -> Coded
     Coded { exec, reply }
 }
 
-pub(crate) fn schedule(x: Exec, task: u32) -> Coded
+pub fn schedule(x: Exec, task: u32) -> Coded
     ensures { λ r. ⌜ Replies x (Call.schedule task) r [] ⌝ }
 {
     told(x.schedule(task))
 }
 
-pub(crate) fn cancel(x: Exec, task: u32) -> Coded
+pub fn cancel(x: Exec, task: u32) -> Coded
     ensures { λ r. ⌜ Replies x (Call.cancel task) r [] ⌝ }
 {
     told(x.cancel(task))
 }
 
-pub(crate) fn terminate(x: Exec, task: u32) -> Coded
+pub fn terminate(x: Exec, task: u32) -> Coded
     ensures { λ r. ⌜ Replies x (Call.terminate task) r [] ⌝ }
 {
     told(x.terminate(task))
 }
 
-pub(crate) fn finish(x: Exec) -> Coded
+pub fn finish(x: Exec) -> Coded
     ensures { λ r. ⌜ Replies x Call.finish r [] ⌝ }
 {
     told(x.finish())
 }
 
-pub(crate) fn tick(x: Exec, out: &mut [u16]) -> Coded
+pub fn tick(x: Exec, out: &mut [u16]) -> Coded
     ensures { λ r. ⌜ Replies x (Call.tick (now (out .entry))) r (now (out .exit)) ⌝ }
 {
     told(x.tick(out))
 }
 
-pub(crate) fn wait_until(x: Exec, count: u32) -> Coded
+pub fn wait_until(x: Exec, count: u32) -> Coded
     ensures { λ r. ⌜ Replies x (Call.waitUntil count) r [] ⌝ }
 {
     told(x.wait_until(count))
 }
 
-pub(crate) fn wait_for(x: Exec, cycles: u32) -> Coded
+pub fn wait_for(x: Exec, cycles: u32) -> Coded
     ensures { λ r. ⌜ Replies x (Call.waitFor cycles) r [] ⌝ }
 {
     told(x.wait_for(cycles))
 }
 
-pub(crate) fn latched(x: Exec, flag: u32, value: bool) -> Coded
+pub fn latched(x: Exec, flag: u32, value: bool) -> Coded
     ensures { λ r. ⌜ Replies x (Call.latched flag (bit value)) r [] ⌝ }
 {
     told(x.latched(flag, value))
 }
 
-pub(crate) fn unlatched(x: Exec, flag: u32, value: bool) -> Coded
+pub fn unlatched(x: Exec, flag: u32, value: bool) -> Coded
     ensures { λ r. ⌜ Replies x (Call.unlatched flag (bit value)) r [] ⌝ }
 {
     told(x.unlatched(flag, value))
 }
 
-pub(crate) fn signal(x: Exec, flag: u32, value: bool) -> Coded
+pub fn signal(x: Exec, flag: u32, value: bool) -> Coded
     ensures { λ r. ⌜ Replies x (Call.signal flag (bit value)) r [] ⌝ }
 {
     told(x.signal(flag, value))
 }
 
-pub(crate) fn read_flag(x: Exec, flag: u32) -> Coded
+pub fn read_flag(x: Exec, flag: u32) -> Coded
     ensures { λ r. ⌜ Replies x (Call.readFlag flag) r [] ⌝ }
 {
     told(x.read_flag(flag))
 }
 
-pub(crate) fn read_block(x: Exec, row: u32, area: &[u16], buffer: &mut [u16]) -> Coded
+pub fn read_block(x: Exec, row: u32, area: &[u16], buffer: &mut [u16]) -> Coded
     ensures { λ r. ⌜ Replies x (Call.readBlock row (now (area .entry)) (now (buffer .entry))) r (now (buffer .exit)) ⌝ }
 {
     told(x.read_block(row, area, buffer))
 }
 
-pub(crate) fn write_block(x: Exec, row: u32, area: &mut [u16], words: &[u16]) -> Coded
+pub fn write_block(x: Exec, row: u32, area: &mut [u16], words: &[u16]) -> Coded
     ensures { λ r. ⌜ Replies x (Call.writeBlock row (now (area .entry)) (now (words .entry))) r (now (area .exit)) ⌝ }
 {
     told(x.write_block(row, area, words))

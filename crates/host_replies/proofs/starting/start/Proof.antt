@@ -1,12 +1,12 @@
-use Rattle.host.specs.Beginning.{line-fits, file-refused, file-started}
+use Rattle.host_replies.specs.Beginning.{line-fits, file-refused, file-started}
 use borrow.Author.Needs.{needs}
-use Rattle.host.proofs.starting.start.Statement.{statement}
-use Rattle.host.proofs.starting.start.Tie as tie
-use Rattle.host.proofs.starting.start.Reads as reads
-use Rattle.host.proofs.starting.start.Lts as lts
+use Rattle.host_replies.proofs.starting.start.Statement.{statement}
+use Rattle.host_replies.proofs.starting.start.Tie as tie
+use Rattle.host_replies.proofs.starting.start.Reads as reads
+use Rattle.host_replies.proofs.starting.start.Lts as lts
 use Rattle.exec.proofs.start.Reads as start-reads
-use Rattle.host.proofs.calls.told.Reads as told-reads
-use Rattle.host.proofs.starting.refused.Reads as refused-reads
+use Rattle.host_replies.proofs.calls.told.Reads as told-reads
+use Rattle.host_replies.proofs.starting.refused.Reads as refused-reads
 use Rattle.rig.proofs.table_of.Reads as table-of-reads
 use Rattle.rig_read.proofs.read.Reads as read-reads
 
