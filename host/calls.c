@@ -3,8 +3,6 @@
 #include <inttypes.h>
 #include <stdio.h>
 
-enum { TICK_WORDS = 128 }; /* the least buffer that a tick is lent */
-
 void print_reply(const char *verb, const algolmallet_reply *reply)
 {
     printf("%s\t%" PRIu32 "\t%" PRIu32 "\t%" PRIu32, verb, reply->refusal, reply->count, reply->running);
@@ -34,7 +32,7 @@ static bool is_call(const struct script_line *line)
 }
 
 /* Makes the call on the record where it stands; `words` takes a tick's bus words. */
-static algolmallet_reply make_call(algolmallet_record *record, const struct script_line *line, uint16_t words[TICK_WORDS])
+static algolmallet_reply make_call(algolmallet_record *record, const struct script_line *line, uint16_t words[ALGOLMALLET_TICK_WORDS])
 {
     uint32_t number = line->number[0];
     bool value = line->number[1] == 1;
@@ -52,21 +50,21 @@ static algolmallet_reply make_call(algolmallet_record *record, const struct scri
     case 'R':
         return algolmallet_wait_for(record, number);
     case 'L':
-        return algolmallet_latched(record, number, value);
+        return algolmallet_wait_latched(record, number, value);
     case 'N':
-        return algolmallet_unlatched(record, number, value);
+        return algolmallet_wait_unlatched(record, number, value);
     case 'G':
         return algolmallet_signal(record, number, value);
     case 'Q':
         return algolmallet_read_flag(record, number);
     default:
-        return algolmallet_tick(record, words, TICK_WORDS);
+        return algolmallet_tick(record, words, ALGOLMALLET_TICK_WORDS);
     }
 }
 
 bool run_call(algolmallet_record *record, const struct script_line *line)
 {
-    uint16_t words[TICK_WORDS] = {0};
+    uint16_t words[ALGOLMALLET_TICK_WORDS] = {0};
     if (!is_call(line))
         return false;
     algolmallet_reply reply = make_call(record, line, words);

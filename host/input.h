@@ -6,8 +6,10 @@
 #include <stddef.h>
 #include <stdint.h>
 
+#include "algolmallet.h"
+
 enum {
-    RIG_FILE_MAX = 40960,
+    RIG_FILE_MAX = ALGOLMALLET_FILE_BYTES,
     RUN_LINE = 4,                      /* RUN and its LF */
     RIG_ROOM = RIG_FILE_MAX + RUN_LINE /* enough to see that a rig is too long, whatever follows it */
 };

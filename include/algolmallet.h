@@ -1,8 +1,10 @@
 /* Algolmallet for C hosts: the executive of an avionics training bench, on a record that the host keeps.
  *
- * Link with target/staticlib/libhost.a, which `rt staticlib host` proves and writes; it is for x86-64. The archive has the
- * entries below and nothing else that can be seen from outside, keeps no memory of its own, uses no heap, and needs of the
- * host only memcpy and memset. The names in quotes are the build paper's words.
+ * Link with libalgolmallet.a, which `./install PREFIX` puts beside this header's folder (pkg-config algolmallet); in the repository it
+ * is target/staticlib/libhost.a, which `rt staticlib host` proves and writes. It is for x86-64. The archive has the entries below and
+ * nothing else that can be seen from outside, keeps no memory of its own, uses no heap, and needs of the host only
+ *     memcpy memmove memset
+ * The words in quotes are the build paper's.
  *
  * WHAT A HOST DOES. It keeps memory for one record, has algolmallet_start fill it from a rig file, and lends it to each
  * call, "to be changed where it stands". Any bytes are a record: memory that was never started, or that was damaged, is
@@ -15,10 +17,10 @@
  *   - the record and the buffers of one call lie apart;
  *   - one caller at a time for each record; calls on different records do not touch each other;
  *   - a bool is true or false.
- * A call may use some 80 KB of stack.
+ *   - a call has ALGOLMALLET_STACK_BYTES of stack: records are handed about by value inside.
  *
  * WHAT IS PROVED of each entry, for every record and every argument: the record after it, its reply and every word of the
- * lent buffers are those that the paper's rules give (crates/host/specs/Told.antt). "A refused call returns the record
+ * lent buffers are those that the paper's rules give (crates/host_replies/specs/Told.antt). "A refused call returns the record
  * unchanged and writes nothing." No call traps.
  */
 #ifndef ALGOLMALLET_H
@@ -31,6 +33,22 @@
 #ifdef __cplusplus
 extern "C" {
 #endif
+
+/* The version of this header: first, second and third number, and all three as one, which rises. */
+#define ALGOLMALLET_VERSION "0.1.0"
+#define ALGOLMALLET_VERSION_NUMBER 1000 /* 1,000,000 times the first, 1,000 times the second, and the third */
+
+/* The version of the archive. A host that was not built with it compares it with ALGOLMALLET_VERSION_NUMBER. */
+uint32_t algolmallet_version(void);
+
+/* Sizes that the paper fixes: the least room of a tick's buffer; words of the compool area for each row; bytes of the longest rig file. */
+#define ALGOLMALLET_TICK_WORDS 128
+#define ALGOLMALLET_ROW_WORDS 33
+#define ALGOLMALLET_FILE_BYTES 40960
+
+/* Room for the longest text of a refusal, with the byte 0 that ends it; and the stack that a call may use. */
+#define ALGOLMALLET_TEXT_BYTES 144
+#define ALGOLMALLET_STACK_BYTES 102400
 
 /* Opaque: what is in it is the library's. A host may copy it as bytes, to keep a state and come back to it; the few bytes that
  * alignment leaves between fields hold anything, so equal states need not be equal bytes. */
@@ -65,6 +83,11 @@ enum algolmallet_refusal {
     /* "the record handed in is not sound" */
     ALGOLMALLET_NOT_SOUND = 12
 };
+
+/* A refusal's text: the paper's words for its number, "accepted" for 0. The text and a 0 byte stand at the front of `out` then, and its length,
+ * without that byte, is answered. If `room` is not more than the length, nothing is written: the answer tells how much is wanted.
+ * (The library keeps no memory of its own, so it has no text to point at.) */
+size_t algolmallet_refusal_text(uint32_t number, char *out, size_t room);
 
 /* What a call answers. After a refusal `served`, `words` and `value` are 0. */
 typedef struct {
@@ -113,8 +136,8 @@ algolmallet_reply algolmallet_terminate(algolmallet_record *r, uint32_t task);
 algolmallet_reply algolmallet_finish(algolmallet_record *r);
 
 /* "the count rises by one; tasks due at it become dispatchable; the M list of cycle (count modulo 64) is queued, each flag
- * on, in file order and served; bus words are written and their number answered". The buffer has room for at least 128
- * words; "words past those written stay". "A tick needs no running task." Refused by 12, 9, 10. */
+ * on, in file order and served; bus words are written and their number answered". The buffer has room for at least
+ * ALGOLMALLET_TICK_WORDS; "words past those written stay". "A tick needs no running task." Refused by 12, 9, 10. */
 algolmallet_reply algolmallet_tick(algolmallet_record *r, uint16_t *words, size_t room);
 
 /* "if the waking count is at or below the count, no wait; else waiting": until a count, or for a number of cycles from now.
@@ -124,8 +147,8 @@ algolmallet_reply algolmallet_wait_for(algolmallet_record *r, uint32_t cycles);
 
 /* A wait for a flag's value. Latched: "no wait if it has it". Unlatched: "always waits for the next service of that flag with
  * that value". Refused by 12, 5, 6, 7. */
-algolmallet_reply algolmallet_latched(algolmallet_record *r, uint32_t flag, bool value);
-algolmallet_reply algolmallet_unlatched(algolmallet_record *r, uint32_t flag, bool value);
+algolmallet_reply algolmallet_wait_latched(algolmallet_record *r, uint32_t flag, bool value);
+algolmallet_reply algolmallet_wait_unlatched(algolmallet_record *r, uint32_t flag, bool value);
 
 /* "the flag and value are queued", and served. Refused by 12, 5, 6, 7. */
 algolmallet_reply algolmallet_signal(algolmallet_record *r, uint32_t flag, bool value);

@@ -161,7 +161,7 @@ entries_of_archive() {
 }
 
 entries_of_header() {
-    sed -n 's/^[a-z_]* \(algolmallet_[a-z_]*\)(.*/\1/p' include/algolmallet.h | sort
+    sed -n 's/^[a-z0-9_]* \(algolmallet_[a-z_]*\)(.*/\1/p' include/algolmallet.h | sort
 }
 
 # tools_of_kit: the folder of the kit's own tools for this processor

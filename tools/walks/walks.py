@@ -30,7 +30,7 @@ CRATES = {
     'exec_lent': ('exec::Exec', 'exec::Step', 'exec', 'answer', 'exec::Answer', True),
     'exec_lent_waits': ('exec::Exec', 'exec::Step', 'exec', 'answer', 'exec::Answer', True),
     'exec_lent_bus': ('exec::Exec', 'exec::Step', 'exec', 'answer', 'exec::Answer', True),
-    'host': ('exec::Exec', 'host::Coded', 'exec', 'reply', 'host::Reply', False),
+    'host': ('exec::Exec', 'host_replies::Coded', 'exec', 'reply', 'host_replies::Reply', False),
 }
 
 WIDTHS = {'u8': 'w8', 'u16': 'w16', 'u32': 'w32', 'u64': 'w64', 'usize': 'w64'}

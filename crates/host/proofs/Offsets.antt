@@ -6,9 +6,9 @@ use mathlib.Core.Option.{Option, some, none}
 use Prim.Native.Nat.{ℕ, zero, suc, _+_}
 use mir.Syntax.{Ty}
 use prog.Memory.{size, align, fieldOf}
-use Rattle.host.specs.Told.{recordSize, recordAlign}
+use Rattle.host.specs.Library.{recordSize, recordAlign}
 use Rattle.exec.proofs.Exec.Laws as record-laws
-use Rattle.host.proofs.Reply.Laws as reply-laws
+use Rattle.host_replies.proofs.Reply.Laws as reply-laws
 
 -- where field k begins; no type has one at a million
 abbrev at : Ty → ℕ → ℕ

@@ -6,14 +6,14 @@ use denote.Laws.{Is}
 use denote.Struct.Laws as SL
 use denote.Enum.Laws as EL
 use Rattle.exec.specs.declared.Exec.{Exec}
-use Rattle.host.specs.declared.Coded.{Coded}
-use Rattle.host.specs.declared.Reply.{Reply}
+use Rattle.host_replies.specs.declared.Coded.{Coded}
+use Rattle.host_replies.specs.declared.Reply.{Reply}
 use Rattle.exec.proofs.Exec as X
 use Rattle.exec.proofs.Exec.Laws as X′
-use Rattle.host.proofs.Coded as S
-use Rattle.host.proofs.Coded.Laws as S′
-use Rattle.host.proofs.Reply as N
-use Rattle.host.proofs.Reply.Laws as N′
+use Rattle.host_replies.proofs.Coded as S
+use Rattle.host_replies.proofs.Coded.Laws as S′
+use Rattle.host_replies.proofs.Reply as N
+use Rattle.host_replies.proofs.Reply.Laws as N′
 
 abbrev pub xval : Exec → Val
 xval = SL.val X.the-type X′.the-laws

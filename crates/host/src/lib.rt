@@ -1,32 +1,35 @@
 // What a host in C calls. It keeps one record in its own memory and lends it to each entry, "to be changed where it stands".
 // Each entry calls the function by value of its name, stores the record that it hands back over the lent one, and replies.
-mod calls;
-mod starting;
-
 use exec::Exec;
+use host_replies::Reply;
 ghost use mathlib.Core.Path.{_≡_};
 ghost use mathlib.Core.List.{[]};
 ghost use Rattle.rules.specs.Calls as Call;
 ghost use Rattle.exec.specs.Call.{bit};
-ghost use Rattle.host.specs.Told.{recordSize, recordAlign, codedOf, Replies, BeginsFrom};
+ghost use Rattle.host_replies.specs.Told.{codedOf, Replies, BeginsFrom};
+ghost use Rattle.refusal_texts.specs.Texts.{refusalText, Given};
+ghost use Rattle.host.specs.Library.{recordSize, recordAlign, version};
 
-// An answer in numbers, which C has by value: the refusal (0 accepted), the rig file's line, flags served, bus words, a
-// flag's value, and the count and the running task of the record after the call.
-#[repr(C)]
-pub struct Reply {
-    pub refusal: u32,
-    pub line: u32,
-    pub served: u32,
-    pub words: u32,
-    pub value: u32,
-    pub count: u32,
-    pub running: u32,
+const RECORD_SIZE: usize = 10788;
+
+const RECORD_ALIGN: usize = 4;
+
+const VERSION: u32 = 1000;
+
+// The version, of which the header has the same number.
+#[no_mangle]
+pub extern "C" fn algolmallet_version() -> u32
+    ensures { λ r. ⌜ r ≡ version ⌝ }
+{
+    VERSION
 }
 
-// The record after a call, and the reply.
-pub struct Coded {
-    pub exec: Exec,
-    pub reply: Reply,
+// A refusal's text in the caller's buffer, with the byte 0 behind it.
+#[no_mangle]
+pub extern "C" fn algolmallet_refusal_text(number: u32, out: &mut [u8]) -> usize
+    ensures { λ r. ⌜ Given (refusalText number) (now (out .entry)) (now (out .exit)) r ⌝ }
+{
+    refusal_texts::refusal_text(number, out)
 }
 
 // The bytes of a record: proofs/Offsets.antt ties the number to the record's type.
@@ -34,7 +37,7 @@ pub struct Coded {
 pub extern "C" fn algolmallet_record_size() -> usize
     ensures { λ r. ⌜ r ≡ recordSize ⌝ }
 {
-    10788
+    RECORD_SIZE
 }
 
 // What a record's address is a multiple of.
@@ -42,7 +45,7 @@ pub extern "C" fn algolmallet_record_size() -> usize
 pub extern "C" fn algolmallet_record_align() -> usize
     ensures { λ r. ⌜ r ≡ recordAlign ⌝ }
 {
-    4
+    RECORD_ALIGN
 }
 
 // Whatever the memory held, it holds a fresh record then, or one of all zeros if the file is refused.
@@ -50,7 +53,7 @@ pub extern "C" fn algolmallet_record_align() -> usize
 pub extern "C" fn algolmallet_start(e: &mut Exec, file: &[u8]) -> Reply
     ensures { λ r. ⌜ BeginsFrom (now (file .entry)) (codedOf (now (e .exit)) r) ⌝ }
 {
-    let s = crate::starting::start(file);
+    let s = host_replies::start(file);
     *e = s.exec;
     s.reply
 }
@@ -59,7 +62,7 @@ pub extern "C" fn algolmallet_start(e: &mut Exec, file: &[u8]) -> Reply
 pub extern "C" fn algolmallet_schedule(e: &mut Exec, task: u32) -> Reply
     ensures { λ r. ⌜ Replies (now (e .entry)) (Call.schedule task) (codedOf (now (e .exit)) r) [] ⌝ }
 {
-    let s = crate::calls::schedule(*e, task);
+    let s = host_replies::schedule(*e, task);
     *e = s.exec;
     s.reply
 }
@@ -68,7 +71,7 @@ pub extern "C" fn algolmallet_schedule(e: &mut Exec, task: u32) -> Reply
 pub extern "C" fn algolmallet_cancel(e: &mut Exec, task: u32) -> Reply
     ensures { λ r. ⌜ Replies (now (e .entry)) (Call.cancel task) (codedOf (now (e .exit)) r) [] ⌝ }
 {
-    let s = crate::calls::cancel(*e, task);
+    let s = host_replies::cancel(*e, task);
     *e = s.exec;
     s.reply
 }
@@ -77,7 +80,7 @@ pub extern "C" fn algolmallet_cancel(e: &mut Exec, task: u32) -> Reply
 pub extern "C" fn algolmallet_terminate(e: &mut Exec, task: u32) -> Reply
     ensures { λ r. ⌜ Replies (now (e .entry)) (Call.terminate task) (codedOf (now (e .exit)) r) [] ⌝ }
 {
-    let s = crate::calls::terminate(*e, task);
+    let s = host_replies::terminate(*e, task);
     *e = s.exec;
     s.reply
 }
@@ -86,7 +89,7 @@ pub extern "C" fn algolmallet_terminate(e: &mut Exec, task: u32) -> Reply
 pub extern "C" fn algolmallet_finish(e: &mut Exec) -> Reply
     ensures { λ r. ⌜ Replies (now (e .entry)) Call.finish (codedOf (now (e .exit)) r) [] ⌝ }
 {
-    let s = crate::calls::finish(*e);
+    let s = host_replies::finish(*e);
     *e = s.exec;
     s.reply
 }
@@ -95,7 +98,7 @@ pub extern "C" fn algolmallet_finish(e: &mut Exec) -> Reply
 pub extern "C" fn algolmallet_tick(e: &mut Exec, out: &mut [u16]) -> Reply
     ensures { λ r. ⌜ Replies (now (e .entry)) (Call.tick (now (out .entry))) (codedOf (now (e .exit)) r) (now (out .exit)) ⌝ }
 {
-    let s = crate::calls::tick(*e, out);
+    let s = host_replies::tick(*e, out);
     *e = s.exec;
     s.reply
 }
@@ -104,7 +107,7 @@ pub extern "C" fn algolmallet_tick(e: &mut Exec, out: &mut [u16]) -> Reply
 pub extern "C" fn algolmallet_wait_until(e: &mut Exec, count: u32) -> Reply
     ensures { λ r. ⌜ Replies (now (e .entry)) (Call.waitUntil count) (codedOf (now (e .exit)) r) [] ⌝ }
 {
-    let s = crate::calls::wait_until(*e, count);
+    let s = host_replies::wait_until(*e, count);
     *e = s.exec;
     s.reply
 }
@@ -113,25 +116,25 @@ pub extern "C" fn algolmallet_wait_until(e: &mut Exec, count: u32) -> Reply
 pub extern "C" fn algolmallet_wait_for(e: &mut Exec, cycles: u32) -> Reply
     ensures { λ r. ⌜ Replies (now (e .entry)) (Call.waitFor cycles) (codedOf (now (e .exit)) r) [] ⌝ }
 {
-    let s = crate::calls::wait_for(*e, cycles);
+    let s = host_replies::wait_for(*e, cycles);
     *e = s.exec;
     s.reply
 }
 
 #[no_mangle]
-pub extern "C" fn algolmallet_latched(e: &mut Exec, flag: u32, value: bool) -> Reply
+pub extern "C" fn algolmallet_wait_latched(e: &mut Exec, flag: u32, value: bool) -> Reply
     ensures { λ r. ⌜ Replies (now (e .entry)) (Call.latched flag (bit value)) (codedOf (now (e .exit)) r) [] ⌝ }
 {
-    let s = crate::calls::latched(*e, flag, value);
+    let s = host_replies::latched(*e, flag, value);
     *e = s.exec;
     s.reply
 }
 
 #[no_mangle]
-pub extern "C" fn algolmallet_unlatched(e: &mut Exec, flag: u32, value: bool) -> Reply
+pub extern "C" fn algolmallet_wait_unlatched(e: &mut Exec, flag: u32, value: bool) -> Reply
     ensures { λ r. ⌜ Replies (now (e .entry)) (Call.unlatched flag (bit value)) (codedOf (now (e .exit)) r) [] ⌝ }
 {
-    let s = crate::calls::unlatched(*e, flag, value);
+    let s = host_replies::unlatched(*e, flag, value);
     *e = s.exec;
     s.reply
 }
@@ -140,7 +143,7 @@ pub extern "C" fn algolmallet_unlatched(e: &mut Exec, flag: u32, value: bool) ->
 pub extern "C" fn algolmallet_signal(e: &mut Exec, flag: u32, value: bool) -> Reply
     ensures { λ r. ⌜ Replies (now (e .entry)) (Call.signal flag (bit value)) (codedOf (now (e .exit)) r) [] ⌝ }
 {
-    let s = crate::calls::signal(*e, flag, value);
+    let s = host_replies::signal(*e, flag, value);
     *e = s.exec;
     s.reply
 }
@@ -149,7 +152,7 @@ pub extern "C" fn algolmallet_signal(e: &mut Exec, flag: u32, value: bool) -> Re
 pub extern "C" fn algolmallet_read_flag(e: &mut Exec, flag: u32) -> Reply
     ensures { λ r. ⌜ Replies (now (e .entry)) (Call.readFlag flag) (codedOf (now (e .exit)) r) [] ⌝ }
 {
-    let s = crate::calls::read_flag(*e, flag);
+    let s = host_replies::read_flag(*e, flag);
     *e = s.exec;
     s.reply
 }
@@ -163,7 +166,7 @@ pub extern "C" fn algolmallet_read_block(
 ) -> Reply
     ensures { λ r. ⌜ Replies (now (e .entry)) (Call.readBlock row (now (area .entry)) (now (buffer .entry))) (codedOf (now (e .exit)) r) (now (buffer .exit)) ⌝ }
 {
-    let s = crate::calls::read_block(*e, row, area, buffer);
+    let s = host_replies::read_block(*e, row, area, buffer);
     *e = s.exec;
     s.reply
 }
@@ -177,7 +180,7 @@ pub extern "C" fn algolmallet_write_block(
 ) -> Reply
     ensures { λ r. ⌜ Replies (now (e .entry)) (Call.writeBlock row (now (area .entry)) (now (words .entry))) (codedOf (now (e .exit)) r) (now (area .exit)) ⌝ }
 {
-    let s = crate::calls::write_block(*e, row, area, words);
+    let s = host_replies::write_block(*e, row, area, words);
     *e = s.exec;
     s.reply
 }

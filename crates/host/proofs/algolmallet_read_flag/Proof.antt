@@ -1,4 +1,4 @@
--- `host::algolmallet_read_flag` meets its contract: a walk of its MIR. The borrow is opened, the record is copied out and passed by value, `host::calls::read_flag` is called, the record that it
+-- `host::algolmallet_read_flag` meets its contract: a walk of its MIR. The borrow is opened, the record is copied out and passed by value, `host_replies::read_flag` is called, the record that it
 -- hands back is stored over the old one, and the borrow is closed at it. Of the callee the proof knows its contract alone.
 -- Made by tools/walks from the entry's source. Assumes nothing.
 use mathlib.Core.Path.{_≡_, refl, ap}
@@ -46,19 +46,19 @@ use denote.Triple.Table.{entered, cited}
 use denote.Triple.Walked.{says, Stays, stay-ref, stay-dropped, gave-slice, walkOf, AllGo, goes-ref, goes-dropped, goes-gave-slice, Walks, ends-at, walked, walk-meets}
 use denote.Exit.{yes}
 use Rattle.rules.specs.Calls as spec-Call
-use Rattle.host.specs.Told.{Replies as spec-Replies}
+use Rattle.host_replies.specs.Told.{Replies as spec-Replies}
 use Rattle.exec.specs.declared.Exec.{Exec}
-use Rattle.host.specs.declared.Coded.{Coded}
+use Rattle.host_replies.specs.declared.Coded.{Coded}
 use Rattle.exec.proofs.Exec as X
 use Rattle.exec.proofs.Exec.Laws as X′
-use Rattle.host.proofs.Coded as S
-use Rattle.host.proofs.Coded.Laws as S′
-use Rattle.host.proofs.Reply as N
-use Rattle.host.proofs.Reply.Laws as N′
-use Rattle.host.proofs.calls.read_flag as g
-use Rattle.host.proofs.calls.read_flag.Symbol as g-def
-use Rattle.host.proofs.calls.read_flag.Symbol.{name as #callee}
-use Rattle.host.proofs.calls.read_flag.Met as g-thm
+use Rattle.host_replies.proofs.Coded as S
+use Rattle.host_replies.proofs.Coded.Laws as S′
+use Rattle.host_replies.proofs.Reply as N
+use Rattle.host_replies.proofs.Reply.Laws as N′
+use Rattle.host_replies.proofs.read_flag as g
+use Rattle.host_replies.proofs.read_flag.Symbol as g-def
+use Rattle.host_replies.proofs.read_flag.Symbol.{name as #callee}
+use Rattle.host_replies.proofs.read_flag.Met as g-thm
 use Rattle.host.proofs.Shared.{xval, nval, is-exec, is-answer}
 use Rattle.host.proofs.algolmallet_read_flag.Key.{name as #self}
 use Rattle.host.proofs.algolmallet_read_flag as f
@@ -162,4 +162,4 @@ algolmallet-read-flag-spec 𝓤 H 𝓜 𝓖 𝓡 =
     entered 𝓤 H (tripleOf 𝓤 H (𝓖 .A) f.signature (f.spec 𝓤 H (𝓖 .A) (𝓜 .mem) (𝓡 .run)))
     (tables 𝓤 H 𝓜 𝓡 code.env .C) (tables 𝓤 H 𝓜 𝓡 code.env .Λ) #self code.function (code.unfolded 𝓤 H 𝓜 𝓡)
     (meets 𝓤 H (𝓖 .A) (givenOf 𝓤 H 𝓜 𝓖) (𝓜 .mem) (𝓡 .run) (tablesOf 𝓤 H 𝓜 (tables 𝓤 H 𝓜 𝓡 code.env))
-    (cited 𝓤 H (Callee 𝓤 H (𝓖 .A) (𝓜 .mem) (𝓡 .run)) 𝓜 𝓡 code.env #callee g-def.routine code.calls-host·calls·read-flag (g-thm.met 𝓤 H 𝓜 𝓖 𝓡)))
+    (cited 𝓤 H (Callee 𝓤 H (𝓖 .A) (𝓜 .mem) (𝓡 .run)) 𝓜 𝓡 code.env #callee g-def.routine code.calls-host-replies·read-flag (g-thm.met 𝓤 H 𝓜 𝓖 𝓡)))

@@ -1,0 +1,5 @@
+pub mod Told
+pub mod Files
+pub mod Beginning
+pub mod Same
+pub mod Promises

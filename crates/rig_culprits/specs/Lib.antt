@@ -1,0 +1,2 @@
+pub mod Culprits
+pub mod Laws

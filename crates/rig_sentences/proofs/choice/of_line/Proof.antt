@@ -1,0 +1,52 @@
+use mathlib.Core.Path.{sym, refl}
+use borrow.Author.Tests.{eq-eqb, ne-eqb}
+use Rattle.laws.specs.Cases.{if-yes, if-no}
+use Rattle.rig_sentences.specs.Sentences.{lineSentence}
+use Rattle.bench_script.specs.Written.{wrote-as}
+use borrow.Author.Needs.{needs}
+use Rattle.rig_sentences.proofs.choice.of_line.Statement.{statement}
+use Rattle.rig_sentences.proofs.choice.of_line.Tie as tie
+
+too-long-requires : tie.Need-too-long-requires
+too-long-requires c κs = search needs
+
+same-length : tie.Need-same-length
+same-length c = search needs
+
+returns : tie.Need-returns
+unfolding lineSentence
+returns c = wrote-as _ _ _ _ _ _ (sym (if-yes _ (eq-eqb _ _ (c .before .before .before .before .if1 .taken)) refl)) (c .before .before .too-long .ensures)
+
+outside-size-requires : tie.Need-outside-size-requires
+outside-size-requires c κs = search needs
+
+same-length-2 : tie.Need-same-length-2
+same-length-2 c = search needs
+
+returns-2 : tie.Need-returns-2
+unfolding lineSentence
+returns-2 c = wrote-as _ _ _ _ _ _ (sym (if-no _ (ne-eqb _ _ (c .before .before .before .before .before .if1 .left)) (if-yes _ (eq-eqb _ _ (c .before .before .before .before .if2 .taken)) refl))) (c .before .before .outside-size .ensures)
+
+out-of-order-requires : tie.Need-out-of-order-requires
+out-of-order-requires c κs = search needs
+
+same-length-3 : tie.Need-same-length-3
+same-length-3 c = search needs
+
+returns-3 : tie.Need-returns-3
+unfolding lineSentence
+returns-3 c = wrote-as _ _ _ _ _ _ (sym (if-no _ (ne-eqb _ _ (c .before .before .before .before .before .if1 .left)) (if-no _ (ne-eqb _ _ (c .before .before .before .before .if2 .left)) refl))) (c .before .before .out-of-order .ensures)
+
+pub of-line-spec : {M : Type 1} → statement M
+of-line-spec =
+    tie.close
+    (tie.spec
+    too-long-requires
+    same-length
+    returns
+    outside-size-requires
+    same-length-2
+    returns-2
+    out-of-order-requires
+    same-length-3
+    returns-3)

@@ -1,0 +1,163 @@
+-- THE SENTENCES that are said of a refused rig file: one table.
+use Prim.Native.Nat.{ℕ}
+use mathlib.Core.Path.{_≡_}
+use mathlib.Core.Logic.{_≢_}
+use mathlib.Core.Bool.{cond}
+use mathlib.Core.List.{List}
+use lib.Dec.{eqb}
+use borrow.Author.Tests.{ne-eqb}
+use Rattle.put_text.specs.Text.{bytesOf}
+use Rattle.rig_shapes.specs.Shape.{emptyFile, noLineEnd, byteOrderMark, carriageReturn, emptyLine, space, unknownKind, tooFewFields, tooManyFields, spareZero}
+
+-- ---- around the sentences
+
+abbrev pub refusedByText : List ℕ
+refusedByText = bytesOf "refused by "
+
+abbrev pub atLineText : List ℕ
+atLineText = bytesOf " at line "
+
+abbrev pub colonText : List ℕ
+colonText = bytesOf ": "
+
+abbrev pub culpritLineText : List ℕ
+culpritLineText = bytesOf ": line "
+
+abbrev pub culpritTaskText : List ℕ
+culpritTaskText = bytesOf ": task "
+
+abbrev pub endText : List ℕ
+endText = bytesOf ".\n"
+
+-- ---- refusal 1: why the line has the wrong shape
+
+abbrev pub emptyFileText : List ℕ
+emptyFileText = bytesOf "the file is empty"
+
+abbrev pub noLineEndText : List ℕ
+noLineEndText = bytesOf "the last line has no line end (LF)"
+
+abbrev pub byteOrderMarkText : List ℕ
+byteOrderMarkText = bytesOf "the file begins with a byte-order mark: save it without one"
+
+abbrev pub carriageReturnText : List ℕ
+carriageReturnText = bytesOf "the line has a carriage return (CR): lines end in LF alone"
+
+abbrev pub emptyLineText : List ℕ
+emptyLineText = bytesOf "the line is empty"
+
+abbrev pub spaceText : List ℕ
+spaceText = bytesOf "the line has a space: fields are parted by one tab"
+
+abbrev pub unknownKindText : List ℕ
+unknownKindText = bytesOf "the line begins with no known kind: RIG, T, C, A, M or B"
+
+abbrev pub tooFewFieldsText : List ℕ
+tooFewFieldsText = bytesOf "the line has too few fields for its kind"
+
+abbrev pub tooManyFieldsText : List ℕ
+tooManyFieldsText = bytesOf "the line has too many fields for its kind"
+
+abbrev pub spareZeroText : List ℕ
+spareZeroText = bytesOf "a number has a spare zero in front"
+
+abbrev pub noDecimalText : List ℕ
+noDecimalText = bytesOf "a field is no decimal number"
+
+-- by the reason (rig_shapes/Shape)
+unfoldable pub shapeSentence : ℕ → List ℕ
+shapeSentence reason =
+    cond (eqb reason emptyFile) emptyFileText
+    (cond (eqb reason noLineEnd) noLineEndText
+    (cond (eqb reason byteOrderMark) byteOrderMarkText
+    (cond (eqb reason carriageReturn) carriageReturnText
+    (cond (eqb reason emptyLine) emptyLineText
+    (cond (eqb reason space) spaceText
+    (cond (eqb reason unknownKind) unknownKindText
+    (cond (eqb reason tooFewFields) tooFewFieldsText
+    (cond (eqb reason tooManyFields) tooManyFieldsText
+    (cond (eqb reason spareZero) spareZeroText noDecimalText)))))))))
+
+-- ---- refusals 2 and 3
+
+abbrev pub tooLongText : List ℕ
+tooLongText = bytesOf "the file is longer than 40,960 bytes"
+
+abbrev pub outsideSizeText : List ℕ
+outsideSizeText = bytesOf "a number is outside its size"
+
+abbrev pub outOfOrderText : List ℕ
+outOfOrderText = bytesOf "the record is out of order or repeated"
+
+unfoldable pub lineSentence : ℕ → ℕ → List ℕ
+lineSentence number line = cond (eqb line 0) tooLongText (cond (eqb number 2) outsideSizeText outOfOrderText)
+
+-- ---- refusal 4: the rules over the whole file
+
+abbrev pub aboveText : List ℕ
+aboveText = bytesOf "a task or flag number is above the RIG line's"
+
+abbrev pub manyAText : List ℕ
+manyAText = bytesOf "there are more than 1,024 A lines"
+
+abbrev pub manyBText : List ℕ
+manyBText = bytesOf "there are more than 64 B lines"
+
+abbrev pub noTLineText : List ℕ
+noTLineText = bytesOf "a task has no T line"
+
+abbrev pub crowdedText : List ℕ
+crowdedText = bytesOf "a cycle has more than fifteen flags"
+
+abbrev pub controllerText : List ℕ
+controllerText = bytesOf "task 1 has a controller, or another task's controller is neither the previous task nor one of its ancestors"
+
+abbrev pub sharedText : List ℕ
+sharedText = bytesOf "an activation flag serves more than one task"
+
+abbrev pub minorActivationText : List ℕ
+minorActivationText = bytesOf "an activation flag is a minor-cycle flag"
+
+abbrev pub noCLineText : List ℕ
+noCLineText = bytesOf "an A line names a condition that has no C line"
+
+abbrev pub noALineText : List ℕ
+noALineText = bytesOf "a condition has no A line"
+
+abbrev pub minorConditionText : List ℕ
+minorConditionText = bytesOf "a condition with a minor-cycle flag has another flag, is latched or desires off"
+
+abbrev pub sameAddressText : List ℕ
+sameAddressText = bytesOf "a bus row has the same sender and receiver"
+
+abbrev pub otherRuleText : List ℕ
+otherRuleText = bytesOf "an entry of the rig breaks a rule"
+
+-- by the number that the reader gives the rule: those of the lines (rig_build/Read), then those of the rig (rig/Tests), 5 behind. No line of a
+-- file leads to any other
+unfoldable pub ruleSentence : ℕ → List ℕ
+ruleSentence rule =
+    cond (eqb rule 1) aboveText
+    (cond (eqb rule 2) manyAText
+    (cond (eqb rule 3) manyBText
+    (cond (eqb rule 4) noTLineText
+    (cond (eqb rule 5) crowdedText
+    (cond (eqb rule 21) controllerText
+    (cond (eqb rule 22) sharedText
+    (cond (eqb rule 23) minorActivationText
+    (cond (eqb rule 24) noCLineText
+    (cond (eqb rule 25) noALineText
+    (cond (eqb rule 26) minorConditionText
+    (cond (eqb rule 27) sameAddressText otherRuleText)))))))))))
+
+-- ---- laws: a number that the tables do not have
+
+pub no-other-shape : (n : ℕ) → n ≢ 1 → n ≢ 2 → n ≢ 3 → n ≢ 4 → n ≢ 5 → n ≢ 6 → n ≢ 7 → n ≢ 8 → n ≢ 9 → n ≢ 10 → noDecimalText ≡ shapeSentence n
+unfolding shapeSentence
+no-other-shape n a1 a2 a3 a4 a5 a6 a7 a8 a9 a10 =
+    rw (ne-eqb n 1 a1, ne-eqb n 2 a2, ne-eqb n 3 a3, ne-eqb n 4 a4, ne-eqb n 5 a5, ne-eqb n 6 a6, ne-eqb n 7 a7, ne-eqb n 8 a8, ne-eqb n 9 a9, ne-eqb n 10 a10)
+
+pub no-other-rule : (n : ℕ) → n ≢ 1 → n ≢ 2 → n ≢ 3 → n ≢ 4 → n ≢ 5 → n ≢ 21 → n ≢ 22 → n ≢ 23 → n ≢ 24 → n ≢ 25 → n ≢ 26 → n ≢ 27 → otherRuleText ≡ ruleSentence n
+unfolding ruleSentence
+no-other-rule n a1 a2 a3 a4 a5 a21 a22 a23 a24 a25 a26 a27 =
+    rw (ne-eqb n 1 a1, ne-eqb n 2 a2, ne-eqb n 3 a3, ne-eqb n 4 a4, ne-eqb n 5 a5, ne-eqb n 21 a21, ne-eqb n 22 a22, ne-eqb n 23 a23, ne-eqb n 24 a24, ne-eqb n 25 a25, ne-eqb n 26 a26, ne-eqb n 27 a27)

@@ -1,0 +1,28 @@
+/* The README's small host: a rig file is started, and its bench ticks ten times. */
+#include <stdio.h>
+#include <stdlib.h>
+
+#include "algolmallet.h"
+
+int main(void)
+{
+    static uint8_t rig[ALGOLMALLET_FILE_BYTES + 1];
+    size_t length = fread(rig, 1, sizeof rig, stdin);
+    algolmallet_record *record = malloc(algolmallet_record_size());
+    if (!record)
+        return 2;
+    algolmallet_reply reply = algolmallet_start(record, rig, length);
+    if (reply.refusal != ALGOLMALLET_ACCEPTED) {
+        char text[ALGOLMALLET_TEXT_BYTES];
+        algolmallet_refusal_text(reply.refusal, text, sizeof text);
+        printf("line %u: %s\n", reply.line, text);
+        return 1;
+    }
+    for (int i = 0; i < 10; i++) {
+        uint16_t words[ALGOLMALLET_TICK_WORDS];
+        reply = algolmallet_tick(record, words, ALGOLMALLET_TICK_WORDS);
+        printf("count %u, task %u runs, %u bus words\n", reply.count, reply.running, reply.words);
+    }
+    free(record);
+    return 0;
+}
