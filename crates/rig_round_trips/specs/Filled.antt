@@ -26,7 +26,7 @@ use Rattle.laws.specs.Tables.{zeros-at}
 use Rattle.rig_round_trips.specs.Marked.{begun}
 use Rattle.rig_write.specs.Kept.{kept}
 use Rattle.rig_write.specs.File.{rigLine, isTask, taskLine, isCondition, conditionLine, isLine, flagLine, flagAt, isFlag, cycleLine, isRow, rowLine}
-use Rattle.rig_write.specs.Sized.{mapped-at}
+use Rattle.rig_write.specs.Laws.Sized.{mapped-at}
 use Rattle.rig_round_trips.specs.Back.{cell}
 use Rattle.rig_round_trips.specs.Steps.{cell-here, cell-else, cell-long}
 use Rattle.rig_round_trips.specs.Ordered.{flag-before, flag-is}

@@ -20,7 +20,7 @@ use Rattle.rig_lines.specs.Line.{Line, placed, ordered, judge}
 use Rattle.rig_lines.specs.Laws.Judged.{Faultless, sound-judged}
 use Rattle.rig_write.specs.Kept.{kept}
 use Rattle.rig_write.specs.File.{rigLine, isTask, taskLine, isCondition, conditionLine, isLine, flagLine, flagAt, isFlag, cycleLine, isRow, rowLine, linesFrom}
-use Rattle.rig_write.specs.Sized.{Good, rig-good, task-good, condition-good, line-good, cycle-good, row-good, mapped-at}
+use Rattle.rig_write.specs.Laws.Sized.{Good, rig-good, task-good, condition-good, line-good, cycle-good, row-good, mapped-at}
 
 -- the place of the last line, p where there is none
 unfoldable pub lastOf : ℕ → List Line → ℕ

@@ -28,7 +28,7 @@ use Rattle.rig_build.specs.Read.{behind, brokenRule, accepted, readOf}
 use Rattle.rig_round_trips.specs.Bridge.{built-rig, built-table}
 use Rattle.rig_build.specs.Laws.Exactly.{ruleOf, all-right}
 use Rattle.rig_write.specs.File.{rigLine, linesFrom, fileOf}
-use Rattle.rig_write.specs.Fits.{file-fits}
+use Rattle.rig_write.specs.Laws.Fits.{file-fits}
 use Rattle.rig_round_trips.specs.Ordered.{rig-faultless}
 use Rattle.rig_round_trips.specs.Filled.{others, done, marked, rig-built, all-marked}
 

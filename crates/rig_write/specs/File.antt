@@ -1,44 +1,44 @@
 -- THE FILE OF A RIG: its lines in the file's order, and their text.
 use Prim.Native.Nat.{ℕ, _+_, _/_, _%_}
 use mathlib.Core.Bool.{Bool, not, _&&_}
-use mathlib.Core.Path.{_≡_}
-use mathlib.Core.List.{List, [], _∷_, _++_, append-assoc}
+use mathlib.Core.List.{List, [], _∷_, _++_}
 use lib.Dec.{eqb, leb, ltb}
 use lib.ListN.{getD}
 use Rattle.rig.specs.declared.Row.{Row}
 use Rattle.rig.specs.declared.Rig.{Rig}
 use Rattle.rig.specs.Rules.{noRow}
+use Rattle.rig_lines.specs.Kinds.{kindRIG, kindT, kindC, kindA, kindM, kindB}
 use Rattle.rig_lines.specs.Line.{Line}
 use Rattle.rig_lines.specs.Text.{text}
-use Rattle.rig_write.specs.Kept.{kept, ended, text-append}
+use Rattle.rig_write.specs.Kept.{kept}
 
 abbrev pub line : ℕ → List ℕ → Line
 line k ns = record { kind = k; nums = ns }
 
 -- RIG, edition (always 1), tasks, flags, master's bus address
 abbrev pub rigLine : Rig → Line
-rigLine g = line 1 (1 ∷ g .tasks ∷ g .flags ∷ g .master ∷ [])
+rigLine g = line kindRIG (1 ∷ g .tasks ∷ g .flags ∷ g .master ∷ [])
 
 -- T, task, controller, priority, privileged, activation flag: tasks from 1 on
 abbrev pub isTask : Rig → ℕ → Bool
 isTask g t = leb 1 t && leb t (g .tasks)
 
 abbrev pub taskLine : Rig → ℕ → Line
-taskLine g t = line 2 (t ∷ getD (g .controller) t 0 ∷ getD (g .priority) t 0 ∷ getD (g .privileged) t 0 ∷ getD (g .activation) t 0 ∷ [])
+taskLine g t = line kindT (t ∷ getD (g .controller) t 0 ∷ getD (g .priority) t 0 ∷ getD (g .privileged) t 0 ∷ getD (g .activation) t 0 ∷ [])
 
 -- C, task, position, latched, desired: the condition at place i is that of task i / 16 at position i % 16
 abbrev pub isCondition : Rig → ℕ → Bool
 isCondition g i = eqb (getD (g .present) i 0) 1
 
 abbrev pub conditionLine : Rig → ℕ → Line
-conditionLine g i = line 3 (i / 16 ∷ i % 16 ∷ getD (g .latched) i 0 ∷ getD (g .desired) i 0 ∷ [])
+conditionLine g i = line kindC (i / 16 ∷ i % 16 ∷ getD (g .latched) i 0 ∷ getD (g .desired) i 0 ∷ [])
 
 -- A, task, position, flag
 abbrev pub isLine : Rig → ℕ → Bool
 isLine g i = ltb i (g .lines)
 
 abbrev pub flagLine : Rig → ℕ → Line
-flagLine g i = line 4 (getD (g .lineTask) i 0 ∷ getD (g .linePos) i 0 ∷ getD (g .lineFlag) i 0 ∷ [])
+flagLine g i = line kindA (getD (g .lineTask) i 0 ∷ getD (g .linePos) i 0 ∷ getD (g .lineFlag) i 0 ∷ [])
 
 -- M, cycle, flag: the flag at place i is number i % 15 of cycle i / 15
 abbrev pub flagAt : List (List ℕ) → ℕ → ℕ
@@ -48,7 +48,7 @@ abbrev pub isFlag : List (List ℕ) → ℕ → Bool
 isFlag table i = not (eqb (flagAt table i) 0)
 
 abbrev pub cycleLine : List (List ℕ) → ℕ → Line
-cycleLine table i = line 5 (i / 15 ∷ flagAt table i ∷ [])
+cycleLine table i = line kindM (i / 15 ∷ flagAt table i ∷ [])
 
 -- B, sender, its sub-address, receiver, its sub-address, words, period, phase
 abbrev pub isRow : Rig → ℕ → Bool
@@ -58,7 +58,7 @@ abbrev pub busNumbers : Row → List ℕ
 busNumbers b = b .sender ∷ b .senderSub ∷ b .receiver ∷ b .receiverSub ∷ b .words ∷ b .period ∷ b .phase ∷ []
 
 abbrev pub rowLine : Rig → ℕ → Line
-rowLine g i = line 6 (busNumbers (getD (g .row) i noRow))
+rowLine g i = line kindB (busNumbers (getD (g .row) i noRow))
 
 -- "Records in this order"
 unfoldable pub linesFrom : Rig → List (List ℕ) → List Line
@@ -72,24 +72,3 @@ linesFrom g table =
 
 unfoldable pub fileOf : Rig → List (List ℕ) → List ℕ
 fileOf g table = text (linesFrom g table)
-
--- the parts of the file, one behind the other
-abbrev pub tasksText : Rig → List ℕ
-tasksText g = text (kept 65 (isTask g) (taskLine g))
-
-abbrev pub conditionsText : Rig → List ℕ
-conditionsText g = text (kept 1040 (isCondition g) (conditionLine g))
-
-abbrev pub linesText : Rig → List ℕ
-linesText g = text (kept 1024 (isLine g) (flagLine g))
-
-abbrev pub cyclesText : List (List ℕ) → List ℕ
-cyclesText table = text (kept 960 (isFlag table) (cycleLine table))
-
-abbrev pub rowsText : Rig → List ℕ
-rowsText g = text (kept 64 (isRow g) (rowLine g))
-
-pub file-parts : (g : Rig) (table : List (List ℕ)) →
-    ((((ended (rigLine g) ++ tasksText g) ++ conditionsText g) ++ linesText g) ++ cyclesText table) ++ rowsText g ≡ fileOf g table
-unfolding fileOf linesFrom text
-file-parts g table = simp (text-append, append-assoc)

@@ -1,9 +1,4 @@
-pub mod Line
 pub mod Kept
 pub mod File
-pub mod Lines
-pub mod Chain
-pub mod Sized
-pub mod Fits
 pub mod Written
-pub mod WriteLaws
+pub mod Laws

@@ -1,33 +1,12 @@
 // The rig file's writer: lines of a rig, one kind after the other.
 ghost use mathlib.Core.Path.{_≡_};
-ghost use mathlib.Core.List.{_∷_, []};
 ghost use Prim.Native.Nat.{_+_, _≤_, _<_};
-ghost use lib.ListN.{length, take};
+ghost use lib.ListN.{length};
 ghost use Rattle.laws.specs.Put.{put};
-ghost use Rattle.rig_lines.specs.Kinds.{nameOf};
 ghost use Rattle.rig_lines.specs.Text.{text};
-ghost use Rattle.rig_write.specs.Line.{begun, lineText};
 ghost use Rattle.rig_write.specs.Kept.{kept, ended};
 ghost use Rattle.rig_write.specs.Written.{writtenReport, writtenOf, bufferOf};
 ghost use Rattle.rig_write.specs.File.{rigLine, isTask, taskLine, isCondition, conditionLine, isLine, flagLine, isFlag, cycleLine, isRow, rowLine, fileOf};
-
-fn wide(x: u8) -> usize
-    ensures { λ r. ⌜ r ≡ x ⌝ }
-{
-    x as usize
-}
-
-fn wide16(x: u16) -> usize
-    ensures { λ r. ⌜ r ≡ x ⌝ }
-{
-    x as usize
-}
-
-fn number(x: u8) -> u64
-    ensures { λ r. ⌜ (r ≡ x) × (r < 256) ⌝ }
-{
-    x as u64
-}
 
 fn byte(x: usize) -> u8
     requires { ⌜ x < 256 ⌝ }
@@ -36,79 +15,14 @@ fn byte(x: usize) -> u8
     x as u8
 }
 
-// The letter of a kind that has one.
-fn letter(k: usize) -> u8
-    requires { ⌜ (k ≡ 1 → ⊥) ⌝ }
-    ensures { λ r. ⌜ nameOf k ≡ r ∷ [] ⌝ }
-{
-    if k == 2 {
-        return 84;
-    }
-    if k == 3 {
-        return 67;
-    }
-    if k == 4 {
-        return 65;
-    }
-    if k == 5 {
-        return 77;
-    }
-    66
-}
-
-fn put_name(buf: &mut [u8], at: usize, k: usize) -> usize
-    requires { ⌜ at + length (nameOf k) ≤ length (now buf) ⌝ }
-    ensures { λ r. ⌜ (r ≡ at + length (nameOf k)) × (now (buf .exit) ≡ put (now (buf .entry)) at (nameOf k)) ⌝ }
-{
-    if k == 1 {
-        let b = at + 1;
-        let c = b + 1;
-        buf[at] = 82;
-        buf[b] = 73;
-        buf[c] = 71;
-        return c + 1;
-    }
-    buf[at] = letter(k);
-    at + 1
-}
-
-// The first `m` numbers, each after a tab.
-fn put_fields(buf: &mut [u8], at: usize, m: usize, v: [u8; 9]) -> usize
-    requires { ⌜ (m ≤ 9) × (at + length (begun v m) ≤ length (now buf)) ⌝ }
-    ensures { λ r. ⌜ (r ≡ at + length (begun v m)) × (now (buf .exit) ≡ put (now (buf .entry)) at (begun v m)) ⌝ }
-{
-    let mut p = at;
-    let mut f: usize = 0;
-    while f < m {
-        buf[p] = 9;
-        let a = p + 1;
-        let x = number(v[f]);
-        p = decimal::put_number(&mut *buf, a, x);
-        f += 1;
-    }
-    p
-}
-
-// One line: its kind's name, its numbers and LF.
-fn put_line(buf: &mut [u8], at: usize, k: usize, v: [u8; 9]) -> usize
-    requires { ⌜ (k < 7) × (at + length (lineText k v) ≤ length (now buf)) ⌝ }
-    ensures { λ r. ⌜ (r ≡ at + length (lineText k v)) × (now (buf .exit) ≡ put (now (buf .entry)) at (lineText k v)) ⌝ }
-{
-    let m = rig_lines::count(k);
-    let p = put_name(&mut *buf, at, k);
-    let q = put_fields(&mut *buf, p, m, v);
-    buf[q] = 10;
-    q + 1
-}
-
 fn put_rig(buf: &mut [u8], at: usize, g: rig::Rig) -> usize
     requires { ⌜ at + length (ended (rigLine g)) ≤ length (now buf) ⌝ }
     ensures { λ r. ⌜ (r ≡ at + length (ended (rigLine g))) × (now (buf .exit) ≡ put (now (buf .entry)) at (ended (rigLine g))) ⌝ }
 {
-    put_line(
+    rig_print::put_line(
         &mut *buf,
         at,
-        1,
+        rig_lines::RIG,
         [1, g.tasks, g.flags, g.master, 0, 0, 0, 0, 0],
     )
 }
@@ -117,7 +31,7 @@ fn put_tasks(buf: &mut [u8], at: usize, g: rig::Rig) -> usize
     requires { ⌜ at + length (text (kept 65 (isTask g) (taskLine g))) ≤ length (now buf) ⌝ }
     ensures { λ r. ⌜ (r ≡ at + length (text (kept 65 (isTask g) (taskLine g)))) × (now (buf .exit) ≡ put (now (buf .entry)) at (text (kept 65 (isTask g) (taskLine g)))) ⌝ }
 {
-    let tasks = wide(g.tasks);
+    let tasks = decimal::wide(g.tasks);
     let mut p = at;
     let mut i: usize = 0;
     while i < 65 {
@@ -140,7 +54,7 @@ fn put_tasks(buf: &mut [u8], at: usize, g: rig::Rig) -> usize
             0,
             0,
         ];
-        p = put_line(&mut *buf, p, 2, v);
+        p = rig_print::put_line(&mut *buf, p, rig_lines::TASK, v);
     }
     p
 }
@@ -168,7 +82,7 @@ fn put_conditions(buf: &mut [u8], at: usize, g: rig::Rig) -> usize
             0,
             0,
         ];
-        p = put_line(&mut *buf, p, 3, v);
+        p = rig_print::put_line(&mut *buf, p, rig_lines::CONDITION, v);
     }
     p
 }
@@ -177,7 +91,7 @@ fn put_lines(buf: &mut [u8], at: usize, g: rig::Rig) -> usize
     requires { ⌜ at + length (text (kept 1024 (isLine g) (flagLine g))) ≤ length (now buf) ⌝ }
     ensures { λ r. ⌜ (r ≡ at + length (text (kept 1024 (isLine g) (flagLine g)))) × (now (buf .exit) ≡ put (now (buf .entry)) at (text (kept 1024 (isLine g) (flagLine g)))) ⌝ }
 {
-    let n = wide16(g.lines);
+    let n = decimal::wide16(g.lines);
     let mut p = at;
     let mut i: usize = 0;
     while i < 1024 {
@@ -187,7 +101,7 @@ fn put_lines(buf: &mut [u8], at: usize, g: rig::Rig) -> usize
             continue;
         }
         let v = [g.lineTask[a], g.linePos[a], g.lineFlag[a], 0, 0, 0, 0, 0, 0];
-        p = put_line(&mut *buf, p, 4, v);
+        p = rig_print::put_line(&mut *buf, p, rig_lines::LINE, v);
     }
     p
 }
@@ -206,7 +120,12 @@ fn put_cycles(buf: &mut [u8], at: usize, table: [[u8; 15]; 64]) -> usize
         if flag == 0 {
             continue;
         }
-        p = put_line(&mut *buf, p, 5, [byte(c), flag, 0, 0, 0, 0, 0, 0, 0]);
+        p = rig_print::put_line(
+            &mut *buf,
+            p,
+            rig_lines::FLAG,
+            [byte(c), flag, 0, 0, 0, 0, 0, 0, 0],
+        );
     }
     p
 }
@@ -215,7 +134,7 @@ fn put_rows(buf: &mut [u8], at: usize, g: rig::Rig) -> usize
     requires { ⌜ at + length (text (kept 64 (isRow g) (rowLine g))) ≤ length (now buf) ⌝ }
     ensures { λ r. ⌜ (r ≡ at + length (text (kept 64 (isRow g) (rowLine g)))) × (now (buf .exit) ≡ put (now (buf .entry)) at (text (kept 64 (isRow g) (rowLine g)))) ⌝ }
 {
-    let n = wide(g.rows);
+    let n = decimal::wide(g.rows);
     let mut p = at;
     let mut i: usize = 0;
     while i < 64 {
@@ -236,7 +155,7 @@ fn put_rows(buf: &mut [u8], at: usize, g: rig::Rig) -> usize
             0,
             0,
         ];
-        p = put_line(&mut *buf, p, 6, v);
+        p = rig_print::put_line(&mut *buf, p, rig_lines::ROW, v);
     }
     p
 }
@@ -254,17 +173,12 @@ fn put_file(buf: &mut [u8], g: rig::Rig, table: [[u8; 15]; 64]) -> usize
     put_rows(&mut *buf, e, g)
 }
 
-// The first `n` bytes of `from`, at the start of `buf`.
-fn copy_in(buf: &mut [u8], from: &[u8], n: usize)
-    requires { ⌜ (n ≤ length (now buf)) × (n ≤ length (now from)) ⌝ }
-    ensures { λ r. ⌜ now (buf .exit) ≡ put (now (buf .entry)) 0 (take n (now (from .entry))) ⌝ }
-{
-    let mut i: usize = 0;
-    while i < n {
-        buf[i] = from[i];
-        i += 1;
-    }
-}
+// Refusals of the writer, and the most bytes that a file has.
+const BREAKS_A_RULE: u8 = 4;
+
+const WRONG_LENGTH: u8 = 10;
+
+const LONGEST: usize = 40960;
 
 // What writing answers: the file's length, or the refusal number.
 pub enum Written {
@@ -278,14 +192,14 @@ pub fn write(buf: &mut [u8], g: rig::Rig, cycles: [rig::Cycle; 64]) -> Written
     ensures { λ r. ⌜ (writtenReport r ≡ writtenOf g cycles (length (now (buf .entry)))) × (now (buf .exit) ≡ bufferOf g cycles (now (buf .entry))) ⌝ }
 {
     if !rig_whole::right(g, cycles) {
-        return Written::Refused(4);
+        return Written::Refused(BREAKS_A_RULE);
     }
     let table = rig::table_of(cycles);
-    let mut own = [0u8; 40960];
+    let mut own = [0u8; LONGEST];
     let n = put_file(&mut own, g, table);
     if buf.len() < n {
-        return Written::Refused(10);
+        return Written::Refused(WRONG_LENGTH);
     }
-    copy_in(&mut *buf, &own, n);
+    rig_print::copy_in(&mut *buf, &own, n);
     Written::Done(n)
 }

@@ -2,9 +2,10 @@ use borrow.Author.Needs.{needs}
 use native.Mathlib.Omega.{arith}
 use Prim.Native.Nat.{_-_}
 use borrow.Author.Tests.{eq-eqb, ne-eqb}
-use Rattle.rig_write.specs.Kept.{InKept, kept-start, kept-end, kept-skip, line-room, kept-turn, room-as, ended}
+use Rattle.rig_write.specs.Kept.{ended}
+use Rattle.rig_write.specs.Laws.Kept.{InKept, kept-start, kept-end, kept-skip, line-room, kept-turn, room-as}
 use Rattle.rig_write.specs.File.{isCondition, conditionLine}
-use Rattle.rig_write.specs.Lines.{four-text}
+use Rattle.rig_write.specs.Laws.Lines.{four-text}
 use Rattle.rig_write.proofs.put_conditions.Statement.{statement}
 use Rattle.rig_write.proofs.put_conditions.Tie as tie
 

@@ -1,9 +1,10 @@
 use borrow.Author.Needs.{needs}
 use native.Mathlib.Omega.{arith}
 use Prim.Native.Nat.{_-_}
-use Rattle.rig_write.specs.Kept.{InKept, kept-start, kept-end, kept-skip, line-room, kept-turn, room-as, ended}
+use Rattle.rig_write.specs.Kept.{ended}
+use Rattle.rig_write.specs.Laws.Kept.{InKept, kept-start, kept-end, kept-skip, line-room, kept-turn, room-as}
 use Rattle.rig_write.specs.File.{isFlag, cycleLine}
-use Rattle.rig_write.specs.Lines.{two-text, flag-no, flag-yes}
+use Rattle.rig_write.specs.Laws.Lines.{two-text, flag-no, flag-yes}
 use Rattle.rig_write.proofs.put_cycles.Statement.{statement}
 use Rattle.rig_write.proofs.put_cycles.Tie as tie
 

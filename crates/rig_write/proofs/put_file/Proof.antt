@@ -1,6 +1,6 @@
 use native.Mathlib.Omega.{arith}
-use Rattle.rig_write.specs.Kept.{part-first, part-room, part-on}
-use Rattle.rig_write.specs.Chain.{room-1, room-2, room-3, room-4, room-5, room-6, file-written}
+use Rattle.rig_write.specs.Laws.Kept.{part-first, part-room, part-on}
+use Rattle.rig_write.specs.Laws.Chain.{room-1, room-2, room-3, room-4, room-5, room-6, file-written}
 use Rattle.rig_write.proofs.put_file.Statement.{statement}
 use Rattle.rig_write.proofs.put_file.Tie as tie
 

@@ -1,9 +1,9 @@
 use borrow.Author.Needs.{needs}
 use native.Mathlib.Omega.{arith}
 use Prim.Native.Nat.{_-_}
-use Rattle.rig_write.specs.Kept.{InKept, kept-start, kept-end, kept-skip, line-room, kept-turn, room-as}
+use Rattle.rig_write.specs.Laws.Kept.{InKept, kept-start, kept-end, kept-skip, line-room, kept-turn, room-as}
 use Rattle.rig_write.specs.File.{isLine, flagLine}
-use Rattle.rig_write.specs.Lines.{three-text, below-yes, below-no}
+use Rattle.rig_write.specs.Laws.Lines.{three-text, below-yes, below-no}
 use Rattle.rig_write.proofs.put_lines.Statement.{statement}
 use Rattle.rig_write.proofs.put_lines.Tie as tie
 

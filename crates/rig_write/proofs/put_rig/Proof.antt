@@ -1,6 +1,6 @@
 use native.Mathlib.Omega.{arith}
-use Rattle.rig_write.specs.Kept.{room-as}
-use Rattle.rig_write.specs.Lines.{rig-text}
+use Rattle.rig_write.specs.Laws.Kept.{room-as}
+use Rattle.rig_write.specs.Laws.Lines.{rig-text}
 use borrow.Author.Needs.{needs}
 use Rattle.rig_write.proofs.put_rig.Statement.{statement}
 use Rattle.rig_write.proofs.put_rig.Tie as tie

@@ -1,9 +1,9 @@
 use borrow.Author.Needs.{needs}
 use native.Mathlib.Omega.{arith}
 use Prim.Native.Nat.{_-_}
-use Rattle.rig_write.specs.Kept.{InKept, kept-start, kept-end, kept-skip, line-room, kept-turn, room-as}
+use Rattle.rig_write.specs.Laws.Kept.{InKept, kept-start, kept-end, kept-skip, line-room, kept-turn, room-as}
 use Rattle.rig_write.specs.File.{isRow, rowLine}
-use Rattle.rig_write.specs.Lines.{seven-text, below-yes, below-no}
+use Rattle.rig_write.specs.Laws.Lines.{seven-text, below-yes, below-no}
 use Rattle.rig_write.proofs.put_rows.Statement.{statement}
 use Rattle.rig_write.proofs.put_rows.Tie as tie
 
@@ -26,7 +26,7 @@ loop-less : tie.Need-loop-less Inv-loop μ-loop
 loop-less c = search needs
 
 loop-again : tie.Need-loop-again Inv-loop μ-loop
-loop-again c = kept-skip _ _ _ _ _ _ _ _ (c .before .before .loop .inv) (c .before .loop-test .taken) (below-no _ _ _ (c .before .before .before .wide .ensures) (c .if1 .taken))
+loop-again c = kept-skip _ _ _ _ _ _ _ _ (c .before .before .loop .inv) (c .before .loop-test .taken) (below-no _ _ _ (c .before .before .before .wide .ensures .0) (c .if1 .taken))
 
 mul-b : tie.Need-mul-b Inv-loop μ-loop
 mul-b c = search needs
@@ -35,13 +35,13 @@ element-copy-out-b : tie.Need-element-copy-out-b Inv-loop μ-loop
 element-copy-out-b c = c .before .loop-test .taken
 
 put-line-requires : tie.Need-put-line-requires Inv-loop μ-loop
-put-line-requires c κs = (omega arith, room-as _ _ _ _ (seven-text _ _ _ _ _ _ _) (line-room _ _ _ _ _ _ _ _ (c .before .before .before .before .loop .inv) (c .before .before .before .loop-test .taken) (below-yes _ _ _ (c .before .before .before .before .before .wide .ensures) (c .before .before .if1 .left))))
+put-line-requires c κs = (omega arith, room-as _ _ _ _ (seven-text _ _ _ _ _ _ _) (line-room _ _ _ _ _ _ _ _ (c .before .before .before .before .loop .inv) (c .before .before .before .loop-test .taken) (below-yes _ _ _ (c .before .before .before .before .before .wide .ensures .0) (c .before .before .if1 .left))))
 
 loop-less-2 : tie.Need-loop-less-2 Inv-loop μ-loop
 loop-less-2 c = search needs
 
 loop-again-2 : tie.Need-loop-again-2 Inv-loop μ-loop
-loop-again-2 c = kept-turn _ _ _ _ _ _ _ _ (c .before .before .before .before .before .before .before .loop .inv) (c .before .before .before .before .before .before .loop-test .taken) (below-yes _ _ _ (c .before .before .before .before .before .before .before .before .wide .ensures) (c .before .before .before .before .before .if1 .left)) _ _ _ (seven-text _ _ _ _ _ _ _) (c .before .before .put-line .ensures .0) (c .before .before .put-line .ensures .1)
+loop-again-2 c = kept-turn _ _ _ _ _ _ _ _ (c .before .before .before .before .before .before .before .loop .inv) (c .before .before .before .before .before .before .loop-test .taken) (below-yes _ _ _ (c .before .before .before .before .before .before .before .before .wide .ensures .0) (c .before .before .before .before .before .if1 .left)) _ _ _ (seven-text _ _ _ _ _ _ _) (c .before .before .put-line .ensures .0) (c .before .before .put-line .ensures .1)
 
 same-length : tie.Need-same-length Inv-loop μ-loop
 same-length c = c .before .loop .inv .size

@@ -1,9 +1,10 @@
 use borrow.Author.Needs.{needs}
 use native.Mathlib.Omega.{arith}
 use Prim.Native.Nat.{_-_}
-use Rattle.rig_write.specs.Kept.{InKept, kept-start, kept-end, kept-skip, line-room, kept-turn, room-as, ended}
+use Rattle.rig_write.specs.Kept.{ended}
+use Rattle.rig_write.specs.Laws.Kept.{InKept, kept-start, kept-end, kept-skip, line-room, kept-turn, room-as}
 use Rattle.rig_write.specs.File.{isTask, taskLine}
-use Rattle.rig_write.specs.Lines.{five-text, task-yes, task-low, task-high}
+use Rattle.rig_write.specs.Laws.Lines.{five-text, task-yes, task-low, task-high}
 use Rattle.rig_write.proofs.put_tasks.Statement.{statement}
 use Rattle.rig_write.proofs.put_tasks.Tie as tie
 
@@ -32,7 +33,7 @@ loop-less-2 : tie.Need-loop-less-2 Inv-loop μ-loop
 loop-less-2 c = search needs
 
 loop-again-2 : tie.Need-loop-again-2 Inv-loop μ-loop
-loop-again-2 c = kept-skip _ _ _ _ _ _ _ _ (c .before .before .before .loop .inv) (c .before .before .loop-test .taken) (task-high (c .before .before .before .before .before .before .args .t3) (c .before .before .before .loop .i) (c .before .before .before .before .wide .result) (c .before .before .before .before .wide .ensures) (c .before .if1 .left) (c .if2 .taken))
+loop-again-2 c = kept-skip _ _ _ _ _ _ _ _ (c .before .before .before .loop .inv) (c .before .before .loop-test .taken) (task-high (c .before .before .before .before .before .before .args .t3) (c .before .before .before .loop .i) (c .before .before .before .before .wide .result) (c .before .before .before .before .wide .ensures .0) (c .before .if1 .left) (c .if2 .taken))
 
 byte-requires : tie.Need-byte-requires Inv-loop μ-loop
 byte-requires c κs = omega (arith, c .before .before .loop-test .taken)
@@ -50,13 +51,13 @@ element-copy-out-t24 : tie.Need-element-copy-out-t24 Inv-loop μ-loop
 element-copy-out-t24 c = c .before .before .before .before .before .before .loop-test .taken
 
 put-line-requires : tie.Need-put-line-requires Inv-loop μ-loop
-put-line-requires c κs = (omega arith, room-as _ (ended (taskLine (c .before .before .before .before .before .before .before .before .before .before .before .before .args .t3) (c .before .before .before .before .before .before .before .before .before .loop .i))) _ _ (five-text _ _ _ _ _ _ (c .before .before .before .before .before .byte .ensures)) (line-room _ _ _ _ _ _ _ _ (c .before .before .before .before .before .before .before .before .before .loop .inv) (c .before .before .before .before .before .before .before .before .loop-test .taken) (task-yes (c .before .before .before .before .before .before .before .before .before .before .before .before .args .t3) (c .before .before .before .before .before .before .before .before .before .loop .i) (c .before .before .before .before .before .before .before .before .before .before .wide .result) (c .before .before .before .before .before .before .before .before .before .before .wide .ensures) (c .before .before .before .before .before .before .before .if1 .left) (c .before .before .before .before .before .before .if2 .left))))
+put-line-requires c κs = (omega arith, room-as _ (ended (taskLine (c .before .before .before .before .before .before .before .before .before .before .before .before .args .t3) (c .before .before .before .before .before .before .before .before .before .loop .i))) _ _ (five-text _ _ _ _ _ _ (c .before .before .before .before .before .byte .ensures)) (line-room _ _ _ _ _ _ _ _ (c .before .before .before .before .before .before .before .before .before .loop .inv) (c .before .before .before .before .before .before .before .before .loop-test .taken) (task-yes (c .before .before .before .before .before .before .before .before .before .before .before .before .args .t3) (c .before .before .before .before .before .before .before .before .before .loop .i) (c .before .before .before .before .before .before .before .before .before .before .wide .result) (c .before .before .before .before .before .before .before .before .before .before .wide .ensures .0) (c .before .before .before .before .before .before .before .if1 .left) (c .before .before .before .before .before .before .if2 .left))))
 
 loop-less-3 : tie.Need-loop-less-3 Inv-loop μ-loop
 loop-less-3 c = search needs
 
 loop-again-3 : tie.Need-loop-again-3 Inv-loop μ-loop
-loop-again-3 c = kept-turn _ _ _ _ _ _ _ _ (c .before .before .before .before .before .before .before .before .before .before .before .before .loop .inv) (c .before .before .before .before .before .before .before .before .before .before .before .loop-test .taken) (task-yes (c .before .before .before .before .before .before .before .before .before .before .before .before .before .before .before .args .t3) (c .before .before .before .before .before .before .before .before .before .before .before .before .loop .i) (c .before .before .before .before .before .before .before .before .before .before .before .before .before .wide .result) (c .before .before .before .before .before .before .before .before .before .before .before .before .before .wide .ensures) (c .before .before .before .before .before .before .before .before .before .before .if1 .left) (c .before .before .before .before .before .before .before .before .before .if2 .left)) _ _ _ (five-text _ _ _ _ _ _ (c .before .before .before .before .before .before .before .before .byte .ensures)) (c .before .before .put-line .ensures .0) (c .before .before .put-line .ensures .1)
+loop-again-3 c = kept-turn _ _ _ _ _ _ _ _ (c .before .before .before .before .before .before .before .before .before .before .before .before .loop .inv) (c .before .before .before .before .before .before .before .before .before .before .before .loop-test .taken) (task-yes (c .before .before .before .before .before .before .before .before .before .before .before .before .before .before .before .args .t3) (c .before .before .before .before .before .before .before .before .before .before .before .before .loop .i) (c .before .before .before .before .before .before .before .before .before .before .before .before .before .wide .result) (c .before .before .before .before .before .before .before .before .before .before .before .before .before .wide .ensures .0) (c .before .before .before .before .before .before .before .before .before .before .if1 .left) (c .before .before .before .before .before .before .before .before .before .if2 .left)) _ _ _ (five-text _ _ _ _ _ _ (c .before .before .before .before .before .before .before .before .byte .ensures)) (c .before .before .put-line .ensures .0) (c .before .before .put-line .ensures .1)
 
 same-length : tie.Need-same-length Inv-loop μ-loop
 same-length c = c .before .loop .inv .size

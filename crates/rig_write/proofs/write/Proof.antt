@@ -2,7 +2,7 @@ use mathlib.Core.Path.{sym, _∙_}
 use Prim.Native.Nat.{ℕ}
 use borrow.Author.Tests.{not-true, not-false}
 use lib.ListN.{replicate, length-replicate}
-use Rattle.rig_write.specs.WriteLaws.{not-right, own-room, too-short, in-own, done}
+use Rattle.rig_write.specs.Laws.Answers.{not-right, own-room, too-short, in-own, done}
 use borrow.Author.Needs.{needs}
 use Rattle.rig_write.proofs.write.Statement.{statement}
 use Rattle.rig_write.proofs.write.Tie as tie

@@ -3,9 +3,9 @@ use native.Mathlib.Omega.{arith}
 use Prim.Native.Nat.{_-_}
 use mathlib.Core.Path.{_≡_}
 use lib.ListN.{length}
-use Rattle.rig_write.specs.Line.{InFields, fields-start, fields-end, field-room, fields-turn}
-use Rattle.rig_write.proofs.put_fields.Statement.{statement}
-use Rattle.rig_write.proofs.put_fields.Tie as tie
+use Rattle.rig_print.specs.Laws.Line.{InFields, fields-start, fields-end, field-room, fields-turn}
+use Rattle.rig_print.proofs.put_fields.Statement.{statement}
+use Rattle.rig_print.proofs.put_fields.Tie as tie
 
 abbrev Inv-loop : tie.InvT-loop
 Inv-loop buf₀ at m v p₀ f₀ buf p f = InFields buf₀ buf at m v p f
@@ -22,14 +22,14 @@ slice-write-buf c = field-room _ _ _ _ _ _ _ (c .before .loop .inv) (c .loop-tes
 add-a : tie.Need-add-a Inv-loop μ-loop
 add-a c = let w = field-room _ _ _ _ _ _ _ (c .before .loop .inv) (c .loop-test .taken) in omega arith
 
-array-read-number : tie.Need-array-read-number Inv-loop μ-loop
-array-read-number c = search needs
+array-read-wide64 : tie.Need-array-read-wide64 Inv-loop μ-loop
+array-read-wide64 c = search needs
 
-number-requires : tie.Need-number-requires Inv-loop μ-loop
-number-requires c κs = search needs
+wide64-requires : tie.Need-wide64-requires Inv-loop μ-loop
+wide64-requires c κs = search needs
 
 put-number-requires : tie.Need-put-number-requires Inv-loop μ-loop
-put-number-requires c κs = (omega (arith, c .before .number .ensures .1), rw (c .before .number .ensures .0) (field-room _ _ _ _ _ _ _ (c .before .before .before .loop .inv) (c .before .before .loop-test .taken) .1))
+put-number-requires c κs = (omega (arith, c .before .wide64 .ensures .1), rw (c .before .wide64 .ensures .0) (field-room _ _ _ _ _ _ _ (c .before .before .before .loop .inv) (c .before .before .loop-test .taken) .1))
 
 add-f : tie.Need-add-f Inv-loop μ-loop
 add-f c = search needs
@@ -38,7 +38,7 @@ loop-less : tie.Need-loop-less Inv-loop μ-loop
 loop-less c = search needs
 
 loop-again : tie.Need-loop-again Inv-loop μ-loop
-loop-again c = fields-turn _ _ _ _ _ _ _ (c .before .before .before .before .before .before .loop .inv) (c .before .before .before .before .before .loop-test .taken) _ _ _ (c .before .before .before .before .number .ensures .0) (c .before .before .put-number .ensures .0) (c .before .before .put-number .ensures .1) (c .before .before .put-number .kept .0)
+loop-again c = fields-turn _ _ _ _ _ _ _ (c .before .before .before .before .before .before .loop .inv) (c .before .before .before .before .before .loop-test .taken) _ _ _ (c .before .before .before .before .wide64 .ensures .0) (c .before .before .put-number .ensures .0) (c .before .before .put-number .ensures .1) (c .before .before .put-number .kept .0)
 
 same-length : tie.Need-same-length Inv-loop μ-loop
 same-length c = c .before .loop .inv .size
@@ -55,8 +55,8 @@ put-fields-spec =
     loop-holds
     slice-write-buf
     add-a
-    array-read-number
-    number-requires
+    array-read-wide64
+    wide64-requires
     put-number-requires
     add-f
     loop-less

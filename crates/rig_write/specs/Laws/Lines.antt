@@ -9,7 +9,8 @@ use lib.Dec.{eqb, ltb}
 use borrow.Author.Tests.{eq-eqb, ne-eqb, lt-ltb, le-ltb, le-leb, lt-leb}
 use Rattle.rig.specs.declared.Rig.{Rig}
 use Rattle.rig_lines.specs.Kinds.{countOf, counts}
-use Rattle.rig_write.specs.Line.{lineText, line-is}
+use Rattle.rig_print.specs.Line.{lineText}
+use Rattle.rig_print.specs.Laws.Line.{line-is}
 use Rattle.rig_write.specs.Kept.{ended}
 use Rattle.rig_write.specs.File.{rigLine, isTask, line}
 

@@ -1,44 +1,14 @@
--- The file is written part by part; and a text is copied byte by byte.
+-- A text is copied byte after byte.
 -- Assumes nothing.
-use Prim.Native.Nat.{ℕ, _+_, _-_, _≤_, _<_}
+use Prim.Native.Nat.{ℕ, _+_, _≤_, _<_}
 use mathlib.Core.Path.{_≡_, refl, sym, ap, _∙_}
 use mathlib.Core.List.{List, [], _∷_, _++_}
 use native.Mathlib.Omega.{arith}
 use native.Mathlib.Numerals.{add-one}
 use lib.ListN.{length, take, set, getD, length-take, length-append}
 use lib.Seq.{take-suc}
-use Rattle.laws.specs.Put.{put, put-one, put-put, length-put}
-use Rattle.rig_lines.specs.Laws.Turns.{put-none}
-use Rattle.rig.specs.declared.Rig.{Rig}
-use Rattle.rig_write.specs.Kept.{ended, Wrote, part-short}
-use Rattle.rig_write.specs.File.{rigLine, tasksText, conditionsText, linesText, cyclesText, rowsText, fileOf, file-parts}
+use Rattle.laws.specs.Put.{put, put-one, put-put, put-none, length-put}
 
--- there is room for each part where there is room for the file
-module _ (n : ℕ) (g : Rig) (table : List (List ℕ)) (h : length (fileOf g table) ≤ n) where
-  pub room-6 : length (((((ended (rigLine g) ++ tasksText g) ++ conditionsText g) ++ linesText g) ++ cyclesText table) ++ rowsText g) ≤ n
-  room-6 = rw (file-parts g table) h
-
-  pub room-5 : length ((((ended (rigLine g) ++ tasksText g) ++ conditionsText g) ++ linesText g) ++ cyclesText table) ≤ n
-  room-5 = part-short ((((ended (rigLine g) ++ tasksText g) ++ conditionsText g) ++ linesText g) ++ cyclesText table) (rowsText g) n room-6
-
-  pub room-4 : length (((ended (rigLine g) ++ tasksText g) ++ conditionsText g) ++ linesText g) ≤ n
-  room-4 = part-short (((ended (rigLine g) ++ tasksText g) ++ conditionsText g) ++ linesText g) (cyclesText table) n room-5
-
-  pub room-3 : length ((ended (rigLine g) ++ tasksText g) ++ conditionsText g) ≤ n
-  room-3 = part-short ((ended (rigLine g) ++ tasksText g) ++ conditionsText g) (linesText g) n room-4
-
-  pub room-2 : length (ended (rigLine g) ++ tasksText g) ≤ n
-  room-2 = part-short (ended (rigLine g) ++ tasksText g) (conditionsText g) n room-3
-
-  pub room-1 : length (ended (rigLine g)) ≤ n
-  room-1 = part-short (ended (rigLine g)) (tasksText g) n room-2
-
-pub file-written : (b₀ b : List ℕ) (g : Rig) (table : List (List ℕ)) (q : ℕ) →
-    Wrote b₀ b (((((ended (rigLine g) ++ tasksText g) ++ conditionsText g) ++ linesText g) ++ cyclesText table) ++ rowsText g) q →
-    (q ≡ length (fileOf g table)) × (b ≡ put b₀ 0 (fileOf g table))
-file-written b₀ b g table q w = (w .place ∙ ap length (file-parts g table), w .written ∙ ap (put b₀ 0) (file-parts g table))
-
--- a copy, byte after byte
 pub record Copied (b₀ b f : List ℕ) (n i : ℕ) : Type 0 where
   pub few : i ≤ n
   pub room : n ≤ length b₀

@@ -1,9 +1,9 @@
 use borrow.Author.Needs.{needs}
 use Prim.Native.Nat.{_-_}
 use mathlib.Core.Path.{refl}
-use Rattle.rig_write.specs.Chain.{Copied, copy-start, copy-place, copy-turn, copy-end}
-use Rattle.rig_write.proofs.copy_in.Statement.{statement}
-use Rattle.rig_write.proofs.copy_in.Tie as tie
+use Rattle.rig_print.specs.Laws.Copied.{Copied, copy-start, copy-place, copy-turn, copy-end}
+use Rattle.rig_print.proofs.copy_in.Statement.{statement}
+use Rattle.rig_print.proofs.copy_in.Tie as tie
 
 abbrev Inv-loop : tie.InvT-loop
 Inv-loop buf₀ from n i₀ buf i = Copied buf₀ buf from n i

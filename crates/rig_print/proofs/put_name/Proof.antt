@@ -1,9 +1,9 @@
 use native.Mathlib.Omega.{arith}
 use lib.ListN.{length-set}
-use Rattle.rig_write.specs.Line.{name-letter, name-three}
+use Rattle.rig_print.specs.Laws.Line.{name-letter, name-three}
 use borrow.Author.Needs.{needs}
-use Rattle.rig_write.proofs.put_name.Statement.{statement}
-use Rattle.rig_write.proofs.put_name.Tie as tie
+use Rattle.rig_print.proofs.put_name.Statement.{statement}
+use Rattle.rig_print.proofs.put_name.Tie as tie
 
 add-b : tie.Need-add-b
 add-b c = search needs

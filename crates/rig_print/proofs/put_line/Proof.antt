@@ -1,9 +1,9 @@
 use native.Mathlib.Omega.{arith}
 use lib.ListN.{length-set}
-use Rattle.rig_write.specs.Line.{name-room, fields-room, line-ends}
+use Rattle.rig_print.specs.Laws.Line.{name-room, fields-room, line-ends}
 use borrow.Author.Needs.{needs}
-use Rattle.rig_write.proofs.put_line.Statement.{statement}
-use Rattle.rig_write.proofs.put_line.Tie as tie
+use Rattle.rig_print.proofs.put_line.Statement.{statement}
+use Rattle.rig_print.proofs.put_line.Tie as tie
 
 count-requires : tie.Need-count-requires
 count-requires c κs = search needs

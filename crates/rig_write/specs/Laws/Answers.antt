@@ -19,7 +19,7 @@ use Rattle.rig.specs.Forms.{tableOf}
 use Rattle.rig_whole.specs.Tests.{rightB}
 use Rattle.rig_whole.specs.Whole.{right-is}
 use Rattle.rig_write.specs.File.{fileOf}
-use Rattle.rig_write.specs.Fits.{file-fits}
+use Rattle.rig_write.specs.Laws.Fits.{file-fits}
 use Rattle.rig_write.specs.declared.Written.{Written}
 use Rattle.rig_write.specs.declared.Written.the-variants.{Done, Refused}
 use Rattle.rig_write.specs.Written.{Report, finished, refused, writtenReport, writtenOf, bufferOf}

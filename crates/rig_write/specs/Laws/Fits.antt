@@ -22,9 +22,11 @@ use Rattle.rig_lines.specs.Laws.Kinds.{within-is, within-small}
 use Rattle.rig_lines.specs.Line.{Line, fits}
 use Rattle.rig_lines.specs.Laws.Judged.{shaped-count, sized-fits}
 use Rattle.rig_lines.specs.Text.{bytesOf, text}
-use Rattle.rig_write.specs.Kept.{kept, ended, text-append}
-use Rattle.rig_write.specs.File.{rigLine, isTask, taskLine, isCondition, conditionLine, isLine, flagLine, isFlag, cycleLine, isRow, rowLine, fileOf, file-parts, tasksText, conditionsText, linesText, cyclesText, rowsText}
-use Rattle.rig_write.specs.Sized.{Good, rig-good, task-good, condition-good, line-good, cycle-good, row-good}
+use Rattle.rig_write.specs.Kept.{kept, ended}
+use Rattle.rig_write.specs.Laws.Kept.{text-append}
+use Rattle.rig_write.specs.File.{rigLine, isTask, taskLine, isCondition, conditionLine, isLine, flagLine, isFlag, cycleLine, isRow, rowLine, fileOf}
+use Rattle.rig_write.specs.Laws.Chain.{tasksText, conditionsText, linesText, cyclesText, rowsText, file-parts}
+use Rattle.rig_write.specs.Laws.Sized.{Good, rig-good, task-good, condition-good, line-good, cycle-good, row-good}
 
 -- how many digits a number below 1,000 has
 unfoldable pub digits : ℕ → ℕ

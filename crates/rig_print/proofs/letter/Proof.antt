@@ -1,7 +1,7 @@
 use borrow.Author.Tests.{eq-eqb, ne-eqb}
 use Rattle.rig_lines.specs.Kinds.{nameOf}
-use Rattle.rig_write.proofs.letter.Statement.{statement}
-use Rattle.rig_write.proofs.letter.Tie as tie
+use Rattle.rig_print.proofs.letter.Statement.{statement}
+use Rattle.rig_print.proofs.letter.Tie as tie
 
 returns : tie.Need-returns
 unfolding nameOf

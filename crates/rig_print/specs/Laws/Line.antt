@@ -1,4 +1,4 @@
--- The text of a line as it is written, field after field, and its laws.
+-- How a line is written, field after field.
 -- Assumes nothing.
 use Prim.Native.Nat.{ℕ, suc, _+_, _-_, _≤_, _<_}
 use mathlib.Core.Path.{_≡_, refl, sym, ap, _∙_}
@@ -13,14 +13,7 @@ use Rattle.text.specs.Split.{led}
 use Rattle.rig_lines.specs.Kinds.{countOf, nameOf}
 use Rattle.rig_lines.specs.Laws.Turns.{put-turn, put-none}
 use Rattle.rig_lines.specs.Text.{bytesOf}
-
--- f numbers, each after a tab
-unfoldable pub begun : List ℕ → ℕ → List ℕ
-begun v f = led 9 (map dec (take f v))
-
--- the line with its end
-unfoldable pub lineText : ℕ → List ℕ → List ℕ
-lineText k v = (nameOf k ++ begun v (countOf k)) ++ (10 ∷ [])
+use Rattle.rig_print.specs.Line.{begun, lineText}
 
 pub line-is : (k : ℕ) (v : List ℕ) → lineText k v ≡ bytesOf (record { kind = k; nums = take (countOf k) v }) ++ (10 ∷ [])
 unfolding lineText begun bytesOf
