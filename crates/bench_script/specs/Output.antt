@@ -4,15 +4,28 @@ use Prim.Native.Nat.{ℕ}
 use mathlib.Core.List.{List, [], _∷_, _++_, map}
 use Rattle.decimal.specs.Decimal.{dec}
 use Rattle.text.specs.Split.{led}
+use Rattle.bench_script.specs.Letters.{tab, lf, question}
 
 -- numbers, each after a tab
 unfoldable pub fieldsText : List ℕ → List ℕ
-fieldsText numbers = led 9 (map dec numbers)
+fieldsText numbers = led tab (map dec numbers)
 
 -- the verb's letters, the numbers, and LF
 unfoldable pub lineText : List ℕ → List ℕ → List ℕ
-lineText verb numbers = verb ++ (fieldsText numbers ++ (10 ∷ []))
+lineText verb numbers = verb ++ (fieldsText numbers ++ (lf ∷ []))
 
--- "A refused rig prints START, number, line"; an accepted one START with the numbers of every answer
-abbrev pub startName : List ℕ
-startName = 83 ∷ 84 ∷ 65 ∷ 82 ∷ 84 ∷ []
+-- "prints ? alone"
+abbrev pub wrongText : List ℕ
+wrongText = question ∷ lf ∷ []
+
+-- a field is a tab and at most ten digits
+abbrev pub fieldRoom : ℕ
+fieldRoom = 11
+
+-- the bytes of output that a turn asks for: more than any turn's line has
+abbrev pub turnRoom : ℕ
+turnRoom = 2048
+
+-- and those that the line START asks for
+abbrev pub startRoom : ℕ
+startRoom = 64

@@ -5,6 +5,7 @@ use mathlib.Core.List.{List, [], _∷_}
 use lib.Dec.{ltb, eqb}
 use Rattle.decimal.specs.Decimal.{cap, number}
 use Rattle.text.specs.Split.{split}
+use Rattle.bench_script.specs.Letters.{tab, scheduleVerb, cancelVerb, terminateVerb, finishVerb, tickVerb, untilVerb, cyclesVerb, latchedVerb, unlatchedVerb, signalVerb, askVerb}
 use Rattle.bench_script.specs.declared.Said.{Said}
 use Rattle.bench_script.specs.declared.Said.the-variants.{Schedule, Cancel, Terminate, Finish, Tick, Until, Cycles, Latched, Unlatched, Signal, Ask, Wrong}
 
@@ -16,21 +17,21 @@ verbOf (v ∷ w ∷ ws) = 0
 
 -- "F; K (tick)"
 unfoldable pub alone : ℕ → Said
-alone v = cond (eqb v 70) Finish (cond (eqb v 75) Tick Wrong)
+alone v = cond (eqb v finishVerb) Finish (cond (eqb v tickVerb) Tick Wrong)
 
 -- "S, X, Z task (schedule, cancel, terminate)", "U count; R cycles", "Q flag"
 unfoldable pub withNumber : ℕ → ℕ → Said
 withNumber v n =
-    cond (eqb v 83) (Schedule n)
-    (cond (eqb v 88) (Cancel n)
-    (cond (eqb v 90) (Terminate n)
-    (cond (eqb v 85) (Until n)
-    (cond (eqb v 82) (Cycles n)
-    (cond (eqb v 81) (Ask n) Wrong)))))
+    cond (eqb v scheduleVerb) (Schedule n)
+    (cond (eqb v cancelVerb) (Cancel n)
+    (cond (eqb v terminateVerb) (Terminate n)
+    (cond (eqb v untilVerb) (Until n)
+    (cond (eqb v cyclesVerb) (Cycles n)
+    (cond (eqb v askVerb) (Ask n) Wrong)))))
 
 -- "L or N flag value (latched, unlatched wait); G flag value"
 unfoldable pub withValue : ℕ → ℕ → Bool → Said
-withValue v f b = cond (eqb v 76) (Latched f b) (cond (eqb v 78) (Unlatched f b) (cond (eqb v 71) (Signal f b) Wrong))
+withValue v f b = cond (eqb v latchedVerb) (Latched f b) (cond (eqb v unlatchedVerb) (Unlatched f b) (cond (eqb v signalVerb) (Signal f b) Wrong))
 
 -- "Script numbers run to 4,294,967,295 and values are 0 or 1; any other script line is refused by 1"
 unfoldable pub fieldsSay : List (List ℕ) → Said
@@ -43,4 +44,4 @@ fieldsSay (v ∷ f ∷ b ∷ x ∷ xs) = Wrong
 
 -- fields are parted by one tab
 unfoldable pub saidOf : List ℕ → Said
-saidOf line = fieldsSay (split 9 line)
+saidOf line = fieldsSay (split tab line)

@@ -1,26 +1,23 @@
 -- Laws of output lines as they are written, field after field.
 use Prim.Native.Nat.{ℕ, zero, suc, _+_, _*_, _/_, _%_, _≤_, _<_}
-use mathlib.Core.Path.{_≡_, refl, sym, ap, _∙_, subst}
+use mathlib.Core.Path.{_≡_, refl, sym, ap, _∙_}
 use mathlib.Core.Logic.{_⊎_, inl, ⊎-elim}
 use mathlib.Core.List.{List, [], _∷_, _++_, map, append-assoc, append-nil}
 use native.Mathlib.Omega.{arith}
 use native.Mathlib.Numerals.{add-one}
 use lib.Dec.{ltb}
-use lib.ListN.{length, getD, take, set, length-append, length-set, length-take, take-append-drop}
+use lib.ListN.{length, getD, take, set, length-append, length-set, length-take}
 use lib.Seq.{take-suc, take-all}
-use native.Mathlib.Nat.{add-zero}
 use Rattle.laws.specs.Cases.{by}
 use Rattle.laws.specs.Put.{put, put-one, put-put, length-put}
 use Rattle.decimal.specs.Decimal.{decBy, dec}
 use Rattle.text.specs.Split.{led}
-use Rattle.bench_script.specs.Output.{fieldsText, lineText, startName}
+use Rattle.bench_script.specs.Letters.{lf, question, startName}
+use Rattle.bench_script.specs.Output.{fieldsText, lineText, wrongText, startRoom}
+use Rattle.bench_script.specs.Wrote.{Wrote, wrote-same, wrote-then, wrote-as, wrote-none, byte-wrote}
 
 length-take-most : (i : ℕ) (l : List ℕ) → length (take i l) ≤ i
 length-take-most i l = rw length-take (omega arith)
-
-put-nothing : (l : List ℕ) (at : ℕ) → put l at [] ≡ l
-unfolding put
-put-nothing l at = rw (add-zero, take-append-drop)
 
 decBy-length : (k n : ℕ) → length (decBy k n) ≤ suc k
 unfolding decBy
@@ -63,16 +60,6 @@ fields-length (x ∷ xs) =
     let e = length-append (dec x) (led 9 (map dec xs)) in
     omega (arith, e, dec-length x, fields-length xs)
 
--- the text t stands at `at` in l, which was m there before, and p is the place after it
-pub record Wrote (l : List ℕ) (at : ℕ) (t m : List ℕ) (p : ℕ) : Type 0 where
-  pub place : p ≡ at + length t
-  pub text : m ≡ put l at t
-  pub size : length m ≡ length l
-
--- the statement fixes the result
-pub wrote-same : (l : List ℕ) (at : ℕ) (t m n : List ℕ) (p q : ℕ) → Wrote l at t m p → Wrote l at t n q → (m ≡ n) × (p ≡ q)
-wrote-same l at t m n p q a b = (a .text ∙ sym (b .text), a .place ∙ sym (b .place))
-
 -- a tab is written, then a number
 pub field-wrote : (l m : List ℕ) (at n p : ℕ) → at + 11 ≤ length l → p ≡ (at + 1) + length (dec n)
     → m ≡ put (set l at 9) (at + 1) (dec n) → Wrote l at (fieldsText (n ∷ [])) m p
@@ -84,32 +71,6 @@ field-wrote l m at n p h e q =
     let t : m ≡ put l at (fieldsText (n ∷ [])) =
     q ∙ ap (λ (x : List ℕ). put x (at + 1) (dec n)) o ∙ put-put l at (9 ∷ []) (dec n) (omega arith) ∙ ap (put l at) (sym k) in
     record { place = omega arith; text = t; size = ap length t ∙ length-put l at (fieldsText (n ∷ [])) (omega arith) }
-
--- one byte is written
-pub byte-wrote : (l : List ℕ) (at b : ℕ) → at < length l → Wrote l at (b ∷ []) (set l at b) (at + 1)
-byte-wrote l at b h = record { place = refl; text = put-one l at b h; size = length-set l at b }
-
--- texts written one behind the other are written together
-pub wrote-then : (l m k a b : List ℕ) (at p q : ℕ) → at + length a + length b ≤ length l → Wrote l at a m p → Wrote m p b k q
-    → Wrote l at (a ++ b) k q
-wrote-then l m k a b at p q h u w =
-    let j = length-append a b in
-    let e = u .place in
-    let f = w .place in
-    record {
-      place = omega arith;
-      text =
-          w .text ∙ ap (λ (x : List ℕ). put x p b) (u .text) ∙ ap (λ (x : ℕ). put (put l at a) x b) (u .place)
-          ∙ put-put l at a b (omega arith);
-      size = w .size ∙ u .size;
-    }
-
--- what was written is known by its text
-pub wrote-as : (l m a b : List ℕ) (at p : ℕ) → a ≡ b → Wrote l at a m p → Wrote l at b m p
-wrote-as l m a b at p e w = subst (λ (t : List ℕ). Wrote l at t m p) e w
-
-pub wrote-none : (l : List ℕ) (at : ℕ) → Wrote l at [] l at
-wrote-none l at = record { place = omega arith; text = sym (put-nothing l at); size = refl }
 
 -- ---- words, one field each
 
@@ -182,7 +143,7 @@ module _ (l : List ℕ) (at a : ℕ) (h : at + 33 ≤ length l) (m : List ℕ) (
 
 -- the line START with these numbers stands at the front, if there is room for it
 pub record Begun (out numbers after : List ℕ) (p : ℕ) : Type 0 where
-  pub is : ((64 ≤ length out) × Wrote out 0 (lineText startName numbers) after p) ⊎ ((length out < 64) × (after ≡ out) × (p ≡ 0))
+  pub is : ((startRoom ≤ length out) × Wrote out 0 (lineText startName numbers) after p) ⊎ ((length out < startRoom) × (after ≡ out) × (p ≡ 0))
 
 pub begun-same : (out numbers m n : List ℕ) (p q : ℕ) → Begun out numbers m p → Begun out numbers n q → (m ≡ n) × (p ≡ q)
 begun-same out numbers m n p q a b =
@@ -244,3 +205,12 @@ two-fields-wrote l m o at a b p q h u v =
     let g = fields-length (b ∷ []) in
     wrote-as l o (fieldsText (a ∷ []) ++ fieldsText (b ∷ [])) (fieldsText (a ∷ b ∷ [])) at q (sym (fields-append (a ∷ []) (b ∷ [])))
     (wrote-then l m o (fieldsText (a ∷ [])) (fieldsText (b ∷ [])) at p q (omega arith) u v)
+
+-- ---- a line that is none
+
+pub wrong-wrote : (out : List ℕ) (at : ℕ) → at + 2 ≤ length out
+    → Wrote out at wrongText (set (set out at question) (at + 1) lf) (at + 1 + 1)
+wrong-wrote out at h =
+    let l = length-set out at question in
+    wrote-then out (set out at question) (set (set out at question) (at + 1) lf) (question ∷ []) (lf ∷ []) at (at + 1) (at + 1 + 1) (omega arith)
+    (byte-wrote out at question (omega arith)) (byte-wrote (set out at question) (at + 1) lf (omega arith))

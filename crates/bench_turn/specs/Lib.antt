@@ -1,3 +1,4 @@
 pub mod Turn
 pub mod TurnLaws
 pub mod Same
+pub mod Ruled

@@ -1,7 +1,7 @@
 -- THE STATEMENT OF A TURN FIXES ITS RESULT: state, place and every byte of the output.
 use mathlib.Core.Path.{_≡_, sym, ap, _∙_, subst}
 use mathlib.Core.Logic.{⊎-elim}
-use mathlib.Core.List.{List, [], _∷_}
+use mathlib.Core.List.{List}
 use Prim.Native.Nat.{ℕ}
 use native.Mathlib.Omega.{arith}
 use Rattle.exec.specs.Call.{withState}
@@ -9,7 +9,8 @@ use Rattle.exec.specs.Laws.Unique.{meets-same}
 use Rattle.exec.specs.declared.Exec.{Exec}
 use Rattle.exec.specs.declared.Step.{Step}
 use Rattle.bench_script.specs.Script.{saidOf}
-use Rattle.bench_script.specs.Written.{Wrote, wrote-same}
+use Rattle.bench_script.specs.Output.{wrongText}
+use Rattle.bench_script.specs.Wrote.{Wrote, wrote-same}
 use Rattle.bench_turn.specs.Turn.{letterOf, Asked, call, none, askedBy, answerText, Takes, Turns}
 use Rattle.bench_turn.specs.declared.Turn.{Turn}
 
@@ -24,7 +25,7 @@ takes-same e verb (call k) out at r s m n a b =
     let x : withState e (r .st) ≡ withState e (s .st) = sym (a .exec) ∙ ap (λ (y : Step). y .exec) (w .0) ∙ b .exec in
     ((λ i. record { st = x i .st; at = u .1 i }), u .0)
 takes-same e verb none out at r s m n a b =
-    let u = wrote-same out at (63 ∷ 10 ∷ []) m n (r .at) (s .at) (a .wrote) (b .wrote) in
+    let u = wrote-same out at wrongText m n (r .at) (s .at) (a .wrote) (b .wrote) in
     let x : r .st ≡ s .st = a .state ∙ sym (b .state) in
     ((λ i. record { st = x i; at = u .1 i }), u .0)
 

@@ -8,37 +8,45 @@ use mathlib.Core.List.{List, [], _∷_}
 use Prim.Native.Nat.{ℕ, _+_, _≤_, _<_}
 use lib.Dec.{eqb}
 use lib.ListN.{length, take, replicate}
+use Rattle.rules.specs.Rig as G
+use Rattle.rules.specs.State as S
 use Rattle.rules.specs.Calls as R
-use Rattle.exec.specs.Call.{bit, Meets}
+use Rattle.exec.specs.Call.{bit, answerOf, Meets}
 use Rattle.exec.specs.Call.{withState}
 use Rattle.exec.specs.declared.Exec.{Exec}
-use Rattle.exec.specs.declared.Report.{Report}
 use Rattle.exec.specs.declared.Step.{Step}
-use Rattle.exec.specs.declared.Answer.{Answer}
-use Rattle.exec.specs.declared.Answer.the-variants.{Accepted, Refused}
 use Rattle.bench_script.specs.Script.{saidOf}
-use Rattle.bench_script.specs.Output.{lineText}
-use Rattle.bench_script.specs.Written.{Wrote}
+use Rattle.bench_script.specs.Letters.{question, scheduleVerb, cancelVerb, terminateVerb, finishVerb, tickVerb, untilVerb, cyclesVerb, latchedVerb, unlatchedVerb, signalVerb, askVerb}
+use Rattle.bench_script.specs.Output.{lineText, wrongText, turnRoom}
+use Rattle.bench_script.specs.Wrote.{Wrote}
 use Rattle.bench_script.specs.declared.Said.{Said}
 use Rattle.bench_script.specs.declared.Said.the-variants.{Schedule, Cancel, Terminate, Finish, Tick, Until, Cycles, Latched, Unlatched, Signal, Ask, Wrong}
 use Rattle.bench_turn.specs.declared.Turn.{Turn}
 
 -- the letter of a verb
 abbrev pub letterOf : Said → ℕ
-letterOf (Schedule t) = 83
-letterOf (Cancel t) = 88
-letterOf (Terminate t) = 90
-letterOf Finish = 70
-letterOf Tick = 75
-letterOf (Until t) = 85
-letterOf (Cycles n) = 82
-letterOf (Latched f v) = 76
-letterOf (Unlatched f v) = 78
-letterOf (Signal f v) = 71
-letterOf (Ask f) = 81
-letterOf Wrong = 63
+letterOf (Schedule t) = scheduleVerb
+letterOf (Cancel t) = cancelVerb
+letterOf (Terminate t) = terminateVerb
+letterOf Finish = finishVerb
+letterOf Tick = tickVerb
+letterOf (Until t) = untilVerb
+letterOf (Cycles n) = cyclesVerb
+letterOf (Latched f v) = latchedVerb
+letterOf (Unlatched f v) = unlatchedVerb
+letterOf (Signal f v) = signalVerb
+letterOf (Ask f) = askVerb
+letterOf Wrong = question
 
--- the call of a line, or that it is none; a tick is lent 128 words of 0
+-- "Its lent buffer has at least 128 words"
+abbrev pub tickWords : ℕ
+tickWords = 128
+
+-- and as many fields have room for them
+abbrev pub extraRoom : ℕ
+extraRoom = 1408
+
+-- the call of a line, or that it is none; a tick is lent words of 0
 pub data Asked : Type 0 where
   call : R.Call → Asked
   none : Asked
@@ -48,7 +56,7 @@ askedBy (Schedule t) = call (R.schedule t)
 askedBy (Cancel t) = call (R.cancel t)
 askedBy (Terminate t) = call (R.terminate t)
 askedBy Finish = call R.finish
-askedBy Tick = call (R.tick (replicate 128 0))
+askedBy Tick = call (R.tick (replicate tickWords 0))
 askedBy (Until t) = call (R.waitUntil t)
 askedBy (Cycles n) = call (R.waitFor n)
 askedBy (Latched f v) = call (R.latched f (bit v))
@@ -58,19 +66,19 @@ askedBy (Ask f) = call (R.readFlag f)
 askedBy Wrong = none
 
 -- "bus words or the flag's value": of a tick (K) the words that it wrote, of a reading (Q) the value
-unfoldable pub extra : ℕ → Report → List ℕ → List ℕ
-extra verb report words = cond (eqb verb 75) (take (report .words) words) (cond (eqb verb 81) (report .value ∷ []) [])
+unfoldable pub extra : ℕ → R.Report → List ℕ → List ℕ
+extra verb report words =
+    cond (eqb verb tickVerb) (take (report .words) words) (cond (eqb verb askVerb) (report .value ∷ []) [])
 
--- the numbers of a line: answer, count, running task after the call; if accepted, what the call put out
-unfoldable pub numbersOf : ℕ → Answer → ℕ → ℕ → List ℕ → List ℕ
-numbersOf verb (Accepted report) count running words = 0 ∷ count ∷ running ∷ extra verb report words
-numbersOf verb (Refused n) count running words = n ∷ count ∷ running ∷ []
+-- "answer (0 accepted), count, running task (0 none), then, if accepted", what the call put out
+unfoldable pub numbersOf : ℕ → R.Answer → ℕ → ℕ → List ℕ → List ℕ
+numbersOf verb a count running words = a .code ∷ count ∷ running ∷ cond (eqb (a .code) 0) (extra verb (a .report) words) []
 
-unfoldable pub textOf : ℕ → Answer → ℕ → ℕ → List ℕ → List ℕ
+unfoldable pub textOf : ℕ → R.Answer → ℕ → ℕ → List ℕ → List ℕ
 textOf verb a count running words = lineText (verb ∷ []) (numbersOf verb a count running words)
 
 abbrev pub answerText : ℕ → Step → List ℕ → List ℕ
-answerText verb s words = textOf verb (s .answer) (s .exec .st .count) (s .exec .st .running) words
+answerText verb s words = textOf verb (answerOf (s .answer)) (s .exec .st .count) (s .exec .st .running) words
 
 -- the turn made a call: the record that the call handed back is the old one with the turn's state, and its line was written at `at`
 pub record Answered (e : Exec) (verb : ℕ) (k : R.Call) (out : List ℕ) (at : ℕ) (r : Turn) (after : List ℕ) : Type 0 where
@@ -83,17 +91,33 @@ pub record Answered (e : Exec) (verb : ℕ) (k : R.Call) (out : List ℕ) (at : 
 -- "any other script line is refused by 1 and prints ? alone"
 pub record Unasked (e : Exec) (out : List ℕ) (at : ℕ) (r : Turn) (after : List ℕ) : Type 0 where
   pub state : r .st ≡ e .st
-  pub wrote : Wrote out at (63 ∷ 10 ∷ []) after (r .at)
+  pub wrote : Wrote out at wrongText after (r .at)
 
 abbrev pub Takes : Exec → ℕ → Asked → List ℕ → ℕ → Turn → List ℕ → Type 0
 Takes e verb (call k) out at r after = Answered e verb k out at r after
 Takes e verb none out at r after = Unasked e out at r after
 
-abbrev pub room : ℕ
-room = 2048
-
--- the turn of a line, where at least 2,048 bytes are left; else nothing happens
+-- the turn of a line, where there is room for any turn's line; else nothing happens
 pub record Turns (e : Exec) (line out : List ℕ) (at : ℕ) (r : Turn) (after : List ℕ) : Type 0 where
   pub is :
-      ((at + room ≤ length out) × Takes e (letterOf (saidOf line)) (askedBy (saidOf line)) out at r after)
-      ⊎ ((length out < at + room) × (r ≡ record { st = e .st; at = at }) × (after ≡ out))
+      ((at + turnRoom ≤ length out) × Takes e (letterOf (saidOf line)) (askedBy (saidOf line)) out at r after)
+      ⊎ ((length out < at + turnRoom) × (r ≡ record { st = e .st; at = at }) × (after ≡ out))
+
+-- ---- the same in the rules' words: what the line of a sound record's turn is, and the state after it
+
+abbrev pub stepText : ℕ → R.Step → List ℕ
+stepText verb s = textOf verb (s .answer) (s .next .count) (s .next .running) (s .lent)
+
+unfoldable pub askedText : G.Rig → S.State → ℕ → Asked → List ℕ
+askedText r s verb (call k) = stepText verb (R.step r s k)
+askedText r s verb none = wrongText
+
+unfoldable pub askedNext : G.Rig → S.State → Asked → S.State
+askedNext r s (call k) = R.step r s k .next
+askedNext r s none = s
+
+unfoldable pub turnText : G.Rig → S.State → List ℕ → List ℕ
+turnText r s line = askedText r s (letterOf (saidOf line)) (askedBy (saidOf line))
+
+unfoldable pub turnNext : G.Rig → S.State → List ℕ → S.State
+turnNext r s line = askedNext r s (askedBy (saidOf line))

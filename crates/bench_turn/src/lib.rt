@@ -6,13 +6,19 @@ use exec::Report;
 use exec::Step;
 use exec_state::State;
 ghost use mathlib.Core.Path.{_≡_};
-ghost use mathlib.Core.List.{[], _∷_};
 ghost use Prim.Native.Nat.{_+_, _≤_, _<_, min};
 ghost use lib.ListN.{length};
-ghost use Rattle.bench_script.specs.Written.{Wrote};
-ghost use Rattle.bench_script.specs.Output.{fieldsText};
-ghost use Rattle.bench_turn.specs.Turn.{letterOf, extra, textOf, room, Turns};
-ghost use Rattle.bench_turn.specs.TurnLaws.{numberOf, Made};
+ghost use Rattle.bench_script.specs.Wrote.{Wrote};
+ghost use Rattle.bench_script.specs.Output.{fieldsText, turnRoom};
+ghost use Rattle.exec.specs.Call.{reportOf, answerOf, Proper};
+ghost use Rattle.bench_turn.specs.Turn.{letterOf, extraRoom, extra, textOf, tickWords, Turns};
+ghost use Rattle.bench_turn.specs.TurnLaws.{Made};
+
+// The number of a line that has the wrong shape.
+const WRONG_SHAPE: u8 = 1;
+
+// "Its lent buffer has at least 128 words"
+const TICK_WORDS: usize = 128;
 
 // The state after a turn, and the place after what the turn wrote. Rig and cycles stay as they are: the caller has them, and
 // handed back they would be copied for each line.
@@ -23,14 +29,14 @@ pub struct Turn {
 
 // Bus words of a tick, the value of a flag that was read, nothing of any other call.
 fn put_extra(verb: u8, report: Report, words: &[u16], out: &mut [u8], at: usize) -> usize
-    requires { ⌜ (length (now words) ≤ 128) × (at + 1408 ≤ length (now out)) ⌝ }
-    ensures { λ r. ⌜ Wrote (now (out .entry)) at (fieldsText (extra verb report (now (words .entry)))) (now (out .exit)) r ⌝ }
+    requires { ⌜ (length (now words) ≤ tickWords) × (at + extraRoom ≤ length (now out)) ⌝ }
+    ensures { λ r. ⌜ Wrote (now (out .entry)) at (fieldsText (extra verb (reportOf report) (now (words .entry)))) (now (out .exit)) r ⌝ }
 {
-    if verb == 75 {
+    if verb == b'K' {
         let n = least(report.words, words.len());
         return bench_script::put_words(out, at, &words[..n]);
     }
-    if verb == 81 {
+    if verb == b'Q' {
         return bench_script::put_field(out, at, report.value);
     }
     at
@@ -44,7 +50,7 @@ fn least(n: u32, most: usize) -> usize
 }
 
 fn number_of(a: Answer) -> u32
-    ensures { λ r. ⌜ r ≡ numberOf a ⌝ }
+    ensures { λ r. ⌜ r ≡ answerOf a .code ⌝ }
 {
     match a {
         Answer::Accepted(report) => 0,
@@ -62,31 +68,20 @@ fn show(
     out: &mut [u8],
     at: usize,
 ) -> usize
-    requires { ⌜ (length (now words) ≤ 128) × (at + room ≤ length (now out)) ⌝ }
-    ensures { λ r. ⌜ Wrote (now (out .entry)) at (textOf verb answer count running (now (words .entry))) (now (out .exit)) r ⌝ }
+    requires { ⌜ (length (now words) ≤ tickWords) × (at + turnRoom ≤ length (now out)) × Proper answer ⌝ }
+    ensures { λ r. ⌜ Wrote (now (out .entry)) at (textOf verb (answerOf answer) count running (now (words .entry))) (now (out .exit)) r ⌝ }
 {
     let n = number_of(answer);
     let a = at + 1;
     out[at] = verb;
     let p = bench_script::put_answer(&mut *out, a, n, count, running);
     let Answer::Accepted(report) = answer else {
-        out[p] = 10;
+        out[p] = bench_script::LF;
         return p + 1;
     };
     let q = put_extra(verb, report, words, &mut *out, p);
-    out[q] = 10;
+    out[q] = bench_script::LF;
     q + 1
-}
-
-// A line that says nothing is answered by ? alone.
-fn wrong(out: &mut [u8], at: usize) -> usize
-    requires { ⌜ at + room ≤ length (now out) ⌝ }
-    ensures { λ r. ⌜ Wrote (now (out .entry)) at (63 ∷ 10 ∷ []) (now (out .exit)) r ⌝ }
-{
-    let a = at + 1;
-    out[at] = 63;
-    out[a] = 10;
-    a + 1
 }
 
 // The letter of a verb, ? for a line that says nothing.
@@ -94,18 +89,18 @@ fn letter(said: Said) -> u8
     ensures { λ r. ⌜ r ≡ letterOf said ⌝ }
 {
     match said {
-        Said::Schedule(t) => 83,
-        Said::Cancel(t) => 88,
-        Said::Terminate(t) => 90,
-        Said::Finish => 70,
-        Said::Tick => 75,
-        Said::Until(t) => 85,
-        Said::Cycles(n) => 82,
-        Said::Latched(f, v) => 76,
-        Said::Unlatched(f, v) => 78,
-        Said::Signal(f, v) => 71,
-        Said::Ask(f) => 81,
-        Said::Wrong => 63,
+        Said::Schedule(t) => b'S',
+        Said::Cancel(t) => b'X',
+        Said::Terminate(t) => b'Z',
+        Said::Finish => b'F',
+        Said::Tick => b'K',
+        Said::Until(t) => b'U',
+        Said::Cycles(n) => b'R',
+        Said::Latched(f, v) => b'L',
+        Said::Unlatched(f, v) => b'N',
+        Said::Signal(f, v) => b'G',
+        Said::Ask(f) => b'Q',
+        Said::Wrong => b'?',
     }
 }
 
@@ -127,30 +122,26 @@ fn ask(e: Exec, said: Said, words: &mut [u16]) -> Step
         Said::Ask(f) => e.read_flag(f),
         Said::Wrong => Step {
             exec: e,
-            answer: Answer::Refused(1),
+            answer: Answer::Refused(WRONG_SHAPE),
         },
     }
 }
 
-// The turn of a script line, without its LF. Where fewer than 2,048 bytes are left nothing happens: a turn always writes.
+// The turn of a script line, without its LF. Where there is no room for a turn's line nothing happens: a turn always writes.
 pub fn take_line(e: Exec, line: &[u8], out: &mut [u8], at: usize) -> Turn
     ensures { λ r. ⌜ Turns e (now (line .entry)) (now (out .entry)) at r (now (out .exit)) ⌝ }
 {
-    let n = out.len();
     let st = e.st;
-    if n < 2048 {
-        return Turn { st, at };
-    }
-    if n - 2048 < at {
+    if !bench_script::has_room(out.len(), at) {
         return Turn { st, at };
     }
     let said = bench_script::read_line(line);
     let verb = letter(said);
-    if verb == 63 {
-        let p = wrong(out, at);
+    if verb == b'?' {
+        let p = bench_script::put_wrong(out, at);
         return Turn { st, at: p };
     }
-    let mut words = [0u16; 128];
+    let mut words = [0u16; TICK_WORDS];
     let s = ask(e, said, &mut words);
     let answer = s.answer;
     let exec = s.exec;

@@ -12,7 +12,8 @@ use Rattle.rig_build.specs.Read.{readOf}
 use Rattle.exec.specs.Starting.{Started, Starts}
 use Rattle.exec.specs.declared.Step.{Step}
 use Rattle.host_replies.specs.Told.{coded, refusedFile, Begins, BeginsFrom}
-use Rattle.host_replies.specs.Files.{accepted-right, line-small}
+use Rattle.rig_build.specs.Laws.Exactly.{accepted-right}
+use Rattle.rig_build.specs.Laws.LineNumbers.{line-small}
 use Rattle.host_replies.specs.declared.Coded.{Coded}
 
 module _ (file : List ℕ) (a : Answer) (e : a ≡ readOf file) where

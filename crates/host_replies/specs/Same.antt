@@ -15,7 +15,7 @@ use Rattle.exec.specs.Laws.Starting.{starts-same}
 use Rattle.exec.specs.declared.Exec.{Exec}
 use Rattle.exec.specs.declared.Step.{Step}
 use Rattle.host_replies.specs.Told.{coded, Replies, Begins, BeginsFrom}
-use Rattle.host_replies.specs.Files.{accepted-right}
+use Rattle.rig_build.specs.Laws.Exactly.{accepted-right}
 use Rattle.host_replies.specs.declared.Coded.{Coded}
 
 pub replies-same : (x : Exec) (k : R.Call) (r s : Coded) (u v : List ℕ) → Replies x k r u → Replies x k s v → (r ≡ s) × (u ≡ v)

@@ -1,7 +1,7 @@
 // The sentences, a function each: the text of the table is written at `at`, and the place after it is answered.
 ghost use Prim.Native.Nat.{_+_, _≤_};
 ghost use lib.ListN.{length};
-ghost use Rattle.bench_script.specs.Written.{Wrote};
+ghost use Rattle.bench_script.specs.Wrote.{Wrote};
 ghost use Rattle.rig_sentences.specs.Sentences.{refusedByText, atLineText, colonText, culpritLineText, culpritTaskText, endText, emptyFileText, noLineEndText, byteOrderMarkText, carriageReturnText, emptyLineText, spaceText, unknownKindText, tooFewFieldsText, tooManyFieldsText, spareZeroText, noDecimalText, tooLongText, outsideSizeText, outOfOrderText, aboveText, manyAText, manyBText, noTLineText, crowdedText, controllerText, sharedText, minorActivationText, noCLineText, noALineText, minorConditionText, sameAddressText, otherRuleText};
 use crate::writing::put;
 

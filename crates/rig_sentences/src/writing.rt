@@ -2,7 +2,7 @@
 ghost use mathlib.Core.Path.{_≡_};
 ghost use Prim.Native.Nat.{_+_, _≤_};
 ghost use lib.ListN.{length};
-ghost use Rattle.bench_script.specs.Written.{Wrote};
+ghost use Rattle.bench_script.specs.Wrote.{Wrote};
 ghost use Rattle.rig_sentences.specs.Writing.{numberText, countedText};
 
 pub(crate) fn put(out: &mut [u8], at: usize, text: &[u8]) -> usize

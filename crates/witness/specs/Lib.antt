@@ -12,3 +12,4 @@ pub mod MorningRun
 pub mod MorningWait
 pub mod FullRig
 pub mod FullRun
+pub mod MorningStream

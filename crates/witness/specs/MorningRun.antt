@@ -29,6 +29,7 @@ use Rattle.rules.specs.Soundness as Rules
 use Rattle.rules_laws.specs.Steps.{start-sound, run-sound}
 use Rattle.rules.specs.Scripts.{bench, rig, ofTask, ofCondition, numbers, ofLine, ofCycle, tick₀, morningCalls}
 use Rattle.exec_state.specs.View.{rigOf}
+use Rattle.exec.specs.Call.{answerOf}
 use Rattle.exec.specs.Sound.{view}
 use Rattle.exec_sound.specs.RightRig.{rig-ok}
 use Rattle.exec.specs.Laws.Starting.{starts-same}
@@ -40,7 +41,8 @@ use Rattle.runs.specs.Laws.{demand}
 use Rattle.bench_script.specs.Input.{isRun, beforeRun, rigEnd}
 use Rattle.bench_script.specs.Script as C
 use Rattle.bench_script.specs.Script.{saidOf}
-use Rattle.bench_script.specs.Output.{fieldsText, lineText, startName}
+use Rattle.bench_script.specs.Output.{fieldsText, lineText}
+use Rattle.bench_script.specs.Letters.{startName}
 use Rattle.bench_turn.specs.Turn as U
 use Rattle.bench_turn.specs.Turn.{letterOf, askedBy, textOf, answerText}
 use Rattle.witness.specs.Text.{bytes, lf}
@@ -85,7 +87,7 @@ ruled [] r s ks = []
 ruled (l ∷ ls) r s [] = []
 ruled (l ∷ ls) r s (k ∷ ks) =
     let p = R.step r s k in
-    textOf (letterOf (saidOf l)) (answerBy (p .answer .code) (p .answer .report)) (p .next .count) (p .next .running) (p .lent)
+    textOf (letterOf (saidOf l)) (answerOf (answerBy (p .answer .code) (p .answer .report))) (p .next .count) (p .next .running) (p .lent)
     ++ ruled ls r (p .next) ks
 
 printed-ruled : (g : Rig) (cycles : List Cycle) (ls : List (List ℕ)) (s : S.State) (ks : List R.Call)
@@ -94,7 +96,7 @@ printed-ruled g cycles [] s ks = refl
 printed-ruled g cycles (l ∷ ls) s [] = refl
 printed-ruled g cycles (l ∷ ls) s (k ∷ ks) =
     let p = R.step (rigOf g cycles) s k in
-    ap (λ (w : List ℕ). textOf (letterOf (saidOf l)) (answerBy (p .answer .code) (p .answer .report)) (p .next .count) (p .next .running) (p .lent) ++ w)
+    ap (λ (w : List ℕ). textOf (letterOf (saidOf l)) (answerOf (answerBy (p .answer .code) (p .answer .report))) (p .next .count) (p .next .running) (p .lent) ++ w)
     (printed-ruled g cycles ls (p .next) ks)
 
 abbrev startRuled : G.Rig → List ℕ

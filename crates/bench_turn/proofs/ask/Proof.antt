@@ -1,7 +1,7 @@
-use mathlib.Core.Path.{sym, subst}
+use mathlib.Core.Path.{refl, sym, subst}
 use Rattle.exec.specs.declared.Answer.the-variants.{Refused}
 use Rattle.bench_script.specs.declared.Said.{Said}
-use Rattle.bench_turn.specs.TurnLaws.{Made}
+use Rattle.bench_turn.specs.TurnLaws.{wrongShape, Made}
 use borrow.Author.Needs.{needs}
 use Rattle.bench_turn.proofs.ask.Statement.{statement}
 use Rattle.bench_turn.proofs.ask.Tie as tie
@@ -112,7 +112,7 @@ returns-11 : tie.Need-returns-11
 returns-11 c = subst (λ (x : Said). Made (c .before .before .before .before .before .args .e) x (c .before .before .before .before .before .args .words .now) (c .read-flag .result) (c .before .before .before .before .before .args .words .now)) (sym (c .before .before .said9 .given .1)) (c .read-flag .ensures)
 
 returns-12 : tie.Need-returns-12
-returns-12 c = subst (λ (x : Said). Made (c .before .before .before .args .e) x (c .before .before .before .args .words .now) (record { exec = c .before .before .before .args .e; answer = Refused 1 }) (c .before .before .before .args .words .now)) (sym (c .enum-told3 .given .1)) tt
+returns-12 c = subst (λ (x : Said). Made (c .before .before .before .args .e) x (c .before .before .before .args .words .now) (record { exec = c .before .before .before .args .e; answer = Refused wrongShape }) (c .before .before .before .args .words .now)) (sym (c .enum-told3 .given .1)) refl
 
 pub ask-spec : {M : Type 1} → statement M
 ask-spec =

@@ -1,5 +1,6 @@
 use native.Mathlib.Omega.{arith}
 use lib.ListN.{length-take}
+use Rattle.exec.specs.Call.{reportOf}
 use Rattle.bench_turn.specs.TurnLaws.{extra-words, extra-value, extra-nothing}
 use borrow.Author.Needs.{needs}
 use Rattle.bench_turn.proofs.put_extra.Statement.{statement}
@@ -29,7 +30,7 @@ returns : tie.Need-returns
 returns c =
     let s = c .before .before .before .before .before .before .before .before .before in
     let w = c .before .before .put-words in
-    extra-words (s .args .verb) (s .args .report) (s .args .words .now) (s .args .out .now) (w .last .0) (s .args .at) (w .result) (c .before .before .before .before .before .before .if1 .taken) (c .before .before .before .before .before .least .result) (c .before .before .before .before .before .least .ensures) (w .ensures)
+    extra-words (s .args .verb) (reportOf (s .args .report)) (s .args .words .now) (s .args .out .now) (w .last .0) (s .args .at) (w .result) (c .before .before .before .before .before .before .if1 .taken) (c .before .before .before .before .before .least .result) (c .before .before .before .before .before .least .ensures) (w .ensures)
 
 put-field-requires : tie.Need-put-field-requires
 put-field-requires c κs = search needs
@@ -41,12 +42,12 @@ returns-2 : tie.Need-returns-2
 returns-2 c =
     let s = c .before .before .before .before .before .before .before .before in
     let w = c .before .before .put-field in
-    extra-value (s .args .verb) (s .args .report) (s .args .words .now) (s .args .out .now) (w .last .0) (s .args .at) (w .result) (c .before .before .before .before .before .if1 .left) (c .before .before .before .before .if2 .taken) (w .ensures)
+    extra-value (s .args .verb) (reportOf (s .args .report)) (s .args .words .now) (s .args .out .now) (w .last .0) (s .args .at) (w .result) (c .before .before .before .before .before .if1 .left) (c .before .before .before .before .if2 .taken) (w .ensures)
 
 returns-3 : tie.Need-returns-3
 returns-3 c =
     let s = c .before .before .before .before in
-    extra-nothing (s .args .verb) (s .args .report) (s .args .words .now) (s .args .out .now) (s .args .at) (c .before .if1 .left) (c .if2 .left)
+    extra-nothing (s .args .verb) (reportOf (s .args .report)) (s .args .words .now) (s .args .out .now) (s .args .at) (c .before .if1 .left) (c .if2 .left)
 
 pub put-extra-spec : {M : Type 1} → statement M
 put-extra-spec =

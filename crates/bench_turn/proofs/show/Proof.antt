@@ -4,7 +4,7 @@ use Prim.Native.Nat.{ℕ, _+_, _≤_, _<_}
 use native.Mathlib.Omega.{arith}
 use lib.ListN.{length, set, length-set}
 use Rattle.bench_script.specs.Output.{fieldsText}
-use Rattle.bench_script.specs.Written.{Wrote}
+use Rattle.bench_script.specs.Wrote.{Wrote}
 use Rattle.bench_turn.specs.TurnLaws.{headOf, after-head, shown-refused, after-extra, shown-accepted}
 use borrow.Author.Needs.{needs}
 use Rattle.bench_turn.proofs.show.Statement.{statement}
@@ -63,14 +63,14 @@ same-length c =
     let s = c .before .before .before .before .before .before .before .before .before in
     let a = s .args in
     let p = c .before .before .before .before .put-answer in
-    shown-refused (a .verb) (a .answer) (a .count) (a .running) (a .words .now) (a .out .now) (a .at) (s .pre .0) (s .pre .1) (p .last .0) (p .result) (wrote (c .before .before .before .before)) _ (c .enum-told .given .1) .size
+    shown-refused (a .verb) (a .answer) (a .count) (a .running) (a .words .now) (a .out .now) (a .at) (s .pre .0) (s .pre .1) (p .last .0) (p .result) (wrote (c .before .before .before .before)) _ (c .enum-told .given .1) (s .pre .2) .size
 
 returns : tie.Need-returns
 returns c =
     let s = c .before .before .before .before .before .before .before .before .before in
     let a = s .args in
     let p = c .before .before .before .before .put-answer in
-    shown-refused (a .verb) (a .answer) (a .count) (a .running) (a .words .now) (a .out .now) (a .at) (s .pre .0) (s .pre .1) (p .last .0) (p .result) (wrote (c .before .before .before .before)) _ (c .enum-told .given .1)
+    shown-refused (a .verb) (a .answer) (a .count) (a .running) (a .words .now) (a .out .now) (a .at) (s .pre .0) (s .pre .1) (p .last .0) (p .result) (wrote (c .before .before .before .before)) _ (c .enum-told .given .1) (s .pre .2)
 
 put-extra-requires : tie.Need-put-extra-requires
 put-extra-requires c κs =

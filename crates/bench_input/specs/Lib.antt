@@ -1,0 +1,5 @@
+pub mod Opening
+pub mod Line
+pub mod Scanning
+pub mod LineLaws
+pub mod RigEnd

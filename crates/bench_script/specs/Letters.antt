@@ -1,0 +1,63 @@
+-- THE BYTES OF SCRIPT AND OUTPUT, by name.
+use Prim.Native.Nat.{ℕ}
+use mathlib.Core.List.{List, [], _∷_}
+
+-- "Lines end in LF; fields are parted by one tab"
+abbrev pub lf : ℕ
+lf = 10
+
+abbrev pub tab : ℕ
+tab = 9
+
+-- "S, X, Z task (schedule, cancel, terminate); F; K (tick); U count; R cycles; L or N flag value (latched, unlatched wait);
+-- G flag value; Q flag"
+abbrev pub scheduleVerb : ℕ
+scheduleVerb = 83
+
+abbrev pub cancelVerb : ℕ
+cancelVerb = 88
+
+abbrev pub terminateVerb : ℕ
+terminateVerb = 90
+
+abbrev pub finishVerb : ℕ
+finishVerb = 70
+
+abbrev pub tickVerb : ℕ
+tickVerb = 75
+
+abbrev pub untilVerb : ℕ
+untilVerb = 85
+
+abbrev pub cyclesVerb : ℕ
+cyclesVerb = 82
+
+abbrev pub latchedVerb : ℕ
+latchedVerb = 76
+
+abbrev pub unlatchedVerb : ℕ
+unlatchedVerb = 78
+
+abbrev pub signalVerb : ℕ
+signalVerb = 71
+
+abbrev pub askVerb : ℕ
+askVerb = 81
+
+-- "any other script line .. prints ? alone"
+abbrev pub question : ℕ
+question = 63
+
+-- the letters of RUN
+abbrev pub runR : ℕ
+runR = 82
+
+abbrev pub runU : ℕ
+runU = 85
+
+abbrev pub runN : ℕ
+runN = 78
+
+-- the name of the first output line
+abbrev pub startName : List ℕ
+startName = 83 ∷ 84 ∷ 65 ∷ 82 ∷ 84 ∷ []

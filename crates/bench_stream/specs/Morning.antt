@@ -1,0 +1,45 @@
+-- A BENCH MORNING: the whole output of a whole input, in the rules' words.
+-- "The bench runner reads from standard input a rig, the line RUN, then script lines .. It takes each answer apart and prints .."
+use Prim.Native.Nat.{ℕ, _+_}
+use mathlib.Core.Bool.{cond}
+use mathlib.Core.List.{List, [], _∷_, _++_}
+use lib.Dec.{eqb}
+use lib.ListN.{take, drop}
+use Rattle.text.specs.Split.{split}
+use Rattle.rules.specs.Rig as G
+use Rattle.rules.specs.State as S
+use Rattle.rules.specs.Calls as R
+use Rattle.exec_state.specs.View.{rigOf}
+use Rattle.rig_build.specs.declared.Answer.{Answer}
+use Rattle.rig_build.specs.Read.{readOf}
+use Rattle.bench_script.specs.Letters.{lf, startName}
+use Rattle.bench_script.specs.Output.{lineText}
+use Rattle.bench_script.specs.Input.{rigEnd}
+use Rattle.bench_input.specs.Opening.{runLine}
+use Rattle.bench_input.specs.Line.{lastText}
+use Rattle.bench_turn.specs.Turn.{turnText, turnNext}
+
+-- the rules' rig of an accepted file
+abbrev pub fileRig : Answer → G.Rig
+fileRig a = rigOf (a .rig) (a .cycles)
+
+-- "A refused rig prints START, number, line"; an accepted one START with the columns of every answer
+unfoldable pub startText : Answer → List ℕ
+startText a =
+    cond (eqb (a .no) 0)
+    (lineText startName (0 ∷ R.start (fileRig a) .count ∷ R.start (fileRig a) .running ∷ []))
+    (lineText startName (a .no ∷ a .line ∷ []))
+
+-- "then script lines": each piece that an LF ends has its turn, one after the other; the last piece has none behind it
+unfoldable pub talkText : G.Rig → S.State → List (List ℕ) → List ℕ
+talkText r s [] = []
+talkText r s (last ∷ []) = lastText last
+talkText r s (line ∷ next ∷ lines) = turnText r s line ++ talkText r (turnNext r s line) (next ∷ lines)
+
+-- "A refused rig prints START, number, line, and ends."
+unfoldable pub wholeText : Answer → List ℕ → List ℕ
+wholeText a script = startText a ++ cond (eqb (a .no) 0) (talkText (fileRig a) (R.start (fileRig a)) (split lf script)) []
+
+-- "a rig, the line RUN, then script lines"; "Without RUN the whole input is the rig."
+unfoldable pub morningText : List ℕ → List ℕ
+morningText input = wholeText (readOf (take (rigEnd input) input)) (drop (rigEnd input + runLine) input)

@@ -1,0 +1,64 @@
+-- THE BENCH MORNING, from the bytes of its input to the bytes of its output: what the bench owes for the paper's whole input is the
+-- paper's whole output.
+use mathlib.Core.Path.{_≡_, refl, _∙_, ap}
+use mathlib.Core.List.{List, [], _∷_, _++_}
+use Prim.Native.Nat.{ℕ, _+_}
+use lib.ListN.{take, drop}
+use Rattle.laws.specs.Iter.{iter}
+use Rattle.laws.specs.All.{all}
+use Rattle.laws.specs.Any.{any}
+use Rattle.laws.specs.Tables.{total, over}
+use Rattle.laws.specs.Put.{put}
+use Rattle.word_parts.specs.Packed.{commandWord}
+use Rattle.text.specs.Split.{onHead, split, led}
+use Rattle.decimal.specs.Decimal as D
+use Rattle.rules.specs.Rig as G
+use Rattle.rules.specs.State as S
+use Rattle.rules.specs.State.{blank}
+use Rattle.rules.specs.Conditions.{relax, met, drive, names}
+use Rattle.rules.specs.Serving.{activate, takes, rouse, wake, ready, offer, offers, serveFlag, serving, serve}
+use Rattle.rules.specs.Waiting.{waitOn, waitUntilCount, leave, wakeDue}
+use Rattle.rules.specs.Family.{family, cleared, deserted, offs}
+use Rattle.rules.specs.Running.{best, chosen, dispatch}
+use Rattle.rules.specs.Bus.{written, copied, rowWords, busWords}
+use Rattle.rules.specs.Calls as R
+use Rattle.rules.specs.Scripts.{bench, rig, ofTask, ofCondition, numbers, ofLine, ofCycle, tick₀, morningCalls}
+use Rattle.rig_build.specs.declared.Answer.{Answer}
+use Rattle.rig_build.specs.Read.{readOf, accepted}
+use Rattle.bench_script.specs.Input.{rigEnd}
+use Rattle.bench_script.specs.Script as C
+use Rattle.bench_script.specs.Script.{saidOf}
+use Rattle.bench_script.specs.Output.{fieldsText, lineText}
+use Rattle.bench_input.specs.Line.{lastText}
+use Rattle.bench_turn.specs.Turn as U
+use Rattle.bench_turn.specs.Turn.{askedBy}
+use Rattle.bench_stream.specs.Morning.{startText, talkText, wholeText, morningText}
+use Rattle.witness.specs.Text.{bytes, lf}
+use Rattle.witness.specs.CodeRig.{codeCycles}
+use Rattle.witness.specs.MorningText.{morningFile, morningScript, morningInput, morningOutput}
+use Rattle.witness.specs.RightRigs.{morningRig}
+use Rattle.witness.specs.Morning.{morning-rig, morning-read}
+use Rattle.witness.specs.MorningRun.{input-rig, input-script}
+use Rattle.exec_state.specs.View.{rigOf}
+use Rattle.bench_script.specs.Letters.{startName}
+
+-- what is printed for the rules' rig r and the pieces of a script
+abbrev told : G.Rig → List (List ℕ) → List ℕ
+told r pieces = lineText startName (0 ∷ R.start r .count ∷ R.start r .running ∷ []) ++ talkText r (R.start r) pieces
+
+computed : told bench (morningScript ++ [] ∷ []) ≡ morningOutput
+unfolding bytes morningScript morningOutput bench morningCalls rig ofTask ofCondition numbers ofLine ofCycle tick₀ iter all any total over put commandWord blank relax met drive names activate takes rouse wake ready offer offers serveFlag serving serve waitOn waitUntilCount leave wakeDue family cleared deserted offs best chosen dispatch written copied rowWords busWords R.scheduled R.finished R.terminated R.cancelled R.cycleQueue R.ticked R.effect R.decide R.noSuch R.inCycle R.isMinor R.isActivation R.lastCount R.wrongBlock R.refusals R.refusal R.wordsAt R.lent R.output R.accepted R.after R.step R.run R.started R.start saidOf C.fieldsSay C.verbOf C.alone C.withNumber C.withValue split onHead led D.step D.run D.decBy D.dec fieldsText lineText U.extra U.numbersOf U.textOf talkText lastText U.turnText U.turnNext U.askedText U.askedNext askedBy
+computed = refl
+
+accepted-text : (script : List ℕ) → wholeText (accepted morningRig (codeCycles bench)) script ≡ told (rigOf morningRig (codeCycles bench)) (split lf script)
+unfolding wholeText startText
+accepted-text script = refl
+
+pub morning-text : morningText morningInput ≡ morningOutput
+unfolding morningText
+morning-text =
+    ap (λ (a : Answer). wholeText a (drop (rigEnd morningInput + 4) morningInput)) (ap readOf input-rig ∙ morning-read)
+    ∙ accepted-text (drop (rigEnd morningInput + 4) morningInput)
+    ∙ ap (told (rigOf morningRig (codeCycles bench))) input-script
+    ∙ ap (λ (r : G.Rig). told r (morningScript ++ [] ∷ [])) morning-rig
+    ∙ computed
