@@ -58,8 +58,8 @@ runs() {
     expect 0 "^S${tab}8${tab}0${tab}1$" ./bench rigs/refusals.rig
     expect 1 "^START${tab}3${tab}6$" ./bench rigs/broken/order.rig
     expect_in 1 "^START${tab}1${tab}1$" './bench < /dev/null'
-    expect 0 '^\(right\|accepted\)' ./rigcheck rigs/morning-rig.rig
-    expect_in 0 '^\(right\|accepted\)' './rigcheck < rigs/morning-rig.rig'
+    expect 0 '^right' ./rigcheck rigs/morning-rig.rig
+    expect_in 0 '^right' './rigcheck < rigs/morning-rig.rig'
     expect 1 '^refused' ./rigcheck rigs/broken/order.rig
     expect_in 1 '^refused' './rigcheck < rigs/broken/order.rig'
 }
