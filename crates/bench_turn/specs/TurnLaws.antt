@@ -12,6 +12,7 @@ use borrow.Author.Tests.{eq-eqb, ne-eqb, leb-true, leb-false}
 use Rattle.laws.specs.Cases.{by, if-yes, if-no}
 use Rattle.exec.specs.Call.{bit, reportOf, answerOf, Proper, refuse, Meets}
 use Rattle.exec.specs.Call.{withState}
+use Rattle.exec_refusals.specs.Numbers.{notSound}
 use Rattle.exec.specs.declared.Exec.{Exec}
 use Rattle.exec.specs.declared.Report.{Report}
 use Rattle.exec.specs.declared.Step.{Step}
@@ -66,7 +67,7 @@ kept : (e : Exec) (k : R.Call) (s : Step) (ws : List ℕ) → Meets e k s ws →
 kept e k s ws m =
     ⊎-elim
     (λ w. λ i. record { rig = w .1 .rig i; cycles = w .1 .cycles i; st = s .exec .st })
-    (λ w. let q : s .exec ≡ e = ap (λ (x : Step). x .exec) (w .1) in q ∙ ap (λ (x : Exec). withState e (x .st)) (sym q))
+    (λ w. let q : s .exec ≡ e = w .1 .exec in q ∙ ap (λ (x : Exec). withState e (x .st)) (sym q))
     (m .is)
 
 -- the line of a call
@@ -166,10 +167,18 @@ refused-code : (a : Answer) (k : ℕ) → a ≡ Refused k → Proper a → answe
 refused-code (Accepted p) k e z q = let y : _≡_ {A = ℕ} 0 1 = cc in absurd (omega (arith, y))
 refused-code (Refused n) k e z q = z q
 
+-- an answer of a refusal's number is proper
+number-proper : (a : Answer) (n : ℕ) → answerOf a .code ≡ n → n ≢ 0 → Proper a
+number-proper (Accepted p) n e z = tt
+number-proper (Refused m) n e z = λ q. z (sym e ∙ q)
+
 -- what a call that was made answers is proper
 meets-proper : (e : Exec) (k : R.Call) (s : Step) (ws : List ℕ) → Meets e k s ws → Proper (s .answer)
 meets-proper e k s ws m =
-    ⊎-elim (λ w. w .1 .proper) (λ w. subst (λ (x : Step). Proper (x .answer)) (sym (w .1)) (λ q. omega (arith, q))) (m .is)
+    ⊎-elim
+    (λ w. w .1 .proper)
+    (λ w. number-proper (s .answer) notSound (ap (λ (a : R.Answer). a .code) (w .1 .answer)) (λ q. omega (arith, q)))
+    (m .is)
 
 pub made-proper : (e : Exec) (said : Said) (ws : List ℕ) (s : Step) (vs : List ℕ) → Made e said ws s vs → Proper (s .answer)
 made-proper e (Schedule t) ws s vs m = meets-proper e (R.schedule t) s [] m
