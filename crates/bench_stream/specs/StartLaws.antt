@@ -14,6 +14,7 @@ use Rattle.rig.specs.declared.Cycle.{Cycle}
 use Rattle.rules.specs.State as S
 use Rattle.rules.specs.Calls as R
 use Rattle.exec_state.specs.View.{rigOf}
+use Rattle.exec.specs.Call.{answerOf, Proper}
 use Rattle.exec.specs.Sound.{rigIn, view}
 use Rattle.exec.specs.Starting.{Starts, Started}
 use Rattle.exec.specs.declared.Step.{Step}
@@ -92,9 +93,8 @@ module _ (text out written : List ℕ) (a : Answer) (e : a ≡ readOf text) wher
 
     pub never-refused : (n : ℕ) → st .answer ≡ Refused n → ⊥
     never-refused n q =
-        let f = its-start .answer in
-        let y : _≡_ {A = ℕ} 0 1 = cc in
-        omega (arith, y)
+        let f : n ≡ 0 = sym (ap (λ x. answerOf x .code) q) ∙ ap (λ (x : R.Answer). x .code) (its-start .answer) in
+        subst Proper q (its-start .proper) f
 
     its-rig : rigIn (st .exec) ≡ fileRig a
     its-rig = λ i. rigOf (its-start .rig i) ((its-start .cycles ∙ rows) i)
