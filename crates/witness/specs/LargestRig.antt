@@ -149,7 +149,7 @@ lines k h =
     let a = line-at k h in
     (omega (arith, a .0), omega (arith, a .0, h), omega (arith, a .1), a .2)
 
-line-place : (k : ℕ) → k < 1024 → G.place (largest .lineTask k) (largest .linePos k) ≡ 16 + k
+line-place : (k : ℕ) → k < 1024 → G.placeOf (largest .lineTask k) (largest .linePos k) ≡ 16 + k
 line-place k h = let a = line-at k h in omega (arith, a .0, a .1)
 
 activations : (t : ℕ) → t < 65 → largest .activation t ≡ t
@@ -244,12 +244,12 @@ largest-right =
           seen (λ (r : G.Rig). r .activation t ≡ r .activation u → t ≡ u) (λ e. sym (activations t h) ∙ e ∙ activations u b);
       activation-not-minor = λ t h. not-minor _ (inl (seen (λ (r : G.Rig). r .activation t < 65) (omega (arith, activations t h))));
       line-has-condition = λ k h.
-          seen (λ (r : G.Rig). r .present (G.place (r .lineTask k) (r .linePos k)) ≡ 1)
+          seen (λ (r : G.Rig). r .present (G.placeOf (r .lineTask k) (r .linePos k)) ≡ 1)
           (ap (largest .present) (line-place k h) ∙ condition-at (16 + k) (omega arith) (omega arith));
       condition-has-line = λ p h n.
           let c = seen (λ (r : G.Rig). r .present p ≢ 0 → (16 ≤ p) × (p < 1040)) (condition-numbers p) n in
           let b : p - 16 < 1024 = omega (arith, c .0, h) in
-          (p - 16, b, seen (λ (r : G.Rig). G.place (r .lineTask (p - 16)) (r .linePos (p - 16)) ≡ p) (omega (arith, line-place (p - 16) b, c .0)));
+          (p - 16, b, seen (λ (r : G.Rig). G.placeOf (r .lineTask (p - 16)) (r .linePos (p - 16)) ≡ p) (omega (arith, line-place (p - 16) b, c .0)));
       minor-conditions = λ k h m. absurd (not-minor _ (inr (seen (λ (r : G.Rig). 79 < r .lineFlag k) (omega (arith, lines k h .3)))) m);
       sender-differs = λ k h. subst (λ (b : Row). b .sender ≢ b .receiver) (sym (row-is k h)) (rows k h .1);
       task-zeros = λ t h n.

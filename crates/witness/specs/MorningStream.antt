@@ -55,7 +55,7 @@ unfolding wholeText startText
 accepted-text script = refl
 
 pub morning-text : morningText morningInput ≡ morningOutput
-unfolding morningText
+unfolding morningText bytes
 morning-text =
     ap (λ (a : Answer). wholeText a (drop (rigEnd morningInput + 4) morningInput)) (ap readOf input-rig ∙ morning-read)
     ∙ accepted-text (drop (rigEnd morningInput + 4) morningInput)

@@ -26,9 +26,8 @@ use Rattle.exec_state.specs.declared.State.{State}
 use Rattle.exec.specs.Sound.{rigIn, view, Sound}
 use Rattle.exec.specs.Call.{Follows, Meets, answerOf, refuse}
 use Rattle.exec.specs.Call as C
-use Rattle.exec.specs.Starting.{servedOnly}
 use Rattle.exec_sound.specs.RightRig.{rig-ok}
-use Rattle.exec.specs.Starting.{Started, Starts, noExec}
+use Rattle.exec.specs.Starting.{Started, Starts, noExec, servedOnly, brokenRig}
 use Rattle.exec.specs.Laws.Unique.{record-same, meets-same}
 use Rattle.exec.specs.declared.Exec.{Exec}
 use Rattle.exec.specs.declared.Step.{Step}
@@ -66,7 +65,7 @@ abbrev pub begunOf : Rig → List Cycle → Step
 begunOf g cycles =
     record {
       exec = recordOf g cycles (R.start (rigOf g cycles));
-      answer = Accepted (servedOnly (R.started (rigOf g cycles) .served));
+      answer = answerBy 0 (servedOnly (R.started (rigOf g cycles) .served));
     }
 
 abbrev pub madeOf : Rig → List Cycle → S.State → R.Call → Made
@@ -137,7 +136,7 @@ module _ (g : Rig) (cycles : List Cycle) (right : Right g cycles) where
   pub started : Started g cycles (begunOf g cycles)
   started =
       let h = start-sound (rigOf g cycles) (rig-ok g cycles right) in
-      record { next = record-shows (R.start (rigOf g cycles)) h; answer = refl; rig = refl; cycles = refl; sound = record-sound (R.start (rigOf g cycles)) h }
+      record { next = record-shows (R.start (rigOf g cycles)) h; answer = refl; proper = tt; rig = refl; cycles = refl; sound = record-sound (R.start (rigOf g cycles)) h }
 
   -- ---- a call
 
@@ -193,7 +192,7 @@ pub start-any : (g : Rig) (table : List (List ℕ)) → (r : Step) × Starts g t
 start-any g table =
     by (rightB g (cyclesOf table))
     (λ e. let h = right-is g (cyclesOf table) .0 e in (begunOf g (cyclesOf table), record { is = inl (h, started g (cyclesOf table) h) }))
-    (λ e. (refuse noExec 4, record { is = inr ((λ h. true≢false (sym (right-is g (cyclesOf table) .1 h) ∙ e)), refl) }))
+    (λ e. (refuse noExec brokenRig, record { is = inr ((λ h. true≢false (sym (right-is g (cyclesOf table) .1 h) ∙ e)), record { exec = refl; answer = refl }) }))
 
 -- a sound record is the one that shows what it shows
 sound-record : (x : Exec) → Sound x → recordOf (x .rig) (x .cycles) (view x) ≡ x
