@@ -3,7 +3,7 @@
  * Link with libalgolmallet.a, which `./install PREFIX` puts beside this header's folder (pkg-config algolmallet); in the repository it
  * is target/staticlib/libhost.a, which `rt staticlib host` proves and writes. It is for x86-64. The archive has the entries below and
  * nothing else that can be seen from outside, keeps no memory of its own, uses no heap, and needs of the host only
- *     memcpy memmove memset
+ *     memcpy memset
  * The words in quotes are the build paper's.
  *
  * WHAT A HOST DOES. It keeps memory for one record, has algolmallet_start fill it from a rig file, and lends it to each

@@ -20,6 +20,10 @@ unfoldable pub lastText : List ℕ → List ℕ
 lastText [] = []
 lastText (b ∷ bytes) = wrongText
 
+-- the number of a line as it is printed; no rig file has a line of a larger one
+unfoldable pub lineNumber : ℕ → ℕ
+lineNumber n = cond (ltb n 65536) n 0
+
 -- the line's bytes are kept in a table, from its front on
 pub record Holds (line : List ℕ) (held b : ℕ) (after : List ℕ) (r : ℕ) : Type 0 where
   pub is : take r after ≡ withMore (take held line) b

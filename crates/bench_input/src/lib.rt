@@ -5,13 +5,16 @@ ghost use Prim.Native.Nat.{_≤_, _<_};
 ghost use lib.ListN.{length, take};
 ghost use Rattle.bench_script.specs.Wrote.{Wrote};
 ghost use Rattle.bench_input.specs.Opening.{full, runEnds, lineStart, Scans};
-ghost use Rattle.bench_input.specs.Line.{lineRoom, lastText, Holds};
+ghost use Rattle.bench_input.specs.Line.{lineRoom, lastText, lineNumber, Holds};
 
 // "rig file up to 40,960 bytes", and the four of the line RUN: by then it is known where the rig ends.
 pub const KEEP: usize = 40964;
 
 // Of a script line so many bytes are kept that a longer one shows as too long: no line that says anything has more than 14.
 pub const LINE: usize = 16;
+
+// Above any line's number of a rig file.
+const LINES: usize = 65536;
 
 // The bytes that are kept, where their last line starts, how many of the piece were taken, and whether the rig's text is
 // whole: then it ends at `from`.
@@ -85,11 +88,11 @@ pub fn hold(line: &mut [u8; LINE], held: usize, b: u8) -> usize
     requires { ⌜ (length (now line) ≡ lineRoom) × (held ≤ lineRoom) ⌝ }
     ensures { λ r. ⌜ Holds (now (line .entry)) held b (now (line .exit)) r ⌝ }
 {
-    if held < LINE {
-        line[held] = b;
-        return held + 1;
+    if LINE <= held {
+        return held;
     }
-    held
+    line[held] = b;
+    held + 1
 }
 
 // A last line without LF is of wrong shape; there is none if it has no byte.
@@ -101,4 +104,11 @@ pub fn put_last(out: &mut [u8], line: &[u8]) -> usize
         return bench_script::put_wrong(out, 0);
     }
     0
+}
+
+// The number of a line as it is printed: a rig file of at most 40,960 bytes has no line of a larger one.
+pub fn line_number(n: usize) -> u32
+    ensures { λ r. ⌜ r ≡ lineNumber n ⌝ }
+{
+    if n < LINES { n as u32 } else { 0 }
 }

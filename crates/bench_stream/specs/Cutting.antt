@@ -14,14 +14,15 @@ use Rattle.laws.specs.Put.{put}
 use Rattle.bench_script.specs.Output.{turnRoom}
 use Rattle.bench_script.specs.Wrote.{Wrote, wrote-same}
 use Rattle.bench_input.specs.Opening.{full}
-use Rattle.bench_stream.specs.Morning.{morningText}
-use Rattle.bench_stream.specs.Desk.{Desk, begun, after, said, last}
-use Rattle.bench_stream.specs.DeskLaws.{after-append, said-append}
-use Rattle.bench_stream.specs.Whole.{whole-morning}
-use Rattle.bench_stream.specs.Feeding.{deskOf, HoldsIn, beginning, Moves, Feeds, Ends}
+use Rattle.bench_morning.specs.Morning.{morningText}
+use Rattle.bench_morning.specs.Desk.{Desk, begun, after, said, last}
+use Rattle.bench_morning.specs.DeskLaws.{after-append, said-append}
+use Rattle.bench_morning.specs.Whole.{whole-morning}
+use Rattle.bench_morning.specs.Stream.{deskOf, HoldsIn, beginning}
+use Rattle.bench_stream.specs.Feeding.{Moves, Feeds, Ends}
 use Rattle.bench_stream.specs.Fits.{ready-takes}
-use Rattle.bench_stream.specs.declared.Stream.{Stream}
-use Rattle.bench_stream.specs.declared.Fed.{Fed}
+use Rattle.bench_morning.specs.declared.Stream.{Stream}
+use Rattle.bench_morning.specs.declared.Fed.{Fed}
 
 -- a run of feeds from the beginning: the bytes read, the bytes written, the stream and its buffer then. Pieces and rooms are any.
 pub data Run : List ℕ → List ℕ → Stream → List ℕ → Type 0 where

@@ -13,17 +13,19 @@ use Rattle.bench_script.specs.Output.{turnRoom}
 use Rattle.bench_script.specs.Wrote.{Wrote, wrote-then, wrote-as, wrote-none, wrote-fits}
 use Rattle.rig_build.specs.Read.{readOf}
 use Rattle.bench_input.specs.Line.{lastText}
-use Rattle.bench_stream.specs.Morning.{startText}
-use Rattle.bench_stream.specs.Desk.{Desk, over, after, said, last}
-use Rattle.bench_stream.specs.DeskLaws.{after-append, said-append, over-after, over-said}
-use Rattle.bench_stream.specs.Feeding.{deskBy, deskOf, HoldsBy, Moves}
-use Rattle.bench_stream.specs.Steps.{Begins, Opens, Talks}
-use Rattle.bench_stream.specs.TalkLaws.{at-line}
-use Rattle.bench_stream.specs.declared.Stream.{Stream}
-use Rattle.bench_stream.specs.declared.Fed.{Fed}
-use Rattle.bench_stream.specs.declared.Phase.{Phase}
-use Rattle.bench_stream.specs.declared.Phase.the-variants as P
-use Rattle.bench_stream.specs.declared.opening.Started as Line
+use Rattle.bench_morning.specs.Morning.{startText}
+use Rattle.bench_morning.specs.Desk.{Desk, over, after, said, last}
+use Rattle.bench_morning.specs.DeskLaws.{after-append, said-append, over-after, over-said}
+use Rattle.bench_morning.specs.Stream.{deskBy, deskOf, HoldsBy}
+use Rattle.bench_stream.specs.Feeding.{Moves}
+use Rattle.bench_morning.specs.Steps.{Begins, Opens}
+use Rattle.bench_talk.specs.Talks.{Talks}
+use Rattle.bench_talk.specs.TalkLaws.{at-line}
+use Rattle.bench_morning.specs.declared.Stream.{Stream}
+use Rattle.bench_morning.specs.declared.Fed.{Fed}
+use Rattle.bench_morning.specs.declared.Phase.{Phase}
+use Rattle.bench_morning.specs.declared.Phase.the-variants as P
+use Rattle.bench_morning.specs.declared.Started as Line
 
 module _ (s : Stream) (keep piece out : List ℕ) (room : turnRoom ≤ length out) (o : Fed) (kept mid : List ℕ) (w : Opens s keep piece out o kept mid) where
   -- before the line START nothing is said

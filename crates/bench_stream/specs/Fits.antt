@@ -10,10 +10,11 @@ use borrow.Author.Tests.{ltb-true, ltb-false}
 use Rattle.laws.specs.Cases.{by}
 use Rattle.bench_script.specs.Output.{turnRoom}
 use Rattle.bench_script.specs.Wrote.{Wrote, wrote-fits}
-use Rattle.bench_stream.specs.Desk.{said, last}
-use Rattle.bench_stream.specs.Feeding.{deskOf, HoldsIn, Ready, Moves, Feeds, Ends}
-use Rattle.bench_stream.specs.declared.Stream.{Stream}
-use Rattle.bench_stream.specs.declared.Fed.{Fed}
+use Rattle.bench_morning.specs.Desk.{said, last}
+use Rattle.bench_morning.specs.Stream.{deskOf, HoldsIn}
+use Rattle.bench_stream.specs.Feeding.{Ready, Moves, Feeds, Ends}
+use Rattle.bench_morning.specs.declared.Stream.{Stream}
+use Rattle.bench_morning.specs.declared.Fed.{Fed}
 
 front-fits : (out t m : List ℕ) (n : ℕ) → Wrote out 0 t m n → n ≤ length out
 front-fits out t m n w = let a = wrote-fits out 0 t m n (omega arith) w in let b = w .place in omega arith

@@ -1,12 +1,5 @@
-pub mod Morning
-pub mod Desk
-pub mod DeskLaws
-pub mod Whole
 pub mod Feeding
-pub mod Steps
-pub mod StartLaws
-pub mod OpenLaws
-pub mod TalkLaws
+pub mod ReadyLaws
 pub mod FeedLaws
 pub mod Fits
 pub mod Cutting

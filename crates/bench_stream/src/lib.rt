@@ -1,62 +1,12 @@
 // A bench morning as a stream: fed with any pieces of the input, it hands back what is to be written and the state to go on with.
-mod opening;
-mod talking;
-
 use bench_input::LINE;
-use exec::Exec;
-use opening::opened;
-use opening::start;
-use talking::talk;
+use bench_morning::Fed;
+use bench_morning::Phase;
+use bench_morning::Stream;
 ghost use mathlib.Core.Path.{_≡_};
 ghost use mathlib.Core.Logic.{_↔_};
 ghost use mathlib.Core.Bool.{true};
-ghost use Rattle.bench_stream.specs.Feeding.{beginning, nothingMore, Ready, Feeds, Ends};
-
-// Where a stream stands: in the rig's text; in the script; or behind a refused rig, where nothing more is said.
-pub enum Phase {
-    Opening,
-    Talking,
-    Over,
-}
-
-// A stream between two pieces of its input. In the rig's text: the bytes that are kept in the lent buffer, and where their last
-// line starts. In the script: the record, and the bytes of a line that is not ended yet.
-pub struct Stream {
-    pub phase: Phase,
-    pub at: usize,
-    pub from: usize,
-    pub line: [u8; LINE],
-    pub held: usize,
-    pub exec: Exec,
-}
-
-// The stream to go on with, how many bytes of the piece were taken and how many stand at the front of the output.
-pub struct Fed {
-    pub stream: Stream,
-    pub took: usize,
-    pub wrote: usize,
-}
-
-// Before the first byte.
-pub fn begin() -> Stream
-    ensures { λ r. ⌜ r ≡ beginning ⌝ }
-{
-    Stream {
-        phase: Phase::Opening,
-        at: 0,
-        from: 0,
-        line: [0; LINE],
-        held: 0,
-        exec: exec::none(),
-    }
-}
-
-// Behind all that there is to say.
-pub fn over() -> Stream
-    ensures { λ r. ⌜ r ≡ nothingMore ⌝ }
-{
-    opening::behind(Phase::Over, exec::none())
-}
+ghost use Rattle.bench_stream.specs.Feeding.{Ready, Feeds, Ends};
 
 // Whether a stream is one that `begin` and `feed` hand out, and there is room for what it may say.
 fn sane(s: Stream, kept: usize, room: usize) -> bool
@@ -98,7 +48,7 @@ pub fn feed(s: Stream, keep: &mut [u8], piece: &[u8], out: &mut [u8]) -> Fed
             wrote: 0,
         };
     }
-    let o = opened(s, keep, piece, &mut *out);
+    let o = bench_morning::opened(s, keep, piece, &mut *out);
     if !bench_script::has_room(out.len(), o.wrote) {
         return o;
     }
@@ -108,7 +58,7 @@ pub fn feed(s: Stream, keep: &mut [u8], piece: &[u8], out: &mut [u8]) -> Fed
         Phase::Opening => o,
         Phase::Talking => {
             let n = o.took;
-            let t = talk(next, &piece[n..], out, o.wrote);
+            let t = bench_talk::talk(next, &piece[n..], out, o.wrote);
             let stream = t.stream;
             Fed {
                 stream,
@@ -135,7 +85,7 @@ pub fn end(s: Stream, keep: &[u8], out: &mut [u8]) -> usize
     match phase {
         Phase::Opening => {
             let n = s.at;
-            let o = start(&keep[..n], out);
+            let o = bench_morning::start(&keep[..n], out);
             o.wrote
         }
         Phase::Talking => {

@@ -1,14 +1,14 @@
 // The bench runner: a rig, the line RUN and a script come in on standard input, a line for each goes out. What goes out is the
 // stream's to say (crate bench_stream); here it is read, fed and written.
 use bench_io::Input;
-use bench_stream::Phase;
-use bench_stream::Stream;
+use bench_morning::Phase;
+use bench_morning::Stream;
 ghost use mathlib.Core.Path.{_≡_};
 ghost use Prim.Native.Nat.{_≤_};
 ghost use lib.ListN.{length};
 ghost use Rattle.bench_script.specs.Output.{turnRoom};
 ghost use Rattle.bench_input.specs.Opening.{full};
-ghost use Rattle.bench_stream.specs.Feeding.{HoldsIn, nothingMore};
+ghost use Rattle.bench_morning.specs.Stream.{HoldsIn, nothingMore};
 
 // Bytes of a read, and of a write at most. The output is the same for any.
 const PIECE: usize = 65536;
@@ -18,7 +18,7 @@ fn failed(what: &[u8]) -> Stream
     ensures { λ r. ⌜ r ≡ nothingMore ⌝ }
 {
     os::fail(what);
-    bench_stream::over()
+    bench_morning::over()
 }
 
 // All of a piece is fed, and what it decides is written.
@@ -52,7 +52,7 @@ fn finish(s: Stream, keep: &[u8], out: &mut [u8]) {
 fn run(keep: &mut [u8], input: &mut [u8], out: &mut [u8])
     requires { ⌜ (full ≤ length (now keep)) × (turnRoom ≤ length (now out)) ⌝ }
 {
-    let mut stream = bench_stream::begin();
+    let mut stream = bench_morning::begin();
     let mut turns = u64::MAX;
     while 0 < turns {
         turns -= 1;

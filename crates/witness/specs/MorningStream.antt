@@ -32,7 +32,7 @@ use Rattle.bench_script.specs.Output.{fieldsText, lineText}
 use Rattle.bench_input.specs.Line.{lastText}
 use Rattle.bench_turn.specs.Turn as U
 use Rattle.bench_turn.specs.Turn.{askedBy}
-use Rattle.bench_stream.specs.Morning.{startText, talkText, wholeText, morningText}
+use Rattle.bench_morning.specs.Morning.{startText, talkText, wholeText, morningText}
 use Rattle.witness.specs.Text.{bytes, lf}
 use Rattle.witness.specs.CodeRig.{codeCycles}
 use Rattle.witness.specs.MorningText.{morningFile, morningScript, morningInput, morningOutput}

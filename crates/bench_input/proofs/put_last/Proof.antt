@@ -30,12 +30,12 @@ returns : tie.Need-returns
 returns c =
     let s = c .before .before .before .before .before .before .before .args in
     let w = c .before .before .put-wrong in
-    wrote-as (s .out .now) (w .last .0) wrongText (lastText (s .line .now)) 0 (w .result) (some (s .line .now) (c .before .before .before .before .if1 .taken)) (w .ensures)
+    wrote-as (s .out .now) (w .last .0) wrongText (lastText (s .line .now)) 0 (w .result) (some (s .line .now) (omega (arith, c .before .before .before .before .if1 .taken))) (w .ensures)
 
 returns-2 : tie.Need-returns-2
 returns-2 c =
     let s = c .before .before .before .args in
-    wrote-as (s .out .now) (s .out .now) [] (lastText (s .line .now)) 0 0 (none (s .line .now) (c .if1 .left)) (wrote-none (s .out .now) 0)
+    wrote-as (s .out .now) (s .out .now) [] (lastText (s .line .now)) 0 0 (none (s .line .now) (omega (arith, c .if1 .left))) (wrote-none (s .out .now) 0)
 
 pub put-last-spec : {M : Type 1} → statement M
 put-last-spec = tie.close (tie.spec put-wrong-requires same-length returns returns-2)

@@ -47,12 +47,12 @@ returns c =
 same-length-2 : tie.Need-same-length-2 Inv-loop μ-loop
 same-length-2 c =
     let l = c .before .before .before .before .before .before .loop in
-    scanning-full _ _ _ _ _ _ _ _ (l .inv) (c .before .before .before .before .before .loop-test .taken) (sym (c .before .before .run-ends .ensures) ∙ c .before .if1 .left) (c .if2 .taken) .wrote .size
+    scanning-full _ _ _ _ _ _ _ _ (l .inv) (c .before .before .before .before .before .loop-test .taken) (sym (c .before .before .run-ends .ensures) ∙ c .before .if1 .left) (omega (arith, c .if2 .taken)) .wrote .size
 
 returns-2 : tie.Need-returns-2 Inv-loop μ-loop
 returns-2 c =
     let l = c .before .before .before .before .before .before .loop in
-    scanning-full _ _ _ _ _ _ _ _ (l .inv) (c .before .before .before .before .before .loop-test .taken) (sym (c .before .before .run-ends .ensures) ∙ c .before .if1 .left) (c .if2 .taken)
+    scanning-full _ _ _ _ _ _ _ _ (l .inv) (c .before .before .before .before .before .loop-test .taken) (sym (c .before .before .run-ends .ensures) ∙ c .before .if1 .left) (omega (arith, c .if2 .taken))
 
 line-start-requires : tie.Need-line-start-requires Inv-loop μ-loop
 line-start-requires c κs = search needs

@@ -5,10 +5,11 @@ use mathlib.Core.Bool.{false, not, Bool·not-not, true≢false}
 use native.Mathlib.Omega.{arith}
 use lib.ListN.{length, length-take}
 use Rattle.bench_input.specs.Line.{lineRoom}
-use Rattle.bench_stream.specs.Feeding.{HoldsBy, Ready}
-use Rattle.bench_stream.specs.StartLaws.{holds-of}
+use Rattle.bench_morning.specs.Stream.{HoldsBy}
+use Rattle.bench_stream.specs.Feeding.{Ready}
+use Rattle.bench_stream.specs.ReadyLaws.{holds-of}
 use Rattle.bench_stream.specs.FeedLaws.{end-opening, end-talking, end-over}
-use Rattle.bench_stream.specs.declared.Phase.the-variants.{Opening, Talking}
+use Rattle.bench_morning.specs.declared.Phase.the-variants.{Opening, Talking}
 use borrow.Author.Needs.{needs}
 use Rattle.bench_stream.proofs.end.Statement.{statement}
 use Rattle.bench_stream.proofs.end.Tie as tie

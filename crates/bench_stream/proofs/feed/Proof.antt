@@ -8,11 +8,12 @@ use lib.ListN.{length, take, drop, length-drop}
 use lib.Seq.{take-all}
 use borrow.Author.Tests.{leb-true, leb-false}
 use Rattle.bench_script.specs.Output.{turnRoom}
-use Rattle.bench_stream.specs.Feeding.{HoldsBy, Ready}
-use Rattle.bench_stream.specs.Steps.{Talks}
+use Rattle.bench_morning.specs.Stream.{HoldsBy}
+use Rattle.bench_stream.specs.Feeding.{Ready}
+use Rattle.bench_talk.specs.Talks.{Talks}
 use Rattle.bench_stream.specs.FeedLaws.{feed-short, feed-opening, feed-talking, feed-over}
-use Rattle.bench_stream.specs.declared.Phase.{Phase}
-use Rattle.bench_stream.specs.declared.Phase.the-variants.{Talking}
+use Rattle.bench_morning.specs.declared.Phase.{Phase}
+use Rattle.bench_morning.specs.declared.Phase.the-variants.{Talking}
 use borrow.Author.Needs.{needs}
 use Rattle.bench_stream.proofs.feed.Statement.{statement}
 use Rattle.bench_stream.proofs.feed.Tie as tie

@@ -5,8 +5,8 @@ use native.Mathlib.Omega.{arith}
 use lib.ListN.{length, length-take}
 use Rattle.bench_script.specs.Output.{turnRoom}
 use Rattle.bench_io.specs.Brought.{Brings}
-use Rattle.bench_stream.specs.Feeding.{HoldsIn}
-use Rattle.bench_stream.specs.declared.Stream.{Stream}
+use Rattle.bench_morning.specs.Stream.{HoldsIn}
+use Rattle.bench_morning.specs.declared.Stream.{Stream}
 use Rattle.runner.proofs.run.Statement.{statement}
 use Rattle.runner.proofs.run.Tie as tie
 

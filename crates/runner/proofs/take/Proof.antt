@@ -4,9 +4,9 @@ use mathlib.Core.Path.{_≡_, refl, sym, _∙_, subst}
 use native.Mathlib.Omega.{arith}
 use lib.ListN.{length, take, drop, length-take, length-drop}
 use Rattle.bench_script.specs.Output.{turnRoom}
-use Rattle.bench_stream.specs.Feeding.{HoldsIn}
+use Rattle.bench_morning.specs.Stream.{HoldsIn}
 use Rattle.bench_stream.specs.Fits.{feeds-fit, ready-takes}
-use Rattle.bench_stream.specs.declared.Stream.{Stream}
+use Rattle.bench_morning.specs.declared.Stream.{Stream}
 use Rattle.runner.proofs.take.Statement.{statement}
 use Rattle.runner.proofs.take.Tie as tie
 
