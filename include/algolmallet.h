@@ -48,7 +48,7 @@ uint32_t algolmallet_version(void);
 
 /* Room for the longest text of a refusal, with the byte 0 that ends it; and the stack that a call may use. */
 #define ALGOLMALLET_TEXT_BYTES 144
-#define ALGOLMALLET_STACK_BYTES 102400
+#define ALGOLMALLET_STACK_BYTES 184320
 
 /* Opaque: what is in it is the library's. A host may copy it as bytes, to keep a state and come back to it; the few bytes that
  * alignment leaves between fields hold anything, so equal states need not be equal bytes. */
