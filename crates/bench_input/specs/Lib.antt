@@ -1,5 +1,3 @@
 pub mod Opening
 pub mod Line
-pub mod Scanning
-pub mod LineLaws
-pub mod RigEnd
+pub mod Laws

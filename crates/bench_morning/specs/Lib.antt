@@ -1,9 +1,4 @@
 pub mod Morning
-pub mod Cases
 pub mod Desk
-pub mod DeskLaws
-pub mod Whole
 pub mod Stream
-pub mod Steps
-pub mod StartLaws
-pub mod OpenLaws
+pub mod Laws

@@ -10,7 +10,7 @@ ghost use Rattle.bench_script.specs.Letters.{startName};
 ghost use Rattle.bench_script.specs.Output.{startRoom, lineText, turnRoom};
 ghost use Rattle.bench_script.specs.Wrote.{Wrote};
 ghost use Rattle.bench_morning.specs.Stream.{fresh, beginning, nothingMore, HoldsBy, HoldsIn};
-ghost use Rattle.bench_morning.specs.Steps.{Begins, Opens};
+ghost use Rattle.bench_morning.specs.Laws.Steps.{Begins, Opens};
 ghost use Rattle.bench_morning.specs.declared.Phase.the-variants.{Opening};
 
 // The number of a rig that breaks a rule; an accepted file's rig breaks none.

@@ -8,7 +8,7 @@ ghost use Rattle.bench_script.specs.Script.{verbOf, alone, withNumber, w
 ghost use Rattle.bench_script.specs.Output.{fieldsText, wrongText, fieldRoom, turnRoom};
 ghost use Rattle.bench_script.specs.Letters.{startName};
 ghost use Rattle.bench_script.specs.Wrote.{Wrote};
-ghost use Rattle.bench_script.specs.Written.{Begun};
+ghost use Rattle.bench_script.specs.Laws.Written.{Begun};
 ghost use Rattle.bench_script.specs.Input.{isRun, rigEnd};
 
 // Lines end in LF, and fields are parted by one tab.

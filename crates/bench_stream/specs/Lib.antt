@@ -1,5 +1,2 @@
 pub mod Feeding
-pub mod ReadyLaws
-pub mod FeedLaws
-pub mod Fits
-pub mod Cutting
+pub mod Laws

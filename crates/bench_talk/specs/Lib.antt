@@ -1,2 +1,2 @@
 pub mod Talks
-pub mod TalkLaws
+pub mod Laws

@@ -1,4 +1,2 @@
 pub mod Turn
-pub mod TurnLaws
-pub mod Same
-pub mod Ruled
+pub mod Laws

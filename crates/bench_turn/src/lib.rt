@@ -12,7 +12,7 @@ ghost use Rattle.bench_script.specs.Wrote.{Wrote};
 ghost use Rattle.bench_script.specs.Output.{fieldsText, turnRoom};
 ghost use Rattle.exec.specs.Call.{reportOf, answerOf, Proper};
 ghost use Rattle.bench_turn.specs.Turn.{letterOf, extraRoom, extra, textOf, tickWords, Turns};
-ghost use Rattle.bench_turn.specs.TurnLaws.{Made};
+ghost use Rattle.bench_turn.specs.Laws.Turn.{Made};
 
 // The number of a line that has the wrong shape.
 const WRONG_SHAPE: u8 = 1;

@@ -14,7 +14,7 @@ use Rattle.laws.specs.Members.{In, Distinct}
 use Rattle.chains.specs.Link.{Chain}
 use Rattle.chains.specs.Chains.{Chains, nodes-distinct}
 use Rattle.chains.specs.Ops.{walk, forward, reversed}
-use Rattle.chains.specs.Check.{accepted-sound, sound-accepted}
+use Rattle.chains.specs.Laws.Check.{accepted-sound, sound-accepted}
 use Rattle.chains.specs.Held.{at, Held, Sound}
 use Rattle.chains.specs.declared.Links.{Links}
 

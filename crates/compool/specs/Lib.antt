@@ -1,4 +1,3 @@
 pub mod View
 pub mod Post
-pub mod Blocks
-pub mod Words
+pub mod Laws

@@ -1,2 +1,1 @@
-pub mod Tick
-pub mod Blocks
+pub mod Laws

@@ -1,3 +1,2 @@
 pub mod Lines
-pub mod Driving
-pub mod Tests
+pub mod Laws

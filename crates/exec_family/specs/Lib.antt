@@ -1,2 +1,2 @@
 pub mod Post
-pub mod Leaving
+pub mod Laws

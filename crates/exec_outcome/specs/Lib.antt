@@ -1,4 +1,2 @@
 pub mod Outcome
-pub mod Meeting
-pub mod Tables
-pub mod Settling
+pub mod Laws

@@ -4,7 +4,7 @@ use exec_state::Work;
 use rig::Rig;
 ghost use mathlib.Core.Path.{_≡_};
 ghost use Rattle.exec_outcome.specs.Outcome.{refusedBy, keptWith};
-ghost use Rattle.exec_outcome.specs.Settling.{Settles, Settled};
+ghost use Rattle.exec_outcome.specs.Laws.Settling.{Settles, Settled};
 
 // The refusal's number is 0 for an accepted call. What a refused call tells is 0, and its state is as it was.
 pub struct Outcome {

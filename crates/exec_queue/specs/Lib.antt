@@ -1,3 +1,3 @@
 pub mod View
 pub mod Post
-pub mod Queued
+pub mod Laws

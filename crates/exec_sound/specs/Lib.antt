@@ -1,3 +1,2 @@
 pub mod Sound
-pub mod RightRig
-pub mod Check
+pub mod Laws

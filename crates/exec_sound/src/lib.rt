@@ -10,7 +10,7 @@ ghost use Rattle.laws.specs.All.{allOf};
 ghost use Rattle.chains.specs.Held.{Sized};
 ghost use Rattle.sound_chains.specs.Post.{linksOf};
 ghost use Rattle.exec_sound.specs.Sound.{SoundParts};
-ghost use Rattle.exec_sound.specs.Check.{Placed, tableTestsOf, ChainsSound};
+ghost use Rattle.exec_sound.specs.Laws.Check.{Placed, tableTestsOf, ChainsSound};
 
 // "count up to 2,147,483,647"
 const LAST_COUNT: u32 = 2147483647;

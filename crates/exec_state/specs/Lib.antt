@@ -1,9 +1,4 @@
 pub mod View
 pub mod Set
 pub mod Post
-pub mod Waking
-pub mod Due
-pub mod Offers
-pub mod Serving
-pub mod Waiting
-pub mod Effects
+pub mod Laws

@@ -6,7 +6,7 @@ use rig::Rig;
 ghost use mathlib.Core.List.{[]};
 ghost use Rattle.rules.specs.Calls.{schedule, cancel, terminate, finish};
 ghost use Rattle.exec_outcome.specs.Outcome.{Tells};
-ghost use Rattle.exec_tasks.specs.Starting.{Begins};
+ghost use Rattle.exec_tasks.specs.Laws.Starting.{Begins};
 
 // "States: 0 uninvoked, 1 inactive, 2 waiting, 3 dispatchable. Active is 2 or 3."
 const UNINVOKED: u8 = 0;

@@ -1,1 +1,1 @@
-pub mod Waits
+pub mod Laws

@@ -12,7 +12,7 @@ ghost use lib.Dec.{eqb};
 ghost use Rattle.rules.specs.Calls.{waitUntil, waitFor};
 ghost use Rattle.exec_refusals.specs.Bits.{bit};
 ghost use Rattle.exec_outcome.specs.Outcome.{Tells};
-ghost use Rattle.exec_waits.specs.Waits.{flagWait};
+ghost use Rattle.exec_waits.specs.Laws.Waits.{flagWait};
 
 // "count up to 2,147,483,647", as a number that a sum may pass
 const LAST_COUNT: u64 = 2147483647;

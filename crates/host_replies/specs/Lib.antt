@@ -1,4 +1,2 @@
 pub mod Told
-pub mod Beginning
-pub mod Same
-pub mod Promises
+pub mod Laws

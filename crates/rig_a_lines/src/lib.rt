@@ -6,7 +6,7 @@ ghost use Prim.Native.Nat.{_≤_, _<_};
 ghost use Rattle.laws.specs.All.{all};
 ghost use Rattle.laws.specs.Bits.{bit};
 ghost use Rattle.rig_tables.specs.Tests.{risesTest, linesRiseB, linesB};
-ghost use Rattle.rig_a_lines.specs.Passes.{betweenOne};
+ghost use Rattle.rig_a_lines.specs.Laws.Passes.{betweenOne};
 
 // 1 where the line of task u, position q and flag h does not stand behind that of t, p and f, else 0. No part of it is left
 // out by a branch: so many lines are compared at a time.

@@ -8,7 +8,7 @@ ghost use Prim.Native.Nat.{ℕ, _+_, _≤_, _<_};
 ghost use lib.Dec.{eqb};
 ghost use Rattle.laws.specs.Owners.{owners};
 ghost use Rattle.rig_tables.specs.Tests.{at, notMinorB, marked};
-ghost use Rattle.rig_activation.specs.Served.{servedB};
+ghost use Rattle.rig_activation.specs.Laws.Served.{servedB};
 
 // Whose activation flag each flag is: the task's number and 1 more, 0 for none.
 pub fn flag_owners(activation: &[u8; TASK_PLACES]) -> [u8; FLAG_PLACES]

@@ -5,7 +5,7 @@ ghost use mathlib.Core.Bool.{_&&_, not};
 ghost use Prim.Native.Nat.{_+_, _-_, _≤_, _<_};
 ghost use lib.Dec.{eqb};
 ghost use Rattle.rig_tables.specs.Tests.{at, climb, controllersB};
-ghost use Rattle.rig_controllers.specs.Climb.{Low};
+ghost use Rattle.rig_controllers.specs.Laws.Climb.{Low};
 
 // Up from task x, controller by controller, while the number is above c. Over all tasks of a right rig this takes no more
 // steps than there are tasks, since the next task's path leaves out what was climbed past.

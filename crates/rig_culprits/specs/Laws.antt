@@ -13,8 +13,8 @@ use borrow.Author.Tests.{eqb-true, eqb-false, eq-eqb, ne-eqb, lt-ltb, le-ltb, le
 use Rattle.laws.specs.Cases.{by, below-but}
 use Rattle.laws.specs.All.{all, and-left, and-right, all-not}
 use Rattle.text.specs.Split.{split, part}
-use Rattle.text.specs.SplitLaws.{split-cons}
-use Rattle.text.specs.Parts.{Found, part-all, length-part}
+use Rattle.text.specs.Laws.Split.{split-cons}
+use Rattle.text.specs.Laws.Parts.{Found, part-all, length-part}
 use Rattle.rig_tables.specs.Tests.{climb}
 use Rattle.rig_lines.specs.Line.{Line, lineOf, first}
 use Rattle.rig_lines.specs.File.{linesIn, linesOf}

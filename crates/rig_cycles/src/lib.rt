@@ -10,7 +10,7 @@ ghost use Rattle.laws.specs.Bits.{bit};
 ghost use lib.ListN.{length};
 ghost use Rattle.laws.specs.Owners.{marks};
 ghost use Rattle.rig_tables.specs.Tests.{at, flagTest, cycleRises, cycleSmall};
-ghost use Rattle.rig_cycles.specs.Cycles.{flagsOnly};
+ghost use Rattle.rig_cycles.specs.Laws.Cycles.{flagsOnly};
 ghost use Rattle.rig.specs.Rules.{flagAt};
 ghost use Rattle.rig_cycles.specs.Tests.{cyclesRiseB, cyclesSmallB, minorMarks};
 

@@ -18,7 +18,7 @@ use Rattle.laws.specs.Put.{put, length-put}
 use Rattle.laws.specs.Tables.{zeros-at}
 use Rattle.decimal.specs.Decimal.{cap, number}
 use Rattle.text.specs.Split.{split, part, rest}
-use Rattle.text.specs.Parts.{Found, rest-none, part-none, part-all}
+use Rattle.text.specs.Laws.Parts.{Found, rest-none, part-none, part-all}
 use Rattle.rig_lines.specs.Kinds.{kindRIG, countOf, counts, timed, kindOf, rank, follows}
 use Rattle.rig_lines.specs.Line.{Line, decimals, shaped, fits, sized, placed, ordered, judge}
 use Rattle.rig_lines.specs.File.{Fault, fault, firstFault, faultOf, linesIn, linesOf}

@@ -16,7 +16,7 @@ use Rattle.rig.specs.declared.Cycle.{Cycle}
 use Rattle.rig.specs.declared.Rig.{Rig}
 use Rattle.rig.specs.Rules.{noRow, noCycle, Right}
 use Rattle.rig_tables.specs.Tests.{place}
-use Rattle.rig_whole.specs.Tree.{controllers-low}
+use Rattle.rig_whole.specs.Laws.Tree.{controllers-low}
 use Rattle.rig.specs.Forms.{flagsOf, tableOf}
 use Rattle.rig_lines.specs.Kinds.{counts, countOf, sorts, sortOf, under}
 use Rattle.rig_lines.specs.Line.{Line}

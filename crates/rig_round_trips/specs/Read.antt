@@ -13,7 +13,7 @@ use Rattle.rig.specs.declared.Rig.{Rig}
 use Rattle.rig.specs.Rules.{Right}
 use Rattle.rig.specs.Forms.{cyclesOf, tableOf}
 use Rattle.rig_whole.specs.Tests.{firstBroken, rightB}
-use Rattle.rig_whole.specs.Whole.{right-is}
+use Rattle.rig_whole.specs.Laws.Whole.{right-is}
 use Rattle.rig_lines.specs.Line.{Line}
 use Rattle.rig_lines.specs.Text.{text}
 use Rattle.rig_lines.specs.Laws.Judged.{Faultless}

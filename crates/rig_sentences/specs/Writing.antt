@@ -12,7 +12,7 @@ use Rattle.laws.specs.Cases.{by}
 use Rattle.laws.specs.Put.{put, length-put}
 use Rattle.decimal.specs.Decimal.{cap, dec}
 use Rattle.bench_script.specs.Wrote.{Wrote, wrote-then, wrote-as, wrote-none}
-use Rattle.bench_script.specs.Written.{dec-length}
+use Rattle.bench_script.specs.Laws.Written.{dec-length}
 
 -- a number in decimal; one of more than ten digits, to which no file leads, is left out
 unfoldable pub numberText : ℕ → List ℕ

@@ -13,8 +13,8 @@ use borrow.Author.Tests.{eq-eqb, ne-eqb, lt-ltb, le-ltb, ltb-true, ltb-false}
 use Rattle.laws.specs.Cases.{by}
 use Rattle.decimal.specs.Decimal.{number}
 use Rattle.text.specs.Split.{split, part, rest}
-use Rattle.text.specs.SplitLaws.{split-cons}
-use Rattle.text.specs.Parts.{Found, piece, part-all, rest-none, rest-next, free-none}
+use Rattle.text.specs.Laws.Split.{split-cons}
+use Rattle.text.specs.Laws.Parts.{Found, piece, part-all, rest-none, rest-next, free-none}
 use Rattle.rig_lines.specs.Kinds.{kindOf}
 use Rattle.rig_lines.specs.Line.{lineOf, first, others}
 use Rattle.rig_lines.specs.Laws.Turns.{rest-turn}

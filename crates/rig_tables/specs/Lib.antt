@@ -1,3 +1,3 @@
 pub mod Tests
 pub mod Lines
-pub mod Passes
+pub mod Laws

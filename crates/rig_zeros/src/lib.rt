@@ -10,7 +10,7 @@ ghost use lib.Dec.{eqb};
 ghost use Rattle.laws.specs.All.{all};
 ghost use lib.ListN.{length};
 ghost use Rattle.rig_tables.specs.Tests.{conditionTasksB, taskZerosB, lineZerosB};
-ghost use Rattle.rig_zeros.specs.Passes.{zeroFrom};
+ghost use Rattle.rig_zeros.specs.Laws.Passes.{zeroFrom};
 
 // The entries are 0 from one place up to another.
 fn zeros(l: &[u8], from: usize, to: usize) -> bool

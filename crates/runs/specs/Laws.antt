@@ -34,7 +34,7 @@ use Rattle.exec_state.specs.View.{rigOf}
 use Rattle.exec.specs.Sound.{rigIn, view, Sound}
 use Rattle.exec.specs.Call.{Follows, Meets, Refuses, answerOf}
 use Rattle.exec.specs.Laws.Unique.{record-same}
-use Rattle.exec_sound.specs.RightRig.{rig-ok}
+use Rattle.exec_sound.specs.Laws.RightRig.{rig-ok}
 use Rattle.exec.specs.Laws.Promises.{twelve-exactly}
 use Rattle.exec.specs.Starting.{Started, noExec, brokenRig}
 use Rattle.runs.specs.Runs.{Made, MadeOn, Ran, callsOf, codeOf, servedOf, AcceptedStart, noting, historyIn, SparedIn}

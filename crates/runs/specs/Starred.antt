@@ -11,7 +11,7 @@ use Rattle.laws.specs.All.{all}
 use Rattle.laws.specs.Any.{any}
 use Rattle.laws.specs.Tables.{total, over}
 use Rattle.words.specs.Answers.{WordReport, accepted, refused}
-use Rattle.words.specs.Cases.{Case, case, AsTold, right-more, wordCases, words-right}
+use Rattle.words.specs.Laws.Cases.{Case, case, AsTold, right-more, wordCases, words-right}
 use Rattle.rules.specs.Rig.{Rig}
 use Rattle.rules.specs.State.{blank}
 use Rattle.rules.specs.Conditions.{relax, met, drive, names}

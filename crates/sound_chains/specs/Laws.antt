@@ -14,7 +14,7 @@ use Rattle.laws.specs.Cases.{by, and-true, and-yes}
 use Rattle.laws.specs.All.{all, all-at}
 use Rattle.laws.specs.Faults.{or-zero, xor-zero}
 use Rattle.chains.specs.Ops.{walk}
-use Rattle.chains.specs.Check.{stepb, step-out, ringb, marked, rings-start, rings-next, taskb, ring-end, ring-out, ring-bad, ring-next, walk-end, walk-next, tasks-accepted, accepted-tasks, equivalence}
+use Rattle.chains.specs.Laws.Check.{stepb, step-out, ringb, marked, rings-start, rings-next, taskb, ring-end, ring-out, ring-bad, ring-next, walk-end, walk-next, tasks-accepted, accepted-tasks, equivalence}
 use Rattle.chains.specs.Held.{at, at-set, Sound}
 use Rattle.chains.specs.declared.Links.{Links}
 use Rattle.sound_chains.specs.declared.Ring.{Ring}

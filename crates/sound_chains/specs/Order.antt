@@ -9,7 +9,7 @@ use lib.Dec.{leb}
 use borrow.Author.Tests.{le-leb, lt-leb, leb-true}
 use Rattle.laws.specs.Members.{In}
 use Rattle.laws.specs.Order.{Sorted}
-use Rattle.chains.specs.Check.{and-out}
+use Rattle.chains.specs.Laws.Check.{and-out}
 use Rattle.chains.specs.Held.{at, Held, Scan, scan-start, start-back, scan-step, scan-back, scan-none}
 use Rattle.chains.specs.declared.Links.{Links}
 

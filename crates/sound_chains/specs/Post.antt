@@ -6,7 +6,7 @@ use Prim.Native.Nat.{ℕ, _+_, _≤_}
 use lib.Dec.{eqb}
 use lib.ListN.{length}
 use Rattle.chains.specs.Ops.{walk}
-use Rattle.chains.specs.Check.{ringb, marked, Rings, Accepted, taskb}
+use Rattle.chains.specs.Laws.Check.{ringb, marked, Rings, Accepted, taskb}
 use Rattle.chains.specs.Held.{at}
 use Rattle.chains.specs.declared.Links.{Links}
 use Rattle.sound_chains.specs.declared.Ring.{Ring}

@@ -9,7 +9,7 @@ ghost use Prim.Native.Nat.{ℕ, _+_, _≤_, _<_};
 ghost use lib.ListN.{length};
 ghost use Rattle.chains.specs.Held.{at, Held, Sound};
 ghost use lib.Dec.{eqb};
-ghost use Rattle.chains.specs.Check.{stepb};
+ghost use Rattle.chains.specs.Laws.Check.{stepb};
 ghost use mathlib.Core.List.{List};
 ghost use Rattle.sound_chains.specs.Order.{risingb};
 ghost use Rattle.laws.specs.All.{all};

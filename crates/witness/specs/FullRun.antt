@@ -9,7 +9,7 @@ use Rattle.rules.specs.Calls as R
 use Rattle.rules.specs.Scripts.{tick₀}
 use Rattle.rules_full.specs.Full.{full, schedules, before, reached}
 use Rattle.exec_state.specs.View.{rigOf}
-use Rattle.exec_sound.specs.RightRig.{rig-ok}
+use Rattle.exec_sound.specs.Laws.RightRig.{rig-ok}
 use Rattle.exec.specs.declared.Exec.{Exec}
 use Rattle.runs.specs.Runs.{Made, MadeOn, Ran, callsOf, servedOf, AcceptedStart}
 use Rattle.witness.specs.CodeRig.{codeTable, codeCycles}

@@ -31,7 +31,7 @@ use Rattle.rules.specs.Scripts.{bench, rig, ofTask, ofCondition, numbers, ofLin
 use Rattle.exec_state.specs.View.{rigOf}
 use Rattle.exec.specs.Call.{answerOf}
 use Rattle.exec.specs.Sound.{view}
-use Rattle.exec_sound.specs.RightRig.{rig-ok}
+use Rattle.exec_sound.specs.Laws.RightRig.{rig-ok}
 use Rattle.exec.specs.Laws.Starting.{starts-same}
 use Rattle.exec.specs.declared.Exec.{Exec}
 use Rattle.exec.specs.declared.Step.{Step}

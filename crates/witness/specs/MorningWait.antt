@@ -25,7 +25,7 @@ use Rattle.rules.specs.Soundness as Rules
 use Rattle.rules_laws.specs.Steps.{start-sound, run-sound, step-sound}
 use Rattle.rules.specs.Scripts.{bench, rig, ofTask, ofCondition, numbers, ofLine, ofCycle, tick₀, morningCalls}
 use Rattle.exec_state.specs.View.{rigOf}
-use Rattle.exec_sound.specs.RightRig.{rig-ok}
+use Rattle.exec_sound.specs.Laws.RightRig.{rig-ok}
 use Rattle.exec.specs.declared.Exec.{Exec}
 use Rattle.runs.specs.Runs.{Made, MadeOn, Ran, SparedIn, codeOf}
 use Rattle.runs.specs.Demands.{Wakes, stateIn}

@@ -10,7 +10,7 @@ use lib.ListN.{length, getD, drop}
 use Rattle.laws.specs.Cases.{by}
 use Rattle.rig.specs.Rules.{Right}
 use Rattle.rig_whole.specs.Tests.{rightB}
-use Rattle.rig_whole.specs.Whole.{right-is}
+use Rattle.rig_whole.specs.Laws.Whole.{right-is}
 use Rattle.rig.specs.Forms.{cyclesOf}
 use Rattle.rig.specs.declared.Cycle.{Cycle}
 use Rattle.rig.specs.declared.Rig.{Rig}
@@ -26,7 +26,7 @@ use Rattle.exec_state.specs.declared.State.{State}
 use Rattle.exec.specs.Sound.{rigIn, view, Sound}
 use Rattle.exec.specs.Call.{Follows, Meets, answerOf, refuse}
 use Rattle.exec.specs.Call as C
-use Rattle.exec_sound.specs.RightRig.{rig-ok}
+use Rattle.exec_sound.specs.Laws.RightRig.{rig-ok}
 use Rattle.exec.specs.Starting.{Started, Starts, noExec, servedOnly, brokenRig}
 use Rattle.exec.specs.Laws.Unique.{record-same, meets-same}
 use Rattle.exec.specs.declared.Exec.{Exec}

@@ -17,9 +17,9 @@ use Rattle.rig.specs.Rules.{Right}
 use Rattle.rig_rows.specs.Tests.{rowsB, differB, rowZerosB}
 use Rattle.rig_cycles.specs.Tests.{cyclesRiseB, cyclesSmallB, minorB, minorMarks}
 use Rattle.rig_whole.specs.Tests.{shapedTests, countGroup, tests, firstBroken}
-use Rattle.rig_cycles.specs.Marks.{not-minor-law, minor-conditions-law}
-use Rattle.rig_whole.specs.Exact.{within-is, small-is, lines-is}
-use Rattle.rig_whole.specs.Whole.{broken-none}
+use Rattle.rig_cycles.specs.Laws.Marks.{not-minor-law, minor-conditions-law}
+use Rattle.rig_whole.specs.Laws.Exact.{within-is, small-is, lines-is}
+use Rattle.rig_whole.specs.Laws.Whole.{broken-none}
 use Rattle.rig.specs.declared.Cycle.{Cycle}
 use Rattle.rig.specs.declared.Rig.{Rig}
 

@@ -1,4 +1,3 @@
 pub mod Packed
-pub mod PackedCases
 pub mod Parity
-pub mod ParityLaws
+pub mod Laws

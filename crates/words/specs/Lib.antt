@@ -1,7 +1,4 @@
 pub mod Answers
-pub mod AnswersLaws
 pub mod Command
-pub mod CommandLaws
 pub mod Status
-pub mod StatusLaws
-pub mod Cases
+pub mod Laws

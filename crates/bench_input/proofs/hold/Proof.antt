@@ -1,4 +1,4 @@
-use Rattle.bench_input.specs.LineLaws.{hold-more, hold-full}
+use Rattle.bench_input.specs.Laws.Line.{hold-more, hold-full}
 use borrow.Author.Needs.{needs}
 use Rattle.bench_input.proofs.hold.Statement.{statement}
 use Rattle.bench_input.proofs.hold.Tie as tie

@@ -3,7 +3,7 @@ use borrow.Author.Tests.{eq-eqb, ne-eqb}
 use Rattle.laws.specs.Cases.{and-go, and-stop}
 use Rattle.bench_script.specs.Input.{isRun}
 use Rattle.bench_input.specs.Opening.{runEnds}
-use Rattle.bench_input.specs.Scanning.{drop-take}
+use Rattle.bench_input.specs.Laws.Scanning.{drop-take}
 use borrow.Author.Needs.{needs}
 use Rattle.bench_input.proofs.run_ends.Statement.{statement}
 use Rattle.bench_input.proofs.run_ends.Tie as tie

@@ -3,7 +3,7 @@ use Prim.Native.Nat.{_-_}
 use mathlib.Core.Path.{sym, _∙_}
 use native.Mathlib.Omega.{arith}
 use lib.ListN.{length}
-use Rattle.bench_input.specs.Scanning.{Scanning, scanning-start, scanning-end, scanning-run, scanning-full, scanning-next, fits}
+use Rattle.bench_input.specs.Laws.Scanning.{Scanning, scanning-start, scanning-end, scanning-run, scanning-full, scanning-next, fits}
 use Rattle.bench_input.proofs.scan.Statement.{statement}
 use Rattle.bench_input.proofs.scan.Tie as tie
 

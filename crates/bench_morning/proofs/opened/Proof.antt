@@ -3,7 +3,7 @@ use Prim.Native.Nat.{ℕ}
 use native.Mathlib.Omega.{arith}
 use lib.ListN.{length}
 use Rattle.bench_morning.specs.Stream.{HoldsBy}
-use Rattle.bench_morning.specs.OpenLaws.{opens-none}
+use Rattle.bench_morning.specs.Laws.Open.{opens-none}
 use Rattle.bench_morning.specs.declared.Phase.{Phase}
 use Rattle.bench_morning.specs.declared.Phase.the-variants.{Opening, Talking, Over}
 use borrow.Author.Needs.{needs}

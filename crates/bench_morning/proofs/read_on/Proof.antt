@@ -2,7 +2,7 @@ use Prim.Native.Nat.{_≤_}
 use mathlib.Core.Path.{refl}
 use native.Mathlib.Omega.{arith}
 use lib.ListN.{length, length-take}
-use Rattle.bench_morning.specs.OpenLaws.{opens-on, opens-whole}
+use Rattle.bench_morning.specs.Laws.Open.{opens-on, opens-whole}
 use borrow.Author.Needs.{needs}
 use Rattle.bench_morning.proofs.read_on.Statement.{statement}
 use Rattle.bench_morning.proofs.read_on.Tie as tie

@@ -4,7 +4,7 @@ use mathlib.Core.List.{[], _∷_}
 use Rattle.bench_script.specs.Letters.{startName}
 use Rattle.bench_script.specs.Output.{lineText}
 use Rattle.bench_script.specs.Wrote.{Wrote}
-use Rattle.bench_morning.specs.StartLaws.{printed, begins-refused, never-refused, begins-accepted}
+use Rattle.bench_morning.specs.Laws.Start.{printed, begins-refused, never-refused, begins-accepted}
 use borrow.Author.Needs.{needs}
 use Rattle.bench_morning.proofs.start.Statement.{statement}
 use Rattle.bench_morning.proofs.start.Tie as tie

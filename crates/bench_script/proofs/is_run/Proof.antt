@@ -1,7 +1,7 @@
 use mathlib.Core.Path.{refl}
 use mathlib.Core.Logic.{inl, inr}
 use borrow.Author.Tests.{ne-eqb}
-use Rattle.bench_script.specs.InputLaws.{not-run, last-letter}
+use Rattle.bench_script.specs.Laws.Input.{not-run, last-letter}
 use borrow.Author.Needs.{needs}
 use Rattle.bench_script.proofs.is_run.Statement.{statement}
 use Rattle.bench_script.proofs.is_run.Tie as tie

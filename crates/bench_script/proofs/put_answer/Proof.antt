@@ -1,4 +1,4 @@
-use Rattle.bench_script.specs.Written.{second-room, third-room, three-wrote}
+use Rattle.bench_script.specs.Laws.Written.{second-room, third-room, three-wrote}
 use borrow.Author.Needs.{needs}
 use Rattle.bench_script.proofs.put_answer.Statement.{statement}
 use Rattle.bench_script.proofs.put_answer.Tie as tie

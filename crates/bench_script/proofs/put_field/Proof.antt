@@ -1,6 +1,6 @@
 use native.Mathlib.Omega.{arith}
 use lib.ListN.{length-set}
-use Rattle.bench_script.specs.Written.{dec-length, field-wrote}
+use Rattle.bench_script.specs.Laws.Written.{dec-length, field-wrote}
 use borrow.Author.Needs.{needs}
 use Rattle.bench_script.proofs.put_field.Statement.{statement}
 use Rattle.bench_script.proofs.put_field.Tie as tie

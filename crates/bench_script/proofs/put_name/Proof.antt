@@ -1,6 +1,6 @@
 use native.Mathlib.Omega.{arith}
 use lib.ListN.{length-set}
-use Rattle.bench_script.specs.Written.{name-wrote, set-lengths}
+use Rattle.bench_script.specs.Laws.Written.{name-wrote, set-lengths}
 use Rattle.bench_script.proofs.put_name.Statement.{statement}
 use Rattle.bench_script.proofs.put_name.Tie as tie
 

@@ -6,7 +6,7 @@ use native.Mathlib.Omega.{arith}
 use lib.ListN.{length, length-set}
 use Rattle.bench_script.specs.Output.{fieldsText}
 use Rattle.bench_script.specs.Wrote.{Wrote}
-use Rattle.bench_script.specs.Written.{begun-room, begun-done, two-fields-wrote, fields-length}
+use Rattle.bench_script.specs.Laws.Written.{begun-room, begun-done, two-fields-wrote, fields-length}
 use borrow.Author.Needs.{needs}
 use Rattle.bench_script.proofs.put_refused.Statement.{statement}
 use Rattle.bench_script.proofs.put_refused.Tie as tie

@@ -4,7 +4,7 @@ use mathlib.Core.List.{List, [], _∷_}
 use Prim.Native.Nat.{ℕ, _<_}
 use native.Mathlib.Omega.{arith}
 use lib.ListN.{length, length-set}
-use Rattle.bench_script.specs.Written.{begun-room, begun-done}
+use Rattle.bench_script.specs.Laws.Written.{begun-room, begun-done}
 use borrow.Author.Needs.{needs}
 use Rattle.bench_script.proofs.put_started.Statement.{statement}
 use Rattle.bench_script.proofs.put_started.Tie as tie

@@ -6,7 +6,7 @@ use native.Mathlib.Omega.{arith}
 use lib.ListN.{length}
 use Rattle.bench_script.specs.Output.{fieldsText}
 use Rattle.bench_script.specs.Wrote.{Wrote}
-use Rattle.bench_script.specs.Written.{Listing, listing-start, listing-room, listing-step, listing-end}
+use Rattle.bench_script.specs.Laws.Written.{Listing, listing-start, listing-room, listing-step, listing-end}
 use Rattle.bench_script.proofs.put_words.Statement.{statement}
 use Rattle.bench_script.proofs.put_words.Tie as tie
 

@@ -1,7 +1,7 @@
 use native.Mathlib.Omega.{arith}
 use lib.ListN.{length-set}
 use Rattle.bench_script.specs.Letters.{question}
-use Rattle.bench_script.specs.Written.{wrong-wrote}
+use Rattle.bench_script.specs.Laws.Written.{wrong-wrote}
 use borrow.Author.Needs.{needs}
 use Rattle.bench_script.proofs.put_wrong.Statement.{statement}
 use Rattle.bench_script.proofs.put_wrong.Tie as tie

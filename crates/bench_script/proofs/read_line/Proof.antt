@@ -5,7 +5,7 @@ use native.Mathlib.Nat.{le-antisymm}
 use Rattle.text.specs.Split.{part}
 use Rattle.decimal.specs.Decimal.{cap}
 use Rattle.bench_script.specs.Script.{alone}
-use Rattle.bench_script.specs.Fields.{one-field, bad-number, two-fields, more-fields, bad-value, three-fields, short-of, number-same, value-same}
+use Rattle.bench_script.specs.Laws.Fields.{one-field, bad-number, two-fields, more-fields, bad-value, three-fields, short-of, number-same, value-same}
 use borrow.Author.Needs.{needs}
 use Rattle.bench_script.proofs.read_line.Statement.{statement}
 use Rattle.bench_script.proofs.read_line.Tie as tie

@@ -4,7 +4,7 @@ use Prim.Native.Nat.{_-_, _≤_, _<_}
 use native.Mathlib.Omega.{arith}
 use lib.ListN.{length}
 use Rattle.text.specs.Split.{part}
-use Rattle.bench_script.specs.InputLaws.{Left, left-start, left-last, left-run, left-next, left-none}
+use Rattle.bench_script.specs.Laws.Input.{Left, left-start, left-last, left-run, left-next, left-none}
 use Rattle.bench_script.proofs.rig_end.Statement.{statement}
 use Rattle.bench_script.proofs.rig_end.Tie as tie
 

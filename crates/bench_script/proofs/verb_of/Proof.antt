@@ -1,5 +1,5 @@
 use borrow.Author.Needs.{needs}
-use Rattle.bench_script.specs.Fields.{verb-one, verb-none}
+use Rattle.bench_script.specs.Laws.Fields.{verb-one, verb-none}
 use Rattle.bench_script.proofs.verb_of.Statement.{statement}
 use Rattle.bench_script.proofs.verb_of.Tie as tie
 

@@ -7,8 +7,8 @@ use lib.ListN.{length, length-take}
 use Rattle.bench_input.specs.Line.{lineRoom}
 use Rattle.bench_morning.specs.Stream.{HoldsBy}
 use Rattle.bench_stream.specs.Feeding.{Ready}
-use Rattle.bench_stream.specs.ReadyLaws.{holds-of}
-use Rattle.bench_stream.specs.FeedLaws.{end-opening, end-talking, end-over}
+use Rattle.bench_stream.specs.Laws.Ready.{holds-of}
+use Rattle.bench_stream.specs.Laws.Feed.{end-opening, end-talking, end-over}
 use Rattle.bench_morning.specs.declared.Phase.the-variants.{Opening, Talking}
 use borrow.Author.Needs.{needs}
 use Rattle.bench_stream.proofs.end.Statement.{statement}

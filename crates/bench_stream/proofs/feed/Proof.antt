@@ -11,7 +11,7 @@ use Rattle.bench_script.specs.Output.{turnRoom}
 use Rattle.bench_morning.specs.Stream.{HoldsBy}
 use Rattle.bench_stream.specs.Feeding.{Ready}
 use Rattle.bench_talk.specs.Talks.{Talks}
-use Rattle.bench_stream.specs.FeedLaws.{feed-short, feed-opening, feed-talking, feed-over}
+use Rattle.bench_stream.specs.Laws.Feed.{feed-short, feed-opening, feed-talking, feed-over}
 use Rattle.bench_morning.specs.declared.Phase.{Phase}
 use Rattle.bench_morning.specs.declared.Phase.the-variants.{Talking}
 use borrow.Author.Needs.{needs}

@@ -4,7 +4,7 @@ use Prim.Native.Nat.{_+_, _≤_}
 use native.Mathlib.Omega.{arith}
 use borrow.Author.Tests.{leb-true, leb-false, le-leb}
 use Rattle.bench_script.specs.Output.{turnRoom}
-use Rattle.bench_stream.specs.ReadyLaws.{not-ready, holds-of, ready-by}
+use Rattle.bench_stream.specs.Laws.Ready.{not-ready, holds-of, ready-by}
 use Rattle.bench_morning.specs.declared.Phase.the-variants.{Opening, Talking, Over}
 use borrow.Author.Needs.{needs}
 use Rattle.bench_stream.proofs.sane.Statement.{statement}

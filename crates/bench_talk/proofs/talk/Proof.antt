@@ -7,7 +7,7 @@ use native.Mathlib.Omega.{arith}
 use lib.ListN.{length, take}
 use borrow.Author.Tests.{leb-true, leb-false}
 use Rattle.bench_script.specs.Output.{turnRoom}
-use Rattle.bench_talk.specs.TalkLaws.{at-line, Talking, talking-start, prefix, talking-turn, talking-byte}
+use Rattle.bench_talk.specs.Laws.Talk.{at-line, Talking, talking-start, prefix, talking-turn, talking-byte}
 use Rattle.bench_talk.proofs.talk.Statement.{statement}
 use Rattle.bench_talk.proofs.talk.Tie as tie
 

@@ -1,7 +1,7 @@
 use mathlib.Core.Path.{refl, sym, subst}
 use Rattle.exec.specs.declared.Answer.the-variants.{Refused}
 use Rattle.bench_script.specs.declared.Said.{Said}
-use Rattle.bench_turn.specs.TurnLaws.{wrongShape, Made}
+use Rattle.bench_turn.specs.Laws.Turn.{wrongShape, Made}
 use borrow.Author.Needs.{needs}
 use Rattle.bench_turn.proofs.ask.Statement.{statement}
 use Rattle.bench_turn.proofs.ask.Tie as tie

@@ -1,7 +1,7 @@
 use native.Mathlib.Omega.{arith}
 use lib.ListN.{length-take}
 use Rattle.exec.specs.Call.{reportOf}
-use Rattle.bench_turn.specs.TurnLaws.{extra-words, extra-value, extra-nothing}
+use Rattle.bench_turn.specs.Laws.Turn.{extra-words, extra-value, extra-nothing}
 use borrow.Author.Needs.{needs}
 use Rattle.bench_turn.proofs.put_extra.Statement.{statement}
 use Rattle.bench_turn.proofs.put_extra.Tie as tie

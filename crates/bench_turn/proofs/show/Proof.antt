@@ -5,7 +5,7 @@ use native.Mathlib.Omega.{arith}
 use lib.ListN.{length, set, length-set}
 use Rattle.bench_script.specs.Output.{fieldsText}
 use Rattle.bench_script.specs.Wrote.{Wrote}
-use Rattle.bench_turn.specs.TurnLaws.{headOf, after-head, shown-refused, after-extra, shown-accepted}
+use Rattle.bench_turn.specs.Laws.Turn.{headOf, after-head, shown-refused, after-extra, shown-accepted}
 use borrow.Author.Needs.{needs}
 use Rattle.bench_turn.proofs.show.Statement.{statement}
 use Rattle.bench_turn.proofs.show.Tie as tie

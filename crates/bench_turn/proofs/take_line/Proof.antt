@@ -9,7 +9,7 @@ use Rattle.bench_script.specs.declared.Said.{Said}
 use Rattle.bench_script.specs.Output.{turnRoom}
 use Rattle.bench_script.specs.Wrote.{Wrote}
 use Rattle.bench_turn.specs.Turn.{Takes, letterOf, askedBy, answerText}
-use Rattle.bench_turn.specs.TurnLaws.{made-proper, answered, unasked}
+use Rattle.bench_turn.specs.Laws.Turn.{made-proper, answered, unasked}
 use borrow.Author.Needs.{needs}
 use Rattle.bench_turn.proofs.take_line.Statement.{statement}
 use Rattle.bench_turn.proofs.take_line.Tie as tie

@@ -4,7 +4,7 @@ use mathlib.Core.Logic.{⊎-elim}
 use Prim.Native.Nat.{_≤_, _<_, _-_}
 use native.Mathlib.Omega.{arith}
 use Rattle.compool.specs.View.{rowsOf}
-use Rattle.compool.specs.Words.{Sent, sent-start, sent-room, sent-no, sent-yes, sent-done}
+use Rattle.compool.specs.Laws.Words.{Sent, sent-start, sent-room, sent-no, sent-yes, sent-done}
 use Rattle.compool.proofs.bus_words.Statement.{statement}
 use Rattle.compool.proofs.bus_words.Tie as tie
 

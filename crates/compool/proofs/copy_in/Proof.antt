@@ -4,7 +4,7 @@ use Prim.Native.Nat.{_≤_, _-_}
 use native.Mathlib.Omega.{arith}
 use lib.ListN.{length, length-set}
 use lib.Seq.{paste, paste-zero}
-use Rattle.compool.specs.Blocks.{pasted-next, pasted-done}
+use Rattle.compool.specs.Laws.Blocks.{pasted-next, pasted-done}
 use Rattle.compool.proofs.copy_in.Statement.{statement}
 use Rattle.compool.proofs.copy_in.Tie as tie
 

@@ -3,7 +3,7 @@ use mathlib.Core.Path.{_≡_, subst}
 use Prim.Native.Nat.{ℕ, _≤_, _-_}
 use native.Mathlib.Omega.{arith}
 use lib.ListN.{length}
-use Rattle.compool.specs.Blocks.{Copied, copied-start, copied-step, copied-done}
+use Rattle.compool.specs.Laws.Blocks.{Copied, copied-start, copied-step, copied-done}
 use Rattle.compool.proofs.copy_out.Statement.{statement}
 use Rattle.compool.proofs.copy_out.Tie as tie
 

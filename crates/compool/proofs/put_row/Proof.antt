@@ -1,7 +1,7 @@
 use Rattle.compool.specs.View.{rowOf}
 use lib.ListN.{length-set}
 use native.Mathlib.Omega.{arith}
-use Rattle.compool.specs.Words.{row-from, row-to, row-both}
+use Rattle.compool.specs.Laws.Words.{row-from, row-to, row-both}
 use borrow.Author.Needs.{needs}
 use Rattle.compool.proofs.put_row.Statement.{statement}
 use Rattle.compool.proofs.put_row.Tie as tie

@@ -1,9 +1,9 @@
 use mathlib.Core.Path.{_∙_, ap}
 use Prim.Native.Nat.{_%_}
 use Rattle.rules.specs.Bus.{written, blockAt}
-use Rattle.compool.specs.Blocks.{tagged}
+use Rattle.compool.specs.Laws.Blocks.{tagged}
 use lib.ListN.{length}
-use Rattle.compool.specs.Blocks.{tagged-length}
+use Rattle.compool.specs.Laws.Blocks.{tagged-length}
 use borrow.Author.Needs.{needs}
 use Rattle.compool.proofs.write_block.Statement.{statement}
 use Rattle.compool.proofs.write_block.Tie as tie

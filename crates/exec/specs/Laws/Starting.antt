@@ -12,7 +12,7 @@ use Rattle.rules.specs.Calls as R
 use Rattle.exec.specs.Sound.{Sound}
 use Rattle.exec_refusals.specs.Numbers.{notSound}
 use Rattle.exec_outcome.specs.declared.Outcome.{Outcome}
-use Rattle.exec_tasks.specs.Starting.{Began, Begins}
+use Rattle.exec_tasks.specs.Laws.Starting.{Began, Begins}
 use Rattle.exec.specs.Call.{Meets, Refuses, answerOf, refuse}
 use Rattle.exec.specs.Laws.Unique.{record-same, answer-same, refuses-is}
 use Rattle.exec.specs.Laws.Made.{answerFrom, reportFrom}

@@ -8,7 +8,7 @@ use native.Mathlib.Omega.{arith}
 use Rattle.chains.specs.Held.{Held, Sized}
 use Rattle.chains.specs.Held as Links
 use Rattle.chains.specs.Read.{chainsOf, sound-chains}
-use Rattle.chains.specs.Unique.{held-same}
+use Rattle.chains.specs.Laws.Unique.{held-same}
 use Rattle.rules.specs.State as S
 use Rattle.rules.specs.Calls as R
 use Rattle.exec_state.specs.View.{viewOf}

@@ -7,10 +7,10 @@ use Rattle.rules.specs.Calls as R
 use Rattle.exec_state.specs.View.{rigOf, viewOf}
 use Rattle.exec_sound.specs.Sound.{SoundParts}
 use Rattle.exec_refusals.specs.Rows.{tickRows}
-use Rattle.exec_outcome.specs.Meeting.{judged-sound, judged-none, judged-tells}
-use Rattle.exec_outcome.specs.Tables.{tick-table}
-use Rattle.exec_outcome.specs.Settling.{settles}
-use Rattle.exec_bus.specs.Tick.{tick-ok, tick-room, rows-fit, bus-fits, ticked-work, tick-tells}
+use Rattle.exec_outcome.specs.Laws.Meeting.{judged-sound, judged-none, judged-tells}
+use Rattle.exec_outcome.specs.Laws.Tables.{tick-table}
+use Rattle.exec_outcome.specs.Laws.Settling.{settles}
+use Rattle.exec_bus.specs.Laws.Tick.{tick-ok, tick-room, rows-fit, bus-fits, ticked-work, tick-tells}
 use Rattle.exec_bus.proofs.tick.Statement.{statement}
 use Rattle.exec_bus.proofs.tick.Tie as tie
 

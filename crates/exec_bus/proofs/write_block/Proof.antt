@@ -6,9 +6,9 @@ use Rattle.rules.specs.Calls as R
 use Rattle.exec_state.specs.View.{rigOf, viewOf}
 use Rattle.exec_sound.specs.Sound.{SoundParts}
 use Rattle.exec_refusals.specs.Rows.{blockRows}
-use Rattle.exec_outcome.specs.Meeting.{judged-sound, judged-none, judged-tells}
-use Rattle.exec_outcome.specs.Tables.{write-block-table}
-use Rattle.exec_bus.specs.Blocks.{fit, write-block-tells}
+use Rattle.exec_outcome.specs.Laws.Meeting.{judged-sound, judged-none, judged-tells}
+use Rattle.exec_outcome.specs.Laws.Tables.{write-block-table}
+use Rattle.exec_bus.specs.Laws.Blocks.{fit, write-block-tells}
 use Rattle.exec_bus.proofs.write_block.Statement.{statement}
 use Rattle.exec_bus.proofs.write_block.Tie as tie
 

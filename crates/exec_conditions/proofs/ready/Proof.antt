@@ -1,6 +1,6 @@
 use mathlib.Core.Path.{sym, _∙_}
 use borrow.Author.Tests.{eq-eqb, ne-eqb, not-true, not-false}
-use Rattle.exec_conditions.specs.Tests.{and-one, and-two, and-three}
+use Rattle.exec_conditions.specs.Laws.Tests.{and-one, and-two, and-three}
 use lib.Dec.{eqb}
 use Rattle.rig_tables.specs.Tests.{at}
 use Rattle.rules.specs.Conditions.{names}

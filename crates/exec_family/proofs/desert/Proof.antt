@@ -2,7 +2,7 @@ use borrow.Author.Needs.{needs}
 use mathlib.Core.Logic.{⊎-elim}
 use Prim.Native.Nat.{_≤_, _-_}
 use native.Mathlib.Omega.{arith}
-use Rattle.exec_family.specs.Leaving.{Turned, turned-start, turned-yes, turned-no, turned-done}
+use Rattle.exec_family.specs.Laws.Leaving.{Turned, turned-start, turned-yes, turned-no, turned-done}
 use Rattle.exec_family.proofs.desert.Statement.{statement}
 use Rattle.exec_family.proofs.desert.Tie as tie
 

@@ -1,4 +1,4 @@
-use Rattle.exec_family.specs.Leaving.{left-idle, left-unlinked}
+use Rattle.exec_family.specs.Laws.Leaving.{left-idle, left-unlinked}
 use borrow.Author.Needs.{needs}
 use Rattle.exec_family.proofs.leave.Statement.{statement}
 use Rattle.exec_family.proofs.leave.Tie as tie

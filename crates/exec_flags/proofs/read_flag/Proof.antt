@@ -6,9 +6,9 @@ use Rattle.rules.specs.Calls as R
 use Rattle.exec_state.specs.View.{rigOf, viewOf}
 use Rattle.exec_sound.specs.Sound.{SoundParts}
 use Rattle.exec_refusals.specs.Rows.{flagRows}
-use Rattle.exec_outcome.specs.Meeting.{judged-sound, judged-none, judged-tells, kept-tells}
-use Rattle.exec_outcome.specs.Tables.{read-table}
-use Rattle.exec_flags.specs.Reading.{read-lent, read-quiet, read-output}
+use Rattle.exec_outcome.specs.Laws.Meeting.{judged-sound, judged-none, judged-tells, kept-tells}
+use Rattle.exec_outcome.specs.Laws.Tables.{read-table}
+use Rattle.exec_flags.specs.Laws.Reading.{read-lent, read-quiet, read-output}
 use Rattle.exec_flags.proofs.read_flag.Statement.{statement}
 use Rattle.exec_flags.proofs.read_flag.Tie as tie
 

@@ -7,12 +7,12 @@ use Rattle.rules.specs.Calls as R
 use Rattle.exec_state.specs.View.{rigOf, viewOf, workOf}
 use Rattle.exec_sound.specs.Sound.{SoundParts}
 use Rattle.exec_refusals.specs.Rows.{signalRows}
-use Rattle.exec_outcome.specs.Meeting.{judged-sound, judged-none, judged-tells, silent-lent}
-use Rattle.exec_outcome.specs.Tables.{signal-table}
-use Rattle.exec_outcome.specs.Settling.{settles, settled-tells}
+use Rattle.exec_outcome.specs.Laws.Meeting.{judged-sound, judged-none, judged-tells, silent-lent}
+use Rattle.exec_outcome.specs.Laws.Tables.{signal-table}
+use Rattle.exec_outcome.specs.Laws.Settling.{settles, settled-tells}
 use Rattle.rules_laws.specs.Acceptance.{flagged-is}
 use Rattle.exec_refusals.specs.Bits.{bit, bit-le}
-use Rattle.exec_flags.specs.Signal.{signal-work}
+use Rattle.exec_flags.specs.Laws.Signal.{signal-work}
 use Rattle.exec_flags.proofs.signal.Statement.{statement}
 use Rattle.exec_flags.proofs.signal.Tie as tie
 

@@ -1,4 +1,4 @@
-use Rattle.exec_outcome.specs.Settling.{settled-low, settled-is}
+use Rattle.exec_outcome.specs.Laws.Settling.{settled-low, settled-is}
 use borrow.Author.Needs.{needs}
 use Rattle.exec_outcome.proofs.settle.Statement.{statement}
 use Rattle.exec_outcome.proofs.settle.Tie as tie

@@ -1,5 +1,5 @@
 use borrow.Author.Tests.{eq-eqb, ne-eqb}
-use Rattle.exec_queue.specs.Queued.{active-is}
+use Rattle.exec_queue.specs.Laws.Queued.{active-is}
 use Rattle.exec_queue.proofs.struck.Statement.{statement}
 use Rattle.exec_queue.proofs.struck.Tie as tie
 

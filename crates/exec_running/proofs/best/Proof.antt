@@ -7,7 +7,7 @@ use Rattle.laws.specs.Cases.{if-yes, if-no}
 use Rattle.laws.specs.Iter.{iter, iter-zero, iter-step}
 use Rattle.rig_tables.specs.Tests.{at}
 use Rattle.rules.specs.Running.{best, bestOne}
-use Rattle.exec_running.specs.Tests.{best-compares, best-passes}
+use Rattle.exec_running.specs.Laws.Tests.{best-compares, best-passes}
 use Rattle.exec_running.proofs.best.Statement.{statement}
 use Rattle.exec_running.proofs.best.Tie as tie
 

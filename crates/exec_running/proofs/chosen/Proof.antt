@@ -3,7 +3,7 @@ use Rattle.laws.specs.Cases.{if-yes, if-no}
 use Rattle.rules.specs.Running.{chosen, best}
 use mathlib.Core.Bool.{cond}
 use Rattle.rig_tables.specs.Tests.{at}
-use Rattle.exec_running.specs.Tests.{choice}
+use Rattle.exec_running.specs.Laws.Tests.{choice}
 use borrow.Author.Needs.{needs}
 use Rattle.exec_running.proofs.chosen.Statement.{statement}
 use Rattle.exec_running.proofs.chosen.Tie as tie

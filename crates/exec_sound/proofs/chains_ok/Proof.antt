@@ -5,7 +5,7 @@ use native.Mathlib.Omega.{arith}
 use Rattle.chains.specs.Held.{Sound}
 use Rattle.chains.specs.declared.Links.{Links}
 use Rattle.sound_chains.specs.Post.{linksOf}
-use Rattle.exec_sound.specs.Check.{order-facts, order-back}
+use Rattle.exec_sound.specs.Laws.Check.{order-facts, order-back}
 use borrow.Author.Needs.{needs}
 use Rattle.exec_sound.proofs.chains_ok.Statement.{statement}
 use Rattle.exec_sound.proofs.chains_ok.Tie as tie

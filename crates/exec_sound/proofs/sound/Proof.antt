@@ -6,8 +6,8 @@ use Rattle.laws.specs.All.{allOf}
 use Rattle.chains.specs.Held.{Sized}
 use Rattle.rig.specs.Rules.{Right}
 use Rattle.rig_whole.specs.Tests.{shapedTests}
-use Rattle.rig_whole.specs.Whole.{lengths-hold, broken-none}
-use Rattle.exec_sound.specs.Check.{Sizes, tableTests, tests-sound, sound-tests, sound-order, placed, count-low}
+use Rattle.rig_whole.specs.Laws.Whole.{lengths-hold, broken-none}
+use Rattle.exec_sound.specs.Laws.Check.{Sizes, tableTests, tests-sound, sound-tests, sound-order, placed, count-low}
 use Rattle.exec_sound.proofs.sound.Statement.{statement}
 use Rattle.exec_sound.proofs.sound.Tie as tie
 

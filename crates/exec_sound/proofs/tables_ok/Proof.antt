@@ -4,7 +4,7 @@ use mathlib.Core.List.{List}
 use borrow.Author.Tests.{not-true, not-false, lt-leb, le-leb}
 use Rattle.laws.specs.All.{allOf-not}
 use Rattle.sound_tables.specs.Exact.{within-facts}
-use Rattle.exec_sound.specs.Check.{tableTestsOf, last-test}
+use Rattle.exec_sound.specs.Laws.Check.{tableTestsOf, last-test}
 use borrow.Author.Needs.{needs}
 use Rattle.exec_sound.proofs.tables_ok.Statement.{statement}
 use Rattle.exec_sound.proofs.tables_ok.Tie as tie

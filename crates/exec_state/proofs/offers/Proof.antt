@@ -6,7 +6,7 @@ use native.Mathlib.Omega.{arith}
 use Rattle.rig.specs.Forms.{noRig}
 use Rattle.rig.specs.declared.Rig.{Rig}
 use Rattle.exec_state.specs.Set.{putState, putCond, withTables}
-use Rattle.exec_state.specs.Offers.{Turned, turned-start, turned-room, turned-no, turned-yes, turned-done, someState}
+use Rattle.exec_state.specs.Laws.Offers.{Turned, turned-start, turned-room, turned-no, turned-yes, turned-done, someState}
 use Rattle.exec_state.specs.declared.State.{State}
 use Rattle.exec_state.proofs.offers.Statement.{statement}
 use Rattle.exec_state.proofs.offers.Tie as tie

@@ -11,8 +11,8 @@ use Rattle.rules_laws.specs.Serve.{load}
 use Rattle.exec_state.specs.View.{workOf}
 use Rattle.exec_state.specs.Set.{putValue, putCond, putState, withTables, withPlaces}
 use Rattle.exec_state.specs.Post.{FlagOk, Woken, Served, workIn}
-use Rattle.exec_state.specs.Waking.{waking-none}
-use Rattle.exec_state.specs.Serving.{Turned, turned-start, short, last-ok, rest-room, turned-falls, turned-step, turned-done, served-room, served-is}
+use Rattle.exec_state.specs.Laws.Waking.{waking-none}
+use Rattle.exec_state.specs.Laws.Serving.{Turned, turned-start, short, last-ok, rest-room, turned-falls, turned-step, turned-done, served-room, served-is}
 use Rattle.exec_state.specs.declared.State.{State}
 use Rattle.exec_state.specs.declared.Work.{Work}
 use Rattle.exec_queue.specs.declared.Queue.{Queue}

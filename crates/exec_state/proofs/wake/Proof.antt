@@ -6,9 +6,9 @@ use lib.ListN.{length}
 use Rattle.laws.specs.Functions.{upd}
 use Rattle.chains.specs.Ops.{walk}
 use Rattle.chains.specs.Held.{at}
-use Rattle.chains.specs.Front.{leaving-own, leaving-falls}
+use Rattle.chains.specs.Laws.Front.{leaving-own, leaving-falls}
 use Rattle.chains.specs.Read.{chainsOf}
-use Rattle.exec_state.specs.Waking.{Waking, waking-start, waking-step, waking-done}
+use Rattle.exec_state.specs.Laws.Waking.{Waking, waking-start, waking-step, waking-done}
 use Rattle.exec_state.proofs.wake.Statement.{statement}
 use Rattle.exec_state.proofs.wake.Tie as tie
 

@@ -5,12 +5,12 @@ use borrow.Author.Needs.{needs}
 use Rattle.rules.specs.Calls as R
 use Rattle.exec_state.specs.View.{rigOf, viewOf}
 use Rattle.exec_sound.specs.Sound.{SoundParts}
-use Rattle.exec_sound.specs.Check.{running-low}
+use Rattle.exec_sound.specs.Laws.Check.{running-low}
 use Rattle.exec_refusals.specs.Rows.{runRows}
-use Rattle.exec_outcome.specs.Meeting.{judged-sound, judged-none, judged-tells, silent-lent}
-use Rattle.exec_outcome.specs.Tables.{finish-table}
-use Rattle.exec_outcome.specs.Settling.{settles, settled-tells}
-use Rattle.exec_tasks.specs.Tasks.{finished-work, finished-links}
+use Rattle.exec_outcome.specs.Laws.Meeting.{judged-sound, judged-none, judged-tells, silent-lent}
+use Rattle.exec_outcome.specs.Laws.Tables.{finish-table}
+use Rattle.exec_outcome.specs.Laws.Settling.{settles, settled-tells}
+use Rattle.exec_tasks.specs.Laws.Tasks.{finished-work, finished-links}
 use Rattle.exec_tasks.proofs.finish.Statement.{statement}
 use Rattle.exec_tasks.proofs.finish.Tie as tie
 

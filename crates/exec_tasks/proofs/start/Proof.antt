@@ -4,9 +4,9 @@ use mathlib.Core.Bool.{false≢true}
 use borrow.Author.Needs.{needs}
 use borrow.Author.Tests.{not-true, not-false}
 use Rattle.rig.specs.Rules.{Right}
-use Rattle.rig_whole.specs.Whole.{right-is}
+use Rattle.rig_whole.specs.Laws.Whole.{right-is}
 use Rattle.exec_outcome.specs.declared.Outcome.{Outcome}
-use Rattle.exec_tasks.specs.Starting.{start-settles, began-is}
+use Rattle.exec_tasks.specs.Laws.Starting.{start-settles, began-is}
 use Rattle.exec_tasks.proofs.start.Statement.{statement}
 use Rattle.exec_tasks.proofs.start.Tie as tie
 

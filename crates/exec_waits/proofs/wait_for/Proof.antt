@@ -9,11 +9,11 @@ use Rattle.rules.specs.Calls as R
 use Rattle.exec_state.specs.View.{rigOf, viewOf, workOf}
 use Rattle.exec_sound.specs.Sound.{SoundParts}
 use Rattle.exec_refusals.specs.Rows.{countRows}
-use Rattle.exec_outcome.specs.Meeting.{judged-sound, judged-none, judged-tells, kept-tells, silent-lent, silent-output}
-use Rattle.exec_outcome.specs.Tables.{for-table}
-use Rattle.exec_outcome.specs.Settling.{settles, settled-tells}
+use Rattle.exec_outcome.specs.Laws.Meeting.{judged-sound, judged-none, judged-tells, kept-tells, silent-lent, silent-output}
+use Rattle.exec_outcome.specs.Laws.Tables.{for-table}
+use Rattle.exec_outcome.specs.Laws.Settling.{settles, settled-tells}
 use Rattle.rules_laws.specs.Acceptance.{somebody-runs}
-use Rattle.exec_waits.specs.Waits.{count-there, may-wait, for-work, for-stays}
+use Rattle.exec_waits.specs.Laws.Waits.{count-there, may-wait, for-work, for-stays}
 use Rattle.exec_waits.proofs.wait_for.Statement.{statement}
 use Rattle.exec_waits.proofs.wait_for.Tie as tie
 

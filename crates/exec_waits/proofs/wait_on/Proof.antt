@@ -9,13 +9,13 @@ use Rattle.rules.specs.Calls as R
 use Rattle.exec_state.specs.View.{rigOf, viewOf, workOf}
 use Rattle.exec_sound.specs.Sound.{SoundParts}
 use Rattle.exec_refusals.specs.Rows.{flagRows}
-use Rattle.exec_outcome.specs.Meeting.{judged-sound, judged-none, judged-tells, kept-tells, silent-lent, silent-output}
-use Rattle.exec_outcome.specs.Settling.{settles, settled-tells}
+use Rattle.exec_outcome.specs.Laws.Meeting.{judged-sound, judged-none, judged-tells, kept-tells, silent-lent, silent-output}
+use Rattle.exec_outcome.specs.Laws.Settling.{settles, settled-tells}
 use mathlib.Core.Bool.{_&&_}
 use Rattle.rules.specs.Waiting.{waitOn}
 use Rattle.rules_laws.specs.Acceptance.{somebody-runs}
 use Rattle.exec_refusals.specs.Bits.{bit}
-use Rattle.exec_waits.specs.Waits.{flagWait, wait-silent, wait-proper, wait-table, may-wait, flag-ok, wait-work, wait-stays}
+use Rattle.exec_waits.specs.Laws.Waits.{flagWait, wait-silent, wait-proper, wait-table, may-wait, flag-ok, wait-work, wait-stays}
 use Rattle.exec_waits.proofs.wait_on.Statement.{statement}
 use Rattle.exec_waits.proofs.wait_on.Tie as tie
 

@@ -4,8 +4,8 @@ use mathlib.Core.Path.{_≡_, _∙_}
 use Prim.Native.Nat.{_≤_, _-_}
 use native.Mathlib.Omega.{arith}
 use Rattle.laws.specs.All.{Passed, passed-none, passed-next, passed-not}
-use Rattle.rig_a_lines.specs.Passes.{betweenOne}
-use Rattle.rig_tables.specs.Passes.{within-yes, within-below, within-above}
+use Rattle.rig_a_lines.specs.Laws.Passes.{betweenOne}
+use Rattle.rig_tables.specs.Laws.Passes.{within-yes, within-below, within-above}
 use Rattle.rig_a_lines.proofs.between.Statement.{statement}
 use Rattle.rig_a_lines.proofs.between.Tie as tie
 

@@ -1,4 +1,4 @@
-use Rattle.rig_a_lines.specs.Passes.{fault-is}
+use Rattle.rig_a_lines.specs.Laws.Passes.{fault-is}
 use borrow.Author.Needs.{needs}
 use Rattle.rig_a_lines.proofs.fault.Statement.{statement}
 use Rattle.rig_a_lines.proofs.fault.Tie as tie

@@ -2,7 +2,7 @@ use mathlib.Core.Path.{sym, _∙_}
 use borrow.Author.Tests.{not-true, not-false}
 use borrow.Author.Needs.{needs}
 use Rattle.laws.specs.Cases.{and-go, and-stop}
-use Rattle.rig_a_lines.specs.Passes.{lines-each}
+use Rattle.rig_a_lines.specs.Laws.Passes.{lines-each}
 use Rattle.rig_a_lines.proofs.lines.Statement.{statement}
 use Rattle.rig_a_lines.proofs.lines.Tie as tie
 

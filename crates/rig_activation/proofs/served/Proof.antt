@@ -7,7 +7,7 @@ use native.Mathlib.Omega.{arith}
 use lib.Dec.{eqb}
 use Rattle.laws.specs.All.{all, all-zero, all-next, all-not}
 use Rattle.rig_tables.specs.Tests.{at}
-use Rattle.rig_activation.specs.Served.{servedOne, servedB}
+use Rattle.rig_activation.specs.Laws.Served.{servedOne, servedB}
 use Rattle.rig_activation.proofs.served.Statement.{statement}
 use Rattle.rig_activation.proofs.served.Tie as tie
 

@@ -19,13 +19,13 @@ use borrow.Author.Tests.{ne-eqb, eqb-false, lt-ltb, le-ltb, ltb-true, ltb-false}
 use Rattle.laws.specs.Cases.{by}
 use Rattle.laws.specs.First.{firstFalse}
 use Rattle.text.specs.Split.{split}
-use Rattle.text.specs.SplitLaws.{Free, split-last}
+use Rattle.text.specs.Laws.Split.{Free, split-last}
 use Rattle.rig.specs.declared.Cycle.{Cycle}
 use Rattle.rig.specs.declared.Rig.{Rig}
 use Rattle.rig.specs.Rules.{Right}
 use Rattle.rig.specs.Forms.{cyclesOf}
 use Rattle.rig_whole.specs.Tests.{firstBroken}
-use Rattle.rig_whole.specs.Whole.{broken-none}
+use Rattle.rig_whole.specs.Laws.Whole.{broken-none}
 use Rattle.rig_lines.specs.Line.{Line, lineOf, shaped, sized, ordered, placed, judge}
 use Rattle.rig_lines.specs.File.{Fault, fault, firstFault, faultOf, linesOf}
 use Rattle.rig_lines.specs.Words.{FirstFaulty}

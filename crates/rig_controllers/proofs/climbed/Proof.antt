@@ -3,7 +3,7 @@ use mathlib.Core.Path.{_≡_, refl, sym, _∙_, ap}
 use Prim.Native.Nat.{_≤_, _-_}
 use native.Mathlib.Omega.{arith}
 use Rattle.rig_tables.specs.Tests.{at, climb}
-use Rattle.rig_controllers.specs.Climb.{climb-turn, climb-stop}
+use Rattle.rig_controllers.specs.Laws.Climb.{climb-turn, climb-stop}
 use Rattle.rig_controllers.proofs.climbed.Statement.{statement}
 use Rattle.rig_controllers.proofs.climbed.Tie as tie
 

@@ -7,7 +7,7 @@ use native.Mathlib.Omega.{arith}
 use Rattle.laws.specs.Cases.{and-go, and-stop, or-skip}
 use Rattle.laws.specs.All.{all, all-next, all-not}
 use Rattle.rig_tables.specs.Tests.{controllerOne, controllersB}
-use Rattle.rig_controllers.specs.Climb.{controllers-start, low-all}
+use Rattle.rig_controllers.specs.Laws.Climb.{controllers-start, low-all}
 use Rattle.rig_controllers.proofs.controllers.Statement.{statement}
 use Rattle.rig_controllers.proofs.controllers.Tie as tie
 

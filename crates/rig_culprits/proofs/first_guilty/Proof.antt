@@ -6,7 +6,7 @@ use native.Mathlib.Omega.{arith}
 use lib.ListN.{length}
 use Rattle.laws.specs.Cases.{if-yes, if-no}
 use Rattle.text.specs.Split.{split, part}
-use Rattle.text.specs.Parts.{part-all}
+use Rattle.text.specs.Laws.Parts.{part-all}
 use Rattle.rig_culprits.specs.Culprits.{guilty, firstAt, culpritLine}
 use Rattle.rig_culprits.specs.Laws.{first-end, first-next, first-none}
 use Rattle.rig_culprits.proofs.first_guilty.Statement.{statement}

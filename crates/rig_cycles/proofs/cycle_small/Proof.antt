@@ -4,8 +4,8 @@ use Prim.Native.Nat.{_≤_, _-_}
 use native.Mathlib.Omega.{arith}
 use Rattle.laws.specs.All.{all-zero}
 use Rattle.rig_tables.specs.Tests.{cycleSmall}
-use Rattle.rig_tables.specs.Passes.{Topped, topped-none, topped-next}
-use Rattle.rig_cycles.specs.Cycles.{small-up-to}
+use Rattle.rig_tables.specs.Laws.Passes.{Topped, topped-none, topped-next}
+use Rattle.rig_cycles.specs.Laws.Cycles.{small-up-to}
 use Rattle.rig_cycles.proofs.cycle_small.Statement.{statement}
 use Rattle.rig_cycles.proofs.cycle_small.Tie as tie
 

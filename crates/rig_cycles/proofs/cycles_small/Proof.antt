@@ -6,7 +6,7 @@ use Prim.Native.Nat.{_≤_, _-_}
 use native.Mathlib.Omega.{arith}
 use Rattle.laws.specs.All.{all, all-zero, all-next, all-not}
 use Rattle.rig_cycles.specs.Tests.{cycleSmallOne, cyclesSmallB}
-use Rattle.rig_cycles.specs.Marks.{cycles-rise-at}
+use Rattle.rig_cycles.specs.Laws.Marks.{cycles-rise-at}
 use Rattle.rig_cycles.proofs.cycles_small.Statement.{statement}
 use Rattle.rig_cycles.proofs.cycles_small.Tie as tie
 

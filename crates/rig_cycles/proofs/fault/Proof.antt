@@ -1,4 +1,4 @@
-use Rattle.rig_cycles.specs.Cycles.{fault-is}
+use Rattle.rig_cycles.specs.Laws.Cycles.{fault-is}
 use borrow.Author.Needs.{needs}
 use Rattle.rig_cycles.proofs.fault.Statement.{statement}
 use Rattle.rig_cycles.proofs.fault.Tie as tie

@@ -6,7 +6,7 @@ use lib.ListN.{set}
 use Rattle.laws.specs.Iter.{iter, iter-zero, iter-step}
 use Rattle.laws.specs.Owners.{markOne, marks}
 use Rattle.rig_tables.specs.Tests.{at}
-use Rattle.rig_cycles.specs.Cycles.{flagsOnly, marks-up-to}
+use Rattle.rig_cycles.specs.Laws.Cycles.{flagsOnly, marks-up-to}
 use Rattle.rig_cycles.proofs.mark_cycle.Statement.{statement}
 use Rattle.rig_cycles.proofs.mark_cycle.Tie as tie
 

@@ -4,10 +4,10 @@ use Prim.Native.Nat.{_≤_, _-_}
 use native.Mathlib.Omega.{arith}
 use lib.ListN.{getD, replicate}
 use Rattle.laws.specs.Iter.{iter, iter-zero, iter-next}
-use Rattle.rig_cycles.specs.Cycles.{flagsOnly, marks-flags}
+use Rattle.rig_cycles.specs.Laws.Cycles.{flagsOnly, marks-flags}
 use Rattle.rig.specs.Rules.{at, noCycle}
 use Rattle.rig_cycles.specs.Tests.{markCycle, minorMarks}
-use Rattle.rig_cycles.specs.Marks.{cycles-rise-at}
+use Rattle.rig_cycles.specs.Laws.Marks.{cycles-rise-at}
 use Rattle.rig_cycles.proofs.minor_marks.Statement.{statement}
 use Rattle.rig_cycles.proofs.minor_marks.Tie as tie
 

@@ -14,7 +14,7 @@ use lib.ListN.{length, getD}
 use borrow.Author.Tests.{ltb-true, ltb-false, lt-ltb, le-ltb, eqb-true, eqb-false, eq-eqb, ne-eqb}
 use Rattle.laws.specs.Cases.{by, and-true}
 use Rattle.text.specs.Split.{split}
-use Rattle.text.specs.SplitLaws.{split-cons}
+use Rattle.text.specs.Laws.Split.{split-cons}
 use Rattle.rig_lines.specs.Line.{Line, lineOf, shaped, sized, placed, ordered, judge}
 use Rattle.rig_lines.specs.File.{Fault, fault, firstFault, faultOf}
 use Rattle.rig_lines.specs.Words.{lineAt, Ended, InPlace, Wrong, unended, shape, size, order, FirstFaulty, NoneFaulty}

@@ -18,7 +18,7 @@ use Rattle.laws.specs.All.{and-left, and-right}
 use Rattle.decimal.specs.Decimal.{number, dec, decBy}
 use Rattle.decimal.specs.Laws.{number-dec, dec-number}
 use Rattle.text.specs.Split.{split, join, led}
-use Rattle.text.specs.SplitLaws.{Free, Frees, split-cons, join-split, split-piece, split-join}
+use Rattle.text.specs.Laws.Split.{Free, Frees, split-cons, join-split, split-piece, split-join}
 use Rattle.rig_lines.specs.Kinds.{within, nameOf, letterOf, kindOf}
 use Rattle.rig_lines.specs.Laws.Kinds.{kind-small, within-small}
 use Rattle.rig_lines.specs.Line.{Line, first, others, lineOf, fits, placed, judge}

@@ -14,8 +14,8 @@ use borrow.Author.Tests.{lt-ltb, le-ltb, le-leb, lt-leb, ne-eqb}
 use Rattle.laws.specs.Put.{put}
 use Rattle.decimal.specs.Decimal.{cap, number}
 use Rattle.text.specs.Split.{split, part, rest}
-use Rattle.text.specs.SplitLaws.{split-cons}
-use Rattle.text.specs.Parts.{Found, piece, rest-next, rest-none, part-none, length-part}
+use Rattle.text.specs.Laws.Split.{split-cons}
+use Rattle.text.specs.Laws.Parts.{Found, piece, rest-next, rest-none, part-none, length-part}
 use Rattle.rig_lines.specs.Kinds.{kindOf, lowOf, highOf, within, timed, rank, keyed}
 use Rattle.rig_lines.specs.Laws.Kinds.{within-low, within-high, within-fits}
 use Rattle.rig_lines.specs.Line.{Line, lineOf, first, others, decimals, fits, placed, judge}

@@ -1,6 +1,6 @@
 use native.Mathlib.Omega.{arith}
 use Rattle.text.specs.Split.{part}
-use Rattle.bench_script.specs.InputLaws.{end-le}
+use Rattle.bench_script.specs.Laws.Input.{end-le}
 use Rattle.rig_saying.specs.Laws.{said-fits, said-part}
 use borrow.Author.Needs.{needs}
 use Rattle.rig_saying.proofs.say_input.Statement.{statement}

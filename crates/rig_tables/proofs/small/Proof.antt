@@ -3,7 +3,7 @@ use Prim.Native.Nat.{_≤_, _-_}
 use mathlib.Core.Path.{_≡_}
 use native.Mathlib.Omega.{arith}
 use Rattle.rig_tables.specs.Tests.{smallB}
-use Rattle.rig_tables.specs.Passes.{Topped, topped-none, topped-next}
+use Rattle.rig_tables.specs.Laws.Passes.{Topped, topped-none, topped-next}
 use Rattle.rig_tables.proofs.small.Statement.{statement}
 use Rattle.rig_tables.proofs.small.Tie as tie
 

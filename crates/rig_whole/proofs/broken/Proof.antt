@@ -2,7 +2,7 @@ use mathlib.Core.Path.{_≡_}
 use mathlib.Core.Bool.{true}
 use Rattle.laws.specs.All.{allOf}
 use Rattle.rig_whole.specs.Tests.{shapedTests}
-use Rattle.rig_whole.specs.Whole.{lengths-hold}
+use Rattle.rig_whole.specs.Laws.Whole.{lengths-hold}
 use borrow.Author.Needs.{needs}
 use Rattle.rig_whole.proofs.broken.Statement.{statement}
 use Rattle.rig_whole.proofs.broken.Tie as tie

@@ -8,7 +8,7 @@ use Rattle.rig.specs.Forms.{rigOf}
 use Rattle.rig_tables.specs.Tests.{linesRiseB}
 use Rattle.rig_cycles.specs.Tests.{cyclesRiseB}
 use Rattle.rig_whole.specs.Tests.{shapedTests, countGroup, sizeGroup, orderGroup, numberGroup, taskGroup, lineGroup, restGroup, fromSizes, fromOrders, fromNumbers, fromTasks, fromLines, fromRest, tests, firstBroken}
-use Rattle.rig_whole.specs.Whole.{Counted, counted, risen, Numbered, numbered, task-answer, line-answer}
+use Rattle.rig_whole.specs.Laws.Whole.{Counted, counted, risen, Numbered, numbered, task-answer, line-answer}
 use borrow.Author.Needs.{needs}
 use Rattle.rig_whole.proofs.broken_in.Statement.{statement}
 use Rattle.rig_whole.proofs.broken_in.Tie as tie

@@ -17,7 +17,7 @@ use Rattle.rig.specs.declared.Rig.{Rig}
 use Rattle.rig.specs.Rules.{Right}
 use Rattle.rig.specs.Forms.{tableOf}
 use Rattle.rig_whole.specs.Tests.{rightB}
-use Rattle.rig_whole.specs.Whole.{right-is}
+use Rattle.rig_whole.specs.Laws.Whole.{right-is}
 use Rattle.rig_write.specs.File.{fileOf}
 use Rattle.rig_write.specs.Laws.Fits.{file-fits}
 use Rattle.rig_write.specs.declared.Written.{Written}

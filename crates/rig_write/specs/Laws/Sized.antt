@@ -15,7 +15,7 @@ use Rattle.rig.specs.declared.Cycle.{Cycle}
 use Rattle.rig.specs.declared.Rig.{Rig}
 use Rattle.rig.specs.Rules.{noRow, noCycle, periods, Right}
 use Rattle.rig.specs.Forms.{flagsOf, tableOf}
-use Rattle.rig_whole.specs.Tree.{controllers-low}
+use Rattle.rig_whole.specs.Laws.Tree.{controllers-low}
 use Rattle.decimal.specs.Decimal.{cap}
 use Rattle.rig_lines.specs.Kinds.{counts, lows, highs, countOf, lowOf, highOf, within, listed, timed}
 use Rattle.rig_lines.specs.Laws.Kinds.{within-fits, within-small}

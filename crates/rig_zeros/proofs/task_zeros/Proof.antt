@@ -2,7 +2,7 @@ use borrow.Author.Needs.{needs}
 use mathlib.Core.Path.{_≡_, _∙_}
 use Prim.Native.Nat.{_+_, _≤_, _<_, _-_}
 use native.Mathlib.Omega.{arith}
-use Rattle.rig_zeros.specs.Passes.{beyond-next, Largest, largest-start, largest-end}
+use Rattle.rig_zeros.specs.Laws.Passes.{beyond-next, Largest, largest-start, largest-end}
 use Rattle.rig_zeros.proofs.task_zeros.Statement.{statement}
 use Rattle.rig_zeros.proofs.task_zeros.Tie as tie
 

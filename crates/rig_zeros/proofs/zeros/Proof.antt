@@ -5,8 +5,8 @@ use Prim.Native.Nat.{_≤_, _-_}
 use native.Mathlib.Omega.{arith}
 use borrow.Author.Tests.{eq-eqb, ne-eqb}
 use Rattle.laws.specs.All.{Passed, passed-next, passed-not, since-start, since-at, since-end}
-use Rattle.rig_tables.specs.Passes.{zeroOne}
-use Rattle.rig_zeros.specs.Passes.{zeroFrom}
+use Rattle.rig_tables.specs.Laws.Passes.{zeroOne}
+use Rattle.rig_zeros.specs.Laws.Passes.{zeroFrom}
 use Rattle.rig_zeros.proofs.zeros.Statement.{statement}
 use Rattle.rig_zeros.proofs.zeros.Tie as tie
 

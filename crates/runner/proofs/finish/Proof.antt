@@ -1,6 +1,6 @@
 use native.Mathlib.Omega.{arith}
 use lib.ListN.{length-take}
-use Rattle.bench_stream.specs.Fits.{ends-fit}
+use Rattle.bench_stream.specs.Laws.Fits.{ends-fit}
 use borrow.Author.Needs.{needs}
 use Rattle.runner.proofs.finish.Statement.{statement}
 use Rattle.runner.proofs.finish.Tie as tie

@@ -5,7 +5,7 @@ use native.Mathlib.Omega.{arith}
 use lib.ListN.{length, take, drop, length-take, length-drop}
 use Rattle.bench_script.specs.Output.{turnRoom}
 use Rattle.bench_morning.specs.Stream.{HoldsIn}
-use Rattle.bench_stream.specs.Fits.{feeds-fit, ready-takes}
+use Rattle.bench_stream.specs.Laws.Fits.{feeds-fit, ready-takes}
 use Rattle.bench_morning.specs.declared.Stream.{Stream}
 use Rattle.runner.proofs.take.Statement.{statement}
 use Rattle.runner.proofs.take.Tie as tie

@@ -5,7 +5,7 @@ use native.Mathlib.Omega.{arith}
 use Rattle.laws.specs.All.{all, Passed, passed-none}
 use Rattle.laws.specs.Faults.{or-next}
 use Rattle.chains.specs.Held.{at}
-use Rattle.chains.specs.Check.{taskb}
+use Rattle.chains.specs.Laws.Check.{taskb}
 use Rattle.sound_chains.specs.Post.{linksOf}
 use Rattle.sound_chains.specs.Laws.{tasks-tested}
 use Rattle.sound_chains.proofs.tasks_ok.Statement.{statement}

@@ -5,7 +5,7 @@ use native.Mathlib.Omega.{arith}
 use Prim.Native.Nat.{_≤_, _<_}
 use mathlib.Core.Path.{_≡_, sym, _∙_}
 use Rattle.chains.specs.Held.{at}
-use Rattle.chains.specs.Check.{stepb, step-out}
+use Rattle.chains.specs.Laws.Check.{stepb, step-out}
 use Rattle.sound_chains.specs.Post.{linksOf}
 use Rattle.sound_chains.specs.Laws.{RingAt, ring-start, ring-turn, ring-over, ring-spent, ring-wrong}
 use Rattle.sound_chains.proofs.walk_ring.Statement.{statement}

@@ -1,4 +1,4 @@
-use Rattle.exec_queue.specs.Queued.{entries-none}
+use Rattle.exec_queue.specs.Laws.Queued.{entries-none}
 use mathlib.Core.Path.{refl}
 use Rattle.exec_queue.proofs.Queue.empty.Statement.{statement}
 use Rattle.exec_queue.proofs.Queue.empty.Tie as tie

@@ -3,7 +3,7 @@ use native.Mathlib.Omega.{arith}
 use Prim.Native.Nat.{ℕ}
 use Rattle.rules.specs.Serving.{push}
 use Rattle.exec_queue.specs.View.{entriesOf}
-use Rattle.exec_queue.specs.Queued.{entries-push}
+use Rattle.exec_queue.specs.Laws.Queued.{entries-push}
 use borrow.Author.Needs.{needs}
 use Rattle.exec_queue.proofs.Queue.push.Statement.{statement}
 use Rattle.exec_queue.proofs.Queue.push.Tie as tie

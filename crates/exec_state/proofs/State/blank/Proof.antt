@@ -1,4 +1,4 @@
-use Rattle.exec_state.specs.Effects.{blank-is}
+use Rattle.exec_state.specs.Laws.Effects.{blank-is}
 use borrow.Author.Needs.{needs}
 use Rattle.exec_state.proofs.State.blank.Statement.{statement}
 use Rattle.exec_state.proofs.State.blank.Tie as tie

@@ -1,4 +1,4 @@
-use Rattle.exec_state.specs.Effects.{cancelled-is}
+use Rattle.exec_state.specs.Laws.Effects.{cancelled-is}
 use borrow.Author.Needs.{needs}
 use Rattle.exec_state.proofs.State.cancelled.Statement.{statement}
 use Rattle.exec_state.proofs.State.cancelled.Tie as tie

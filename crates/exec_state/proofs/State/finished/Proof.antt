@@ -1,4 +1,4 @@
-use Rattle.exec_state.specs.Effects.{pushed-one, finished-is}
+use Rattle.exec_state.specs.Laws.Effects.{pushed-one, finished-is}
 use native.Mathlib.Omega.{arith}
 use borrow.Author.Needs.{needs}
 use Rattle.exec_state.proofs.State.finished.Statement.{statement}

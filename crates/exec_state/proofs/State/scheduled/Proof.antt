@@ -1,6 +1,6 @@
 use borrow.Author.Tests.{not-true, not-false}
 use mathlib.Core.Path.{sym, _∙_}
-use Rattle.exec_state.specs.Effects.{scheduled-no, scheduled-yes}
+use Rattle.exec_state.specs.Laws.Effects.{scheduled-no, scheduled-yes}
 use borrow.Author.Needs.{needs}
 use Rattle.exec_state.proofs.State.scheduled.Statement.{statement}
 use Rattle.exec_state.proofs.State.scheduled.Tie as tie

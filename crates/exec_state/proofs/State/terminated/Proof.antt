@@ -1,4 +1,4 @@
-use Rattle.exec_state.specs.Effects.{pushed-one, terminated-is}
+use Rattle.exec_state.specs.Laws.Effects.{pushed-one, terminated-is}
 use borrow.Author.Needs.{needs}
 use Rattle.exec_state.proofs.State.terminated.Statement.{statement}
 use Rattle.exec_state.proofs.State.terminated.Tie as tie

@@ -1,4 +1,4 @@
-use Rattle.exec_state.specs.Effects.{risen, ticked-is}
+use Rattle.exec_state.specs.Laws.Effects.{risen, ticked-is}
 use borrow.Author.Needs.{needs}
 use Rattle.exec_state.proofs.State.ticked.Statement.{statement}
 use Rattle.exec_state.proofs.State.ticked.Tie as tie

@@ -1,4 +1,4 @@
-use Rattle.exec_state.specs.Waiting.{puts-flag, waits-on}
+use Rattle.exec_state.specs.Laws.Waiting.{puts-flag, waits-on}
 use borrow.Author.Needs.{needs}
 use Rattle.exec_state.proofs.State.wait_on.Statement.{statement}
 use Rattle.exec_state.proofs.State.wait_on.Tie as tie

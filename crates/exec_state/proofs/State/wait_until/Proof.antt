@@ -1,4 +1,4 @@
-use Rattle.exec_state.specs.Waiting.{puts-time, waits-until}
+use Rattle.exec_state.specs.Laws.Waiting.{puts-time, waits-until}
 use borrow.Author.Needs.{needs}
 use Rattle.exec_state.proofs.State.wait_until.Statement.{statement}
 use Rattle.exec_state.proofs.State.wait_until.Tie as tie

@@ -7,9 +7,9 @@ use lib.ListN.{length, length-set}
 use Rattle.laws.specs.Functions.{upd}
 use Rattle.chains.specs.Ops.{walk}
 use Rattle.chains.specs.Held.{at}
-use Rattle.chains.specs.Front.{leaving-own, leaving-falls}
+use Rattle.chains.specs.Laws.Front.{leaving-own, leaving-falls}
 use Rattle.chains.specs.Read.{chainsOf}
-use Rattle.exec_state.specs.Due.{Waking, waking-start, waking-step, waking-done, wakes-kept, wakes-later}
+use Rattle.exec_state.specs.Laws.Due.{Waking, waking-start, waking-step, waking-done, wakes-kept, wakes-later}
 use mathlib.Core.Logic.{⊎-elim}
 use Rattle.exec_state.proofs.State.wake_due.Statement.{statement}
 use Rattle.exec_state.proofs.State.wake_due.Tie as tie

@@ -1,4 +1,4 @@
-use Rattle.host_replies.specs.Beginning.{line-fits, file-refused, file-started}
+use Rattle.host_replies.specs.Laws.Beginning.{line-fits, file-refused, file-started}
 use borrow.Author.Needs.{needs}
 use Rattle.host_replies.proofs.starting.start.Statement.{statement}
 use Rattle.host_replies.proofs.starting.start.Tie as tie

@@ -1,6 +1,6 @@
 use native.Mathlib.Omega.{arith}
 use Rattle.decimal.specs.Decimal.{dec}
-use Rattle.bench_script.specs.Written.{dec-length}
+use Rattle.bench_script.specs.Laws.Written.{dec-length}
 use Rattle.rig_sentences.specs.Writing.{put-wrote, number-wrote, number-left}
 use borrow.Author.Needs.{needs}
 use Rattle.rig_sentences.proofs.writing.put_number.Statement.{statement}

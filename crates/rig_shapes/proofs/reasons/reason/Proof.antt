@@ -7,7 +7,7 @@ use lib.ListN.{length}
 use borrow.Author.Tests.{eq-eqb, ne-eqb, le-leb, lt-leb}
 use Rattle.laws.specs.Cases.{if-yes, if-no}
 use Rattle.text.specs.Split.{split, part}
-use Rattle.text.specs.Parts.{part-all}
+use Rattle.text.specs.Laws.Parts.{part-all}
 use Rattle.rig_shapes.specs.Shape.{pieceReason, reasonOf}
 use Rattle.rig_shapes.specs.Laws.{reason-end, reason-next, reason-none}
 use Rattle.rig_shapes.proofs.reasons.reason.Statement.{statement}

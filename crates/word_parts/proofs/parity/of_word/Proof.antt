@@ -2,7 +2,7 @@
 use mathlib.Core.Path.{sym}
 use Prim.Native.Nat.{_/_, _%_}
 use native.Mathlib.Omega.{arith}
-use Rattle.word_parts.specs.ParityLaws.{parity-below, parity-bytes}
+use Rattle.word_parts.specs.Laws.Parity.{parity-below, parity-bytes}
 use borrow.Author.Needs.{needs}
 use Rattle.word_parts.proofs.parity.of_word.Statement.{statement}
 use Rattle.word_parts.proofs.parity.of_word.Tie as tie

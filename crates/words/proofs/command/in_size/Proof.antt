@@ -4,7 +4,7 @@ use native.Mathlib.Omega.{arith}
 use borrow.Author.Tests.{lt-leb, le-leb}
 use Rattle.laws.specs.All.{allOf}
 use Rattle.words.specs.Command.{commandInSize}
-use Rattle.words.specs.CommandLaws.{last-decides}
+use Rattle.words.specs.Laws.Command.{last-decides}
 use borrow.Author.Needs.{needs}
 use Rattle.words.proofs.command.in_size.Statement.{statement}
 use Rattle.words.proofs.command.in_size.Tie as tie

@@ -4,8 +4,8 @@ use Prim.Native.Nat.{ℕ}
 use Rattle.laws.specs.Bits.{bit-below}
 use Rattle.word_parts.specs.Packed.{commandWord}
 use Rattle.words.specs.Command.{wordOfCommand, commandReport}
-use Rattle.words.specs.CommandLaws.{in-size}
-use Rattle.words.specs.AnswersLaws.{sized-yes, sized-no}
+use Rattle.words.specs.Laws.Command.{in-size}
+use Rattle.words.specs.Laws.Answers.{sized-yes, sized-no}
 use borrow.Author.Needs.{needs}
 use Rattle.words.proofs.command.word.Statement.{statement}
 use Rattle.words.proofs.command.word.Tie as tie

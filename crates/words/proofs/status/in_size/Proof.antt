@@ -2,7 +2,7 @@
 use borrow.Author.Tests.{lt-leb}
 use Rattle.laws.specs.All.{allOf}
 use Rattle.words.specs.Status.{statusInSize}
-use Rattle.words.specs.StatusLaws.{status-decides}
+use Rattle.words.specs.Laws.Status.{status-decides}
 use Rattle.words.proofs.status.in_size.Statement.{statement}
 use Rattle.words.proofs.status.in_size.Tie as tie
 

@@ -2,7 +2,7 @@
 use borrow.Author.Tests.{lt-leb, le-leb}
 use Rattle.laws.specs.All.{allOf}
 use Rattle.words.specs.Status.{judgedAs, verdictOf}
-use Rattle.words.specs.AnswersLaws.{sized-yes, sized-no}
+use Rattle.words.specs.Laws.Answers.{sized-yes, sized-no}
 use borrow.Author.Needs.{needs}
 use Rattle.words.proofs.status.judge.Statement.{statement}
 use Rattle.words.proofs.status.judge.Tie as tie

@@ -1,7 +1,7 @@
 -- `verdict_on` makes the tests of the definition in its order.
 use mathlib.Core.Path.{sym, _∙_}
 use mathlib.Core.Bool.{true, false}
-use Rattle.words.specs.StatusLaws.{bad-parity, other-address, no-error}
+use Rattle.words.specs.Laws.Status.{bad-parity, other-address, no-error}
 use borrow.Author.Needs.{needs}
 use Rattle.words.proofs.status.verdict_on.Statement.{statement}
 use Rattle.words.proofs.status.verdict_on.Tie as tie

@@ -4,8 +4,8 @@ use Prim.Native.Nat.{ℕ}
 use Rattle.laws.specs.Bits.{bit-below}
 use Rattle.word_parts.specs.Packed.{statusWord}
 use Rattle.words.specs.Status.{wordOfStatus, statusReport}
-use Rattle.words.specs.StatusLaws.{in-size}
-use Rattle.words.specs.AnswersLaws.{sized-yes, sized-no}
+use Rattle.words.specs.Laws.Status.{in-size}
+use Rattle.words.specs.Laws.Answers.{sized-yes, sized-no}
 use borrow.Author.Needs.{needs}
 use Rattle.words.proofs.status.word.Statement.{statement}
 use Rattle.words.proofs.status.word.Tie as tie

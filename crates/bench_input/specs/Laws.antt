@@ -1,0 +1,3 @@
+pub mod Scanning
+pub mod Line
+pub mod RigEnd

@@ -1,0 +1,116 @@
+-- Laws: the bytes of a script line that are kept, and a line that is too long to say anything.
+use Prim.Native.Nat.{ℕ, _+_, _≤_, _<_}
+use mathlib.Core.Path.{_≡_, refl, sym, ap, _∙_, subst}
+use mathlib.Core.Logic.{_⊎_, inl, inr, ⊎-elim}
+use mathlib.Core.Bool.{_&&_}
+use mathlib.Core.List.{List, [], _∷_, _++_}
+use native.Mathlib.Omega.{arith}
+use native.Mathlib.Numerals.{add-one}
+use lib.Dec.{ltb}
+use lib.ListN.{length, take, set, length-append, length-set}
+use lib.Seq.{take-suc-set, length-take-le}
+use borrow.Author.Tests.{lt-ltb, le-ltb, ltb-true, ltb-false}
+use Rattle.laws.specs.Cases.{by, if-yes, if-no, and-true}
+use Rattle.decimal.specs.Decimal.{cap, number, dec}
+use Rattle.decimal.specs.Laws.{dec-number, dec-small}
+use Rattle.text.specs.Split.{split, join, led}
+use Rattle.text.specs.Laws.Split.{join-split}
+use Rattle.bench_script.specs.Letters.{tab}
+use Rattle.bench_script.specs.Script.{verbOf, alone, withNumber, withValue, fieldsSay, saidOf}
+use Rattle.bench_script.specs.Laws.Written.{dec-length}
+use Rattle.bench_script.specs.declared.Said.the-variants.{Wrong}
+use Rattle.bench_input.specs.Line.{lineRoom, withMore, Holds}
+
+-- ---- the table of a line
+
+module _ (line : List ℕ) (held b : ℕ) (n : length line ≡ lineRoom) where
+  pub hold-more : held < lineRoom → Holds line held b (set line held b) (held + 1)
+  unfolding withMore
+  hold-more h =
+      let l : length (take held line) ≡ held = length-take-le held line (omega arith) in
+      record {
+        is =
+            ap (λ (k : ℕ). take k (set line held b)) (add-one held) ∙ take-suc-set line held b (omega arith)
+            ∙ sym (if-yes (take held line) (lt-ltb (length (take held line)) lineRoom (omega arith)) refl);
+        high = omega arith;
+        size = length-set line held b;
+      }
+
+  pub hold-full : held ≤ lineRoom → lineRoom ≤ held → Holds line held b line held
+  unfolding withMore
+  hold-full h k =
+      let l : length (take held line) ≡ held = length-take-le held line (omega arith) in
+      record {
+        is = sym (if-no (take held line ++ (b ∷ [])) (le-ltb (length (take held line)) lineRoom (omega arith)) refl);
+        high = h;
+        size = refl;
+      }
+
+-- ---- no line of more than 14 bytes says anything
+
+abbrev pub longest : ℕ
+longest = 14
+
+-- a number that is read has at most ten digits, and one below 2 has one
+digits : (l : List ℕ) → number l < cap → length l ≤ 10
+digits l h = let e : l ≡ dec (number l) = dec-number l (number l) h refl in let k = dec-length (number l) in omega (arith, ap length e)
+
+one-digit : (l : List ℕ) → number l < 2 → length l ≤ 1
+one-digit l h =
+    let e : l ≡ dec (number l) = dec-number l (number l) (omega arith) refl in
+    omega (arith, ap length e, ap length (dec-small (number l) (omega arith)))
+
+-- a verb of more than one letter is none
+no-verb : (v : List ℕ) → 1 < length v → verbOf v ≡ 0
+unfolding verbOf
+no-verb [] h = refl
+no-verb (x ∷ []) h = absurd (let z : ⊥ = omega arith in z)
+no-verb (x ∷ y ∷ v) h = refl
+
+fields-long : (ps : List (List ℕ)) → longest < length (join tab ps) → fieldsSay ps ≡ Wrong
+unfolding fieldsSay join led alone withNumber withValue
+fields-long [] h = refl
+fields-long (v ∷ []) h =
+    let e = length-append v [] in
+    rw (no-verb v (omega (arith, e)))
+fields-long (v ∷ n ∷ []) h =
+    by (ltb (number n) cap)
+    (λ t. let d = digits n (ltb-true (number n) cap t) in
+    let e = length-append v (tab ∷ (n ++ [])) in
+    let f = length-append n [] in
+    rw (t, no-verb v (omega (arith, e, f))))
+    (λ t. rw t)
+fields-long (v ∷ f ∷ b ∷ []) h =
+    by (ltb (number f) cap && ltb (number b) 2)
+    (λ t. let w = and-true (ltb (number f) cap) (ltb (number b) 2) t in
+    let d = digits f (ltb-true (number f) cap (w .0)) in
+    let o = one-digit b (ltb-true (number b) 2 (w .1)) in
+    let e = length-append v (tab ∷ (f ++ (tab ∷ (b ++ [])))) in
+    let g = length-append f (tab ∷ (b ++ [])) in
+    let k = length-append b [] in
+    rw (t, no-verb v (omega (arith, e, g, k))))
+    (λ t. rw t)
+fields-long (v ∷ f ∷ b ∷ x ∷ xs) h = refl
+
+pub too-long : (line : List ℕ) → longest < length line → saidOf line ≡ Wrong
+unfolding saidOf
+too-long line h = fields-long (split tab line) (subst (λ (l : List ℕ). longest < length l) (sym (join-split tab line)) h)
+
+-- ---- what is kept of a line
+
+-- the whole line; or as much of it as shows that it is too long
+abbrev pub KeptOf : List ℕ → List ℕ → Type 0
+KeptOf line kept = (kept ≡ line) ⊎ ((longest < length kept) × (longest < length line))
+
+pub kept-more : (line kept : List ℕ) (b : ℕ) → KeptOf line kept → KeptOf (line ++ (b ∷ [])) (withMore kept b)
+unfolding withMore
+kept-more line kept b w =
+    by (ltb (length kept) lineRoom)
+    (λ t. rw t (⊎-elim (λ e. inl (ap (λ (l : List ℕ). l ++ (b ∷ [])) e))
+    (λ p. inr (rw (length-append kept (b ∷ [])) (omega (arith, p .0)), rw (length-append line (b ∷ [])) (omega (arith, p .1)))) w))
+    (λ t. let h = ltb-false (length kept) lineRoom t in
+    rw t (inr (omega arith, rw (length-append line (b ∷ [])) (⊎-elim (λ (e : kept ≡ line). omega (arith, ap length e)) (λ p. omega (arith, p .1)) w))))
+
+-- both say the same
+pub kept-says : (line kept : List ℕ) → KeptOf line kept → saidOf kept ≡ saidOf line
+kept-says line kept w = ⊎-elim (λ e. ap saidOf e) (λ p. too-long kept (p .0) ∙ sym (too-long line (p .1))) w

@@ -1,0 +1,4 @@
+pub mod Ready
+pub mod Feed
+pub mod Fits
+pub mod Cutting

@@ -1,0 +1,3 @@
+pub mod Meeting
+pub mod Tables
+pub mod Settling

@@ -1,0 +1,158 @@
+-- What an accepted call has queued is served, and then it is decided who runs: what this asks holds of every call, and what
+-- it gives is what the call owes.
+use mathlib.Core.Path.{_≡_, refl, sym, _∙_, ap, subst}
+use mathlib.Core.Bool.{Bool, true, false, cond}
+use mathlib.Core.List.{List, [], _∷_}
+use Prim.Native.Nat.{ℕ, _+_, _≤_}
+use native.Mathlib.Omega.{arith}
+use lib.Dec.{eqb, leb}
+use lib.ListN.{set}
+use Rattle.chains.specs.Held.{Sized}
+use Rattle.chains.specs.Held as L
+use Rattle.rig.specs.Rules.{Right}
+use Rattle.rig.specs.declared.Cycle.{Cycle}
+use Rattle.rig.specs.declared.Rig.{Rig}
+use Rattle.rules.specs.Rig as G
+use Rattle.rules.specs.State as S
+use Rattle.rules.specs.Conditions.{relax, met}
+use Rattle.rules.specs.Serving.{activate, serve}
+use Rattle.rules.specs.Waiting.{waitOn, waitUntilCount, wakeDue}
+use Rattle.rules.specs.Running.{dispatch}
+use Rattle.rules.specs.Calls as R
+use Rattle.rules.specs.Proper as P
+use Rattle.rules_laws.specs.Queued.{Fine}
+use Rattle.rules_laws.specs.Serve.{load}
+use Rattle.rules_laws.specs.Good.{serve-running}
+use Rattle.rules_laws.specs.Bound.{effect-load}
+use Rattle.rules_laws.specs.Steps.{effect-ready}
+use Rattle.exec_state.specs.View.{rigOf, viewOf, workOf}
+use Rattle.exec_state.specs.Post.{Fits, Servable, Begins, Emptied, Dispatched}
+use Rattle.exec_state.specs.declared.State.{State}
+use Rattle.exec_state.specs.declared.Work.{Work}
+use Rattle.exec_state.specs.declared.Done.{Done}
+use Rattle.exec_sound.specs.Sound.{SoundParts}
+use Rattle.exec_sound.specs.Laws.RightRig.{rig-ok}
+use Rattle.exec_sound.specs.Laws.Check.{running-low}
+use Rattle.exec_outcome.specs.Outcome.{Tells}
+use Rattle.exec_outcome.specs.Laws.Meeting.{accepted-tells, Silent, silent-output}
+use Rattle.exec_outcome.specs.declared.Outcome.{Outcome}
+
+-- what is asked
+pub record Settles (g : Rig) (w : Work) : Type 0 where
+  pub begins : Begins (g .lines) (g .lineTask) (g .linePos) (g .activation) (w .st) (w .queue)
+  pub low : w .st .running ≤ 64
+
+-- what is given, with whatever cycles stand beside the rig: an accepted call that told nothing but the flags it served
+pub record Settled (g : Rig) (w : Work) (o : Outcome) : Type 0 where
+  pub now : (cycles : List Cycle) → viewOf (o .st) ≡ dispatch (rigOf g cycles) (serve (rigOf g cycles) (workOf (w .st) (w .queue)) .now)
+  pub served : (cycles : List Cycle) → o .served ≡ serve (rigOf g cycles) (workOf (w .st) (w .queue)) .served
+  pub accepted : o .refusal ≡ 0
+  pub words : o .words ≡ 0
+  pub value : o .value ≡ 0
+  pub sound : L.Sound (o .st .links)
+  pub sized : Sized (o .st .links)
+
+-- who runs is not touched by the serving
+pub settled-low : (g : Rig) (w : Work) → Settles g w → (d : Done) → Emptied g (w .st) (w .queue) d → d .st .running ≤ 64
+settled-low g w h d e =
+    omega (arith, ap (λ (y : S.Done). y .now .running) (e .is []), serve-running (rigOf g []) (workOf (w .st) (w .queue)), h .low)
+
+pub settled-is : (g : Rig) (w : Work) (d : Done) → Emptied g (w .st) (w .queue) d → (s : State) → Dispatched (d .st) g s
+    → Settled g w (record { st = s; refusal = 0; served = d .served; words = 0; value = 0 })
+settled-is g w d e s f =
+    record {
+      now = λ cycles. f .is cycles ∙ ap (λ (y : S.Done). dispatch (rigOf g cycles) (y .now)) (e .is cycles);
+      served = λ cycles. ap (λ (y : S.Done). y .served) (e .is cycles);
+      accepted = refl;
+      words = refl;
+      value = refl;
+      sound = subst L.Sound (sym (f .links)) (e .sound);
+      sized = f .sized;
+    }
+
+-- ---- what is asked holds of every accepted call
+
+pub fits : (g : Rig) (cycles : List Cycle) → Right g cycles → Fits (g .lines) (g .lineTask) (g .linePos) (g .activation)
+fits g cycles h =
+    record {
+      lines =
+          record {
+            few = h .line-count;
+            task = λ k b. omega (arith, h .lines k b .task .1, h .task-count .1);
+            pos = λ k b. h .lines k b .position;
+          };
+      flags = λ t. omega (arith, rig-ok g cycles h .activation-le t, h .flag-count .1);
+    }
+
+pub servable : (r : G.Rig) → r .flags ≤ 128 → (q : List S.Entry) → Fine r q → Servable q
+servable r b [] h = tt
+servable r b (e ∷ q) h =
+    (record { some = h .0 .0; flag = omega (arith, h .0 .1); value = h .0 .2 }, servable r b q (h .1))
+
+either : (b : Bool) (s t : S.State) → s .running ≤ 64 → t .running ≤ 64 → (cond b s t) .running ≤ 64
+either true s t h k = h
+either false s t h k = k
+
+-- no call makes a task the running one: that is for the dispatch
+pub effect-low : (r : G.Rig) (s : S.State) → s .running ≤ 64 → (k : R.Call) → R.effect r s k .now .running ≤ 64
+unfolding R.effect R.scheduled R.finished R.terminated R.cancelled R.ticked wakeDue waitOn waitUntilCount activate
+effect-low r s h (R.schedule t) = go (met (r .present) (r .desired) t conds)
+  where
+    conds : List ℕ
+    conds = relax (r .present) (r .latched) (r .desired) t (s .conds)
+
+    w : S.Work
+    w = R.quiet (S.withTables s conds (set (s .states) t 1))
+
+    go : (b : Bool) → (cond b (activate r t w) w) .now .running ≤ 64
+    go true = h
+    go false = h
+effect-low r s h (R.cancel t) = h
+effect-low r s h (R.terminate t) = h
+effect-low r s h R.finish = omega arith
+effect-low r s h (R.tick buffer) = h
+effect-low r s h (R.waitUntil n) = either (leb n (s .count)) s (waitUntilCount s n) h (omega arith)
+effect-low r s h (R.waitFor n) = either (leb (s .count + n) (s .count)) s (waitUntilCount s (s .count + n)) h (omega arith)
+effect-low r s h (R.latched f v) = either (eqb (S.valueOf s f) v) s (waitOn s f v) h (omega arith)
+effect-low r s h (R.unlatched f v) = omega arith
+effect-low r s h (R.signal f v) = h
+effect-low r s h (R.readFlag f) = h
+effect-low r s h (R.readBlock k area buffer) = h
+effect-low r s h (R.writeBlock k area buffer) = h
+
+module _ (g : Rig) (cycles : List Cycle) (s : State) (h : SoundParts g cycles s) (k : R.Call) (p : P.Proper k) (e : 0 ≡ R.refusal (rigOf g cycles) (viewOf s) k) (w : Work)
+    (q : workOf (w .st) (w .queue) ≡ R.effect (rigOf g cycles) (viewOf s) k) where
+  pub settles : L.Sound (w .st .links) → Settles g w
+  settles l =
+      record {
+        begins =
+            record {
+              fits = fits g cycles (h .rig);
+              room = subst (λ (y : S.Work). load y ≤ 79) (sym q) (effect-load (rigOf g cycles) (viewOf s) (h .state .tasks .sized) k);
+              sound = l;
+              entries =
+                  subst (λ (y : S.Work). Servable (y .queue)) (sym q)
+                  (servable (rigOf g cycles) (h .rig .flag-count .1) (R.effect (rigOf g cycles) (viewOf s) k .queue)
+                  (effect-ready (rigOf g cycles) (rig-ok g cycles (h .rig)) (viewOf s) (h .state) k p (sym e) .good .fine));
+            };
+        low = subst (λ (y : S.Work). y .now .running ≤ 64) (sym q) (effect-low (rigOf g cycles) (viewOf s) (running-low g cycles s h) k);
+      }
+
+  -- ---- what is given is what the call owes
+  module _ (o : Outcome) (m : Settled g w o) where
+    pub next-is : viewOf (o .st) ≡ R.accepted (rigOf g cycles) (viewOf s) k .next
+    unfolding R.accepted
+    next-is = m .now cycles ∙ ap (λ (y : S.Work). dispatch (rigOf g cycles) (serve (rigOf g cycles) y .now)) q
+
+    pub served-is : o .served ≡ R.accepted (rigOf g cycles) (viewOf s) k .answer .report .served
+    unfolding R.accepted
+    served-is = m .served cycles ∙ ap (λ (y : S.Work). serve (rigOf g cycles) y .served) q
+
+    -- a call that answers only the number of flags served, and writes nothing
+    pub settled-tells : Silent k → Tells g cycles s k o []
+    unfolding R.accepted
+    settled-tells z =
+        let n = silent-output (rigOf g cycles) (R.accepted (rigOf g cycles) (viewOf s) k .next) k z in
+        accepted-tells g cycles s k h p e o [] (m .accepted) next-is
+        (λ i. record { served = served-is i; words = (m .words ∙ ap (λ (y : R.Output). y .words) (sym n)) i; value = (m .value ∙ ap (λ (y : R.Output). y .value) (sym n)) i })
+        (λ i. sym n i .lent) (m .sound) (m .sized)

@@ -1,0 +1,2 @@
+pub mod RightRig
+pub mod Check

@@ -1,0 +1,244 @@
+-- The soundness check: the tests that the code makes, and that they all hold exactly when the record is sound.
+use mathlib.Core.Path.{_≡_, sym, _∙_, ap, subst}
+use mathlib.Core.Logic.{_≢_, _⊎_, ⊎-elim, _↔_}
+use mathlib.Core.Bool.{Bool, true, cond}
+use mathlib.Core.List.{List, [], _∷_}
+use Prim.Native.Nat.{ℕ, zero, suc, _+_, _<_, _≤_}
+use native.Mathlib.Omega.{arith}
+use lib.Dec.{eqb, leb}
+use lib.ListN.{length, getD}
+use borrow.Author.Tests.{leb-true, le-leb, eqb-true, eqb-false, eq-eqb}
+use Rattle.laws.specs.Cases.{by}
+use Rattle.laws.specs.All.{allOf, allOf-at, allOf-cons, allOf-nil, allOf-skip, allOf-last}
+use Rattle.laws.specs.Members.{In, Distinct}
+use Rattle.laws.specs.Tables.{has-place}
+use Rattle.chains.specs.Held.{at, Held, Sized}
+use Rattle.chains.specs.Held as L
+use Rattle.chains.specs.Read.{chainsOf, sound-chains, read-once, inside, inside-low, inside-high, only-of}
+use Rattle.chains.specs.declared.Links.{Links}
+use Rattle.sound_chains.specs.Order.{risingb, rising-sorted, sorted-rising}
+use Rattle.rig.specs.Rules.{Right}
+use Rattle.rig.specs.declared.Cycle.{Cycle}
+use Rattle.rig.specs.declared.Rig.{Rig}
+use Rattle.rules.specs.State.{timeChain}
+use Rattle.rules.specs.Running.{chosen}
+use Rattle.rules.specs.Calls.{lastCount}
+use Rattle.rules_laws.specs.Ranks.{chosen-runs, runs-chosen}
+use Rattle.rules.specs.Soundness as R
+use Rattle.sound_tables.specs.Tests.{withinB, emptyB, condsB, treeB, waitsB, flagsB}
+use Rattle.sound_tables.specs.Exact.{within-facts, within-back, empty-facts, empty-back, conds-facts, conds-back, tree-facts, tree-back, waits-facts, waits-back, flags-facts, flags-back}
+use Rattle.exec_state.specs.declared.State.{State}
+use Rattle.exec_sound.specs.Sound.{SoundParts}
+use Rattle.exec_sound.specs.Laws.RightRig.{rig-ok}
+
+-- the tables have these lengths in every record that a program holds
+pub record Sizes (s : State) : Type 0 where
+  pub state : length (s .state) ≡ 65
+  pub value : length (s .value) ≡ 129
+  pub cond : length (s .cond) ≡ 1040
+  pub wake : length (s .wake) ≡ 65
+
+-- what a rig's numbers name is there in the tables, and only its tasks have activation flags
+pub record Placed (tasks : ℕ) (controllers activations : List ℕ) : Type 0 where
+  pub few : tasks ≤ 64
+  pub controller : (t : ℕ) → t < 65 → at controllers t < 65
+  pub activation : (t : ℕ) → t < 65 → at activations t < 129
+  pub flagged : R.Within tasks activations
+
+-- the links hold chains, the time chain in order, all of it above the count
+pub record ChainsSound (count : ℕ) (wake : List ℕ) (l : Links) : Type 0 where
+  pub sized : Sized l
+  pub links : L.Sound l
+  pub order : risingb (at wake) (count + 1) (chainsOf l 65) ≡ true
+
+-- who runs by the rules
+abbrev pub runner : Rig → State → ℕ
+runner g s = chosen (at (g .privileged)) (at (g .priority)) (s .state) (s .running)
+
+-- the tests by the tables that they look at
+unfoldable pub tableTestsOf : ℕ → ℕ → List ℕ → List ℕ → List ℕ → List ℕ → List ℕ → ℕ → List ℕ → List ℕ → List ℕ → List ℕ → List ℕ → ℕ → List Bool
+tableTestsOf tasks flags controller priority privileged activation present count value cond state wake on running =
+    leb count 2147483647 ∷
+    withinB state tasks 3 ∷
+    treeB controller state ∷
+    withinB value flags 1 ∷
+    condsB present cond ∷
+    emptyB wake tasks ∷
+    flagsB activation state value ∷
+    waitsB state on ∷
+    leb running 64 ∷
+    eqb running (chosen (at privileged) (at priority) state running) ∷
+    []
+
+abbrev pub tableTests : Rig → State → List Bool
+tableTests g s =
+    tableTestsOf (g .tasks) (g .flags) (g .controller) (g .priority) (g .privileged) (g .activation) (g .present) (s .count) (s .value) (s .cond) (s .state) (s .wake) (s .links .on) (s .running)
+
+module _ (tasks flags : ℕ) (controller priority privileged activation present : List ℕ) (count : ℕ) (value cond state wake on : List ℕ) (running : ℕ) where
+  -- where all tests but the last hold, the last is the answer
+  pub last-test : leb count 2147483647 ≡ true → withinB state tasks 3 ≡ true
+      → treeB controller state ≡ true → withinB value flags 1 ≡ true → condsB present cond ≡ true
+      → emptyB wake tasks ≡ true → flagsB activation state value ≡ true
+      → waitsB state on ≡ true → leb running 64 ≡ true
+      → (n : ℕ) → n ≡ chosen (at privileged) (at priority) state running
+      → eqb running n ≡ allOf (tableTestsOf tasks flags controller priority privileged activation present count value cond state wake on running)
+  unfolding tableTestsOf
+  last-test a b c d e f h i j n q =
+      ap (eqb running) q
+      ∙ sym
+      (allOf-skip _ _ a ∙ allOf-skip _ _ b ∙ allOf-skip _ _ c ∙ allOf-skip _ _ d ∙ allOf-skip _ _ e ∙ allOf-skip _ _ f ∙ allOf-skip _ _ h ∙ allOf-skip _ _ i ∙ allOf-skip _ _ j ∙ allOf-last _)
+
+-- ---- the chains that sound links show
+
+module _ (l : Links) (h : Held l (chainsOf l)) where
+  seen-inside : (t c : ℕ) → In t (chainsOf l c) → inside c ≡ true
+  seen-inside t c i = by (inside c) (λ e. e) (λ e. absurd (subst (λ (ys : List ℕ). In t ys) (only-of l c e) i))
+
+  -- who is in a chain names it
+  pub seen : (t c : ℕ) → In t (chainsOf l c) → (t ≤ 64) × (at (l .on) t ≡ c) × (64 < c) × (c < 322)
+  seen t c i =
+      let e = seen-inside t c i in
+      let k = h .own c (inside-low c e) (inside-high c e) t i in
+      (k .1, k .2, inside-low c e, inside-high c e)
+
+  seen-once : (c : ℕ) → Distinct (chainsOf l c)
+  seen-once c =
+      by (inside c) (λ e. read-once l (chainsOf l) h c (inside-low c e) (inside-high c e))
+      (λ e. rw (only-of l c e) tt)
+
+  seen-apart : R.Apart (chainsOf l)
+  seen-apart t c d i j = sym (seen t c i .1) ∙ seen t d j .1
+
+  -- a task names a chain exactly when it is in one
+  pub named : (t : ℕ) → t < 65 → at (l .on) t ≢ 0 → R.Somewhere t (chainsOf l)
+  named t b n = ⊎-elim (λ q. absurd (n (q .0))) (λ q. (at (l .on) t, q .2)) (h .task t (omega arith))
+
+  pub names : (t : ℕ) → R.Somewhere t (chainsOf l) → at (l .on) t ≢ 0
+  names t w = let s = seen t (w .0) (w .1) in λ q. omega (arith, s .1, s .2)
+
+  pub chains-sound : (n : ℕ) (wakes states : List ℕ) → length states ≡ 65
+      → ((t : ℕ) → t < 65 → (getD states t 0 ≡ 2) ↔ (at (l .on) t ≢ 0))
+      → risingb (at wakes) (n + 1) (chainsOf l timeChain) ≡ true
+      → R.Chains n wakes (chainsOf l) states
+  chains-sound n wakes states z w e =
+      let k = rising-sorted (at wakes) (n + 1) (chainsOf l timeChain) e in
+      record {
+        listed =
+            record {
+              there = λ t q. let b = waiting t q in named t b (w t b .0 q);
+              two = λ t s. w t (omega (arith, seen t (s .0) (s .1) .0)) .1 (names t s);
+            };
+        apart = seen-apart;
+        once = seen-once;
+        only = λ t c i. let s = seen t c i in (omega (arith, s .2), omega (arith, s .3));
+        ordered = k .0;
+        ahead = λ t i. omega (arith, k .1 t i);
+      }
+    where
+      waiting : (t : ℕ) → getD states t 0 ≡ 2 → t < 65
+      waiting t q = omega (arith, has-place states t (λ y. omega (arith, q, y)))
+
+  pub waits-agree : (n : ℕ) (wakes states : List ℕ) → R.Chains n wakes (chainsOf l) states
+      → (t : ℕ) → t < 65 → (getD states t 0 ≡ 2) ↔ (at (l .on) t ≢ 0)
+  waits-agree n wakes states c t b = ((λ e. names t (c .listed .there t e)), (λ m. c .listed .two t (named t b m)))
+
+-- ---- the time chain's test
+
+module _ (count : ℕ) (wake : List ℕ) (l : Links) (h : L.Sound l) (b : Bool) (e : (X : ℕ → List ℕ) → Held l X → b ≡ risingb (at wake) (count + 1) (X 65)) where
+  is : b ≡ risingb (at wake) (count + 1) (chainsOf l 65)
+  is = e (chainsOf l) (sound-chains l h)
+
+  pub order-facts : Sized l → b ≡ true → ChainsSound count wake l
+  order-facts z q = record { sized = z; links = h; order = sym is ∙ q }
+
+  pub order-back : ChainsSound count wake l → b ≡ true
+  order-back c = is ∙ c .order
+
+-- ---- the tests and what they say
+
+module _ (g : Rig) (cycles : List Cycle) (s : State) (z : Sizes s) (right : Right g cycles) where
+  pub tests-sound : allOf (tableTests g s) ≡ true → ChainsSound (s .count) (s .wake) (s .links) → SoundParts g cycles s
+  unfolding tableTestsOf lastCount
+  tests-sound e c =
+      let k = allOf-at (tableTests g s) e in
+      let small = within-facts (s .state) (g .tasks) 3 (k 1) in
+      let values = within-facts (s .value) (g .flags) 1 (k 3) in
+      let conds = conds-facts (g .present) (s .cond) (z .cond) (k 4) in
+      record {
+        rig = right;
+        links = c .links;
+        sized = c .sized;
+        state =
+            record {
+              range = leb-true (s .count) 2147483647 (k 0);
+              tasks =
+                  record { sized = z .state; small = small .0; within = small .1; tree = tree-facts (g .controller) (s .state) (z .state) (k 2) };
+              flags = record { sized = z .value; small = values .0; within = values .1 };
+              conds = record { sized = z .cond; small = conds .0; within = conds .1 };
+              wakes = record { sized = z .wake; within = empty-facts (s .wake) (g .tasks) (z .wake) (k 5) };
+              chains =
+                  chains-sound (s .links) (sound-chains (s .links) (c .links)) (s .count) (s .wake) (s .state) (z .state)
+                  (waits-facts (s .state) (s .links .on) (k 7)) (c .order);
+              agree = flags-facts (g .activation) (s .state) (s .value) (right .shaped .activation) (k 6);
+              runs =
+                  subst (λ (n : ℕ). R.Runs (at (g .privileged)) (at (g .priority)) (s .state) n)
+                  (sym (eqb-true (s .running) (runner g s) (k 9)))
+                  (chosen-runs (at (g .privileged)) (at (g .priority)) (s .state) (z .state) (s .running));
+            };
+      }
+
+pub running-low : (g : Rig) (cycles : List Cycle) (s : State) → SoundParts g cycles s → s .running ≤ 64
+running-low g cycles s h = go (s .running) (h .state .runs .up)
+  where
+    go : (n : ℕ) → (n ≢ 0 → getD (s .state) n 0 ≡ 3) → n ≤ 64
+    go zero f = omega arith
+    go (suc n) f =
+        let e = f (λ q. omega arith) in
+        omega (arith, has-place (s .state) (suc n) (λ q. omega (arith, e, q)), h .state .tasks .sized)
+
+pub sound-tests : (g : Rig) (cycles : List Cycle) (s : State) → SoundParts g cycles s → allOf (tableTests g s) ≡ true
+unfolding tableTestsOf lastCount
+sound-tests g cycles s h =
+    let p = h .state in
+    allOf-cons _ _ (le-leb (s .count) 2147483647 (p .range))
+    (allOf-cons _ _ (within-back (s .state) (g .tasks) 3 (p .tasks .small) (p .tasks .within))
+    (allOf-cons _ _ (tree-back (g .controller) (s .state) (p .tasks .tree))
+    (allOf-cons _ _ (within-back (s .value) (g .flags) 1 (p .flags .small) (p .flags .within))
+    (allOf-cons _ _ (conds-back (g .present) (s .cond) (p .conds .small) (p .conds .within))
+    (allOf-cons _ _ (empty-back (s .wake) (g .tasks) (p .wakes .within))
+    (allOf-cons _ _ (flags-back (g .activation) (s .state) (s .value) (p .agree))
+    (allOf-cons _ _
+    (waits-back (s .state) (s .links .on) (waits-agree (s .links) (sound-chains (s .links) (h .links)) (s .count) (s .wake) (s .state) (p .chains)))
+    (allOf-cons _ _ (le-leb (s .running) 64 (running-low g cycles s h))
+    (allOf-cons _ _
+    (eq-eqb (s .running) (runner g s)
+    (sym (runs-chosen (at (g .privileged)) (at (g .priority)) (s .state) (p .tasks .sized) (s .running) (p .runs))))
+    allOf-nil)))))))))
+
+pub sound-order : (g : Rig) (cycles : List Cycle) (s : State) → SoundParts g cycles s → ChainsSound (s .count) (s .wake) (s .links)
+sound-order g cycles s h =
+    record {
+      sized = h .sized;
+      links = h .links;
+      order =
+          sorted-rising (at (s .wake)) (s .count + 1) (chainsOf (s .links) 65) (h .state .chains .ordered)
+          (λ a i. omega (arith, h .state .chains .ahead a i));
+    }
+
+-- what the tests ask of the rig and of the count
+pub placed : (g : Rig) (cycles : List Cycle) → Right g cycles → Placed (g .tasks) (g .controller) (g .activation)
+placed g cycles h =
+    let ok = rig-ok g cycles h in
+    record {
+      few = ok .tasks-le;
+      controller = λ t b.
+          by (eqb t 0)
+          (λ e. let z : t ≡ 0 = eqb-true t 0 e in omega (arith, ap (at (g .controller)) z, ok .controller-none))
+          (λ e. omega (arith, ok .controller-low t (eqb-false t 0 e)));
+      activation = λ t b. omega (arith, ok .activation-le t, h .flag-count .1);
+      flagged = ok .activation-task;
+    }
+
+pub count-low : (g : Rig) (s : State) → allOf (tableTests g s) ≡ true → s .count ≤ 2147483647
+unfolding tableTestsOf
+count-low g s e = leb-true (s .count) 2147483647 (allOf-at (tableTests g s) e 0)

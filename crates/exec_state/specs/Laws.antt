@@ -1,0 +1,6 @@
+pub mod Waking
+pub mod Due
+pub mod Offers
+pub mod Serving
+pub mod Waiting
+pub mod Effects

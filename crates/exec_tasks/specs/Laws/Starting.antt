@@ -1,0 +1,83 @@
+-- The start: what the code does, and that it is what the rules' start gives.
+use mathlib.Core.Path.{_≡_, refl, sym, _∙_, ap, subst}
+use mathlib.Core.Logic.{_⊎_, inl, inr}
+use mathlib.Core.List.{List}
+use Prim.Native.Nat.{ℕ, _≤_}
+use native.Mathlib.Omega.{arith}
+use lib.ListN.{length-replicate}
+use Rattle.chains.specs.Held as L
+use Rattle.rig.specs.Rules.{Right}
+use Rattle.rig.specs.declared.Cycle.{Cycle}
+use Rattle.rig.specs.declared.Rig.{Rig}
+use Rattle.rules.specs.State as S
+use Rattle.rules.specs.Serving.{serve}
+use Rattle.rules.specs.Running.{dispatch}
+use Rattle.rules.specs.Calls as R
+use Rattle.rules.specs.Soundness as Rules
+use Rattle.rules_laws.specs.Serve.{load}
+use Rattle.rules_laws.specs.Bound.{scheduled-load}
+use Rattle.rules_laws.specs.Steps.{started-ready, start-sound}
+use Rattle.exec_state.specs.View.{rigOf, viewOf, workOf}
+use Rattle.exec_state.specs.Post.{Servable, Blank, Scheduled}
+use Rattle.exec_state.specs.declared.State.{State}
+use Rattle.exec_state.specs.declared.Work.{Work}
+use Rattle.exec_sound.specs.Sound.{SoundParts}
+use Rattle.exec_sound.specs.Laws.RightRig.{rig-ok}
+use Rattle.exec_outcome.specs.Outcome.{answerIn}
+use Rattle.exec_outcome.specs.Laws.Settling.{Settles, Settled, fits, servable, effect-low}
+use Rattle.exec_outcome.specs.declared.Outcome.{Outcome}
+
+-- the rules' start: the state that the record shows, the flags served; the record is sound
+pub record Began (g : Rig) (cycles : List Cycle) (o : Outcome) : Type 0 where
+  pub next : viewOf (o .st) ≡ R.start (rigOf g cycles)
+  pub answer : answerIn o ≡ record { code = 0; report = record { served = R.started (rigOf g cycles) .served; words = 0; value = 0 } }
+  pub sound : SoundParts g cycles (o .st)
+
+-- or 4 where the rig breaks a rule
+pub record Begins (g : Rig) (cycles : List Cycle) (o : Outcome) : Type 0 where
+  pub is : (Right g cycles × Began g cycles o) ⊎ ((Right g cycles → ⊥) × (o .refusal ≡ 4))
+
+module _ (g : Rig) (cycles : List Cycle) (h : Right g cycles) (s : State) (b : Blank s) (w : Work) (m : Scheduled s g 1 w) where
+  start-work : workOf (w .st) (w .queue) ≡ R.scheduled (rigOf g cycles) S.blank 1
+  start-work = m .is cycles ∙ ap (λ (v : S.State). R.scheduled (rigOf g cycles) v 1) (b .is)
+
+  blank-low : R.scheduled (rigOf g cycles) S.blank 1 .now .running ≤ 64
+  unfolding S.blank R.effect
+  blank-low = effect-low (rigOf g cycles) S.blank (omega arith) (R.schedule 1)
+
+  blank-load : load (R.scheduled (rigOf g cycles) S.blank 1) ≤ 79
+  unfolding S.blank
+  blank-load = scheduled-load (rigOf g cycles) S.blank (length-replicate {A = ℕ} 65 0) 1
+
+  pub start-settles : Settles g w
+  start-settles =
+      record {
+        begins =
+            record {
+              fits = fits g cycles h;
+              room = subst (λ (y : S.Work). load y ≤ 79) (sym start-work) blank-load;
+              sound = subst L.Sound (sym (m .links)) (b .sound);
+              entries =
+                  subst (λ (y : S.Work). Servable (y .queue)) (sym start-work)
+                  (servable (rigOf g cycles) (h .flag-count .1) (R.scheduled (rigOf g cycles) S.blank 1 .queue) (started-ready (rigOf g cycles) (rig-ok g cycles h) .good .fine));
+            };
+        low = subst (λ (y : S.Work). y .now .running ≤ 64) (sym start-work) blank-low;
+      }
+
+  pub began-is : (o : Outcome) → Settled g w o → Began g cycles o
+  unfolding R.start R.started
+  began-is o k =
+      let e : viewOf (o .st) ≡ R.start (rigOf g cycles) =
+      k .now cycles ∙ ap (λ (y : S.Work). dispatch (rigOf g cycles) (serve (rigOf g cycles) y .now)) start-work in
+      let n : o .served ≡ R.started (rigOf g cycles) .served = k .served cycles ∙ ap (λ (y : S.Work). serve (rigOf g cycles) y .served) start-work in
+      record {
+        next = e;
+        answer = λ i. record { code = k .accepted i; report = record { served = n i; words = k .words i; value = k .value i } };
+        sound =
+            record {
+              rig = h;
+              links = k .sound;
+              sized = k .sized;
+              state = subst (λ (y : S.State). Rules.Sound (rigOf g cycles) y) (sym e) (start-sound (rigOf g cycles) (rig-ok g cycles h));
+            };
+      }

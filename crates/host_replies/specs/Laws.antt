@@ -1,0 +1,3 @@
+pub mod Beginning
+pub mod Same
+pub mod Promises

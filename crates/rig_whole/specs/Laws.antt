@@ -1,0 +1,4 @@
+pub mod Tree
+pub mod Exact
+pub mod Whole
+pub mod Which
