@@ -14,7 +14,7 @@ use lib.Seq.{drop-cons}
 use lib.Dec.{leb, ltb, eqb}
 use borrow.Author.Tests.{ltb-true, ltb-false, leb-true, eqb-true, eqb-false, lt-ltb, le-ltb, le-leb, lt-leb, ne-eqb}
 use Rattle.laws.specs.Cases.{by}
-use Rattle.laws.specs.All.{and-left, and-right}
+use Rattle.laws.specs.Laws.All.{and-left, and-right}
 use Rattle.decimal.specs.Decimal.{cap, bad, start, digit, step, run, number, decBy, dec}
 
 pub digit-of : (b : ℕ) → 48 ≤ b → b ≤ 57 → digit b ≡ true

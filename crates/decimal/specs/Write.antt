@@ -5,7 +5,8 @@ use mathlib.Core.Path.{_≡_, sym, ap, _∙_}
 use mathlib.Core.List.{List, [], _∷_}
 use native.Mathlib.Omega.{arith}
 use lib.ListN.{length, set, length-append}
-use Rattle.laws.specs.Put.{put, put-one, put-put, length-put}
+use Rattle.laws.specs.Put.{put}
+use Rattle.laws.specs.Laws.Put.{put-one, put-put, length-put}
 use Rattle.decimal.specs.Decimal.{dec, cap}
 use Rattle.decimal.specs.Laws.{dec-small, dec-tens}
 

@@ -9,7 +9,7 @@ use lib.Bits.{bitOr, bitAnd, bitXor, or-add-and, xor-add-and, xor-self, and-le-l
 use lib.Dec.{eqb}
 use Rattle.laws.specs.All.{all, Passed}
 use Rattle.laws.specs.Bits.{bit}
-use Rattle.laws.specs.Decides.{is-eqb, is-and, is-said, is-same}
+use Rattle.laws.specs.Laws.Decides.{is-eqb, is-and, is-said, is-same}
 
 pub or-zero : (a b : ℕ) → eqb (bitOr a b) 0 ≡ (eqb a 0 && eqb b 0)
 or-zero a b =

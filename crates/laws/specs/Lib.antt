@@ -17,3 +17,4 @@ pub mod Decides
 pub mod Faults
 pub mod Owners
 pub mod Mapped
+pub mod Laws

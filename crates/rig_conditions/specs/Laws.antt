@@ -5,15 +5,16 @@ use mathlib.Core.List.{List}
 use Prim.Native.Nat.{ℕ, _≤_, _<_}
 use lib.Dec.{eqb}
 use lib.ListN.{replicate, length-replicate}
-use Rattle.laws.specs.All.{all, all-more}
+use Rattle.laws.specs.All.{all}
+use Rattle.laws.specs.Laws.All.{all-more}
 use Rattle.rig_tables.specs.Tests.{at, placeOf, namedB, usedB}
 use mathlib.Core.Logic.{_≢_, inr, ⊎-elim}
 use native.Mathlib.Omega.{arith}
 use borrow.Author.Tests.{eqb-true, eqb-false}
 use Rattle.laws.specs.Cases.{by}
-use Rattle.laws.specs.Tables.{zeros}
-use Rattle.laws.specs.Decides.{is-eqb, is-and, is-else, is-all, is-any, is-said, is-same}
-use Rattle.laws.specs.Owners.{marked-by, marks-it, marks-bit}
+use Rattle.laws.specs.Laws.Tables.{zeros}
+use Rattle.laws.specs.Laws.Decides.{is-eqb, is-and, is-else, is-all, is-any, is-said, is-same}
+use Rattle.laws.specs.Laws.Owners.{marked-by, marks-it, marks-bit}
 use Rattle.rig_tables.specs.Lines.{Placed}
 use Rattle.rig_conditions.specs.Tables.{ZeroFrom, placeMarks, matchedOne, matchedB}
 

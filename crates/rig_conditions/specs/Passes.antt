@@ -4,7 +4,8 @@ use mathlib.Core.Bool.{Bool, _&&_}
 use mathlib.Core.List.{List}
 use Prim.Native.Nat.{ℕ}
 use lib.Dec.{leb}
-use Rattle.laws.specs.All.{all, all-three}
+use Rattle.laws.specs.All.{all}
+use Rattle.laws.specs.Laws.All.{all-three}
 use Rattle.rig_tables.specs.Tests.{at, smallOne, conditionsB}
 
 -- at most the other table's entry at its place

@@ -11,7 +11,8 @@ use lib.Dec.{eqb}
 use lib.ListN.{length, getD}
 use borrow.Author.Tests.{eqb-true, eqb-false, eq-eqb, ne-eqb, lt-ltb, le-ltb, le-leb, lt-leb}
 use Rattle.laws.specs.Cases.{by, below-but}
-use Rattle.laws.specs.All.{all, and-left, and-right, all-not}
+use Rattle.laws.specs.All.{all}
+use Rattle.laws.specs.Laws.All.{and-left, and-right, all-not}
 use Rattle.text.specs.Split.{split, part}
 use Rattle.text.specs.Laws.Split.{split-cons}
 use Rattle.text.specs.Laws.Parts.{Found, part-all, length-part}

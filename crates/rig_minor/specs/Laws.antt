@@ -5,13 +5,15 @@ use mathlib.Core.Bool.{Bool, _&&_, not, true, false, false≢true}
 use mathlib.Core.List.{List}
 use Prim.Native.Nat.{ℕ, _+_, _-_, _≤_, _<_, zero, suc}
 use lib.Dec.{eqb, ltb}
-use Rattle.laws.specs.All.{all, all-at, all-all}
+use Rattle.laws.specs.All.{all}
+use Rattle.laws.specs.Laws.All.{all-at, all-all}
 use Rattle.rig_tables.specs.Tests.{at, placeOf, onlyOne, minorConditionOne, marked}
 use mathlib.Core.Logic.{_≢_}
 use native.Mathlib.Omega.{arith}
 use borrow.Author.Tests.{eq-eqb, ne-eqb, ltb-true, ltb-false}
 use Rattle.laws.specs.Cases.{by}
-use Rattle.laws.specs.Decides.{Is, is-eqb, is-ltb, is-and, is-not, is-then, is-all, is-said, is-same}
+use Rattle.laws.specs.Decides.{Is}
+use Rattle.laws.specs.Laws.Decides.{is-eqb, is-ltb, is-and, is-not, is-then, is-all, is-said, is-same}
 use Rattle.rig_tables.specs.Lines.{Together}
 use Rattle.rig_minor.specs.Neighbours.{sameBefore, sameBehind, minorOkB}
 

@@ -14,8 +14,9 @@ use borrow.Author.Tests.{eqb-true, eqb-false, ne-eqb, ltb-true, ltb-false}
 use mir.Val.{Fits}
 use mir.Syntax.{w8, w64}
 use Rattle.laws.specs.Cases.{by, and-no, and-true}
-use Rattle.laws.specs.Put.{put, length-put}
-use Rattle.laws.specs.Tables.{zeros-at}
+use Rattle.laws.specs.Put.{put}
+use Rattle.laws.specs.Laws.Put.{length-put}
+use Rattle.laws.specs.Laws.Tables.{zeros-at}
 use Rattle.decimal.specs.Decimal.{cap, number}
 use Rattle.text.specs.Split.{split, part, rest}
 use Rattle.text.specs.Laws.Parts.{Found, rest-none, part-none, part-all}

@@ -12,7 +12,7 @@ use lib.Seq.{getD-set-same, getD-set-other, ext-getD}
 use borrow.Author.Tests.{eqb-true, eqb-false, eq-eqb, ne-eqb}
 use Rattle.laws.specs.Cases.{by}
 use Rattle.laws.specs.First.{firstFalse}
-use Rattle.laws.specs.Tables.{zeros-at}
+use Rattle.laws.specs.Laws.Tables.{zeros-at}
 use Rattle.rig.specs.declared.Rig.{Rig}
 use Rattle.rig_tables.specs.Tests.{place}
 use Rattle.rig.specs.Rules.{noRow}

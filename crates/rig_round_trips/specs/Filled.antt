@@ -11,7 +11,8 @@ use lib.ListN.{length, getD, set, replicate, length-set, getD-replicate, length-
 use lib.Seq.{getD-set-same, getD-set-other, ext-getD}
 use borrow.Author.Tests.{eqb-true, eqb-false, ne-eqb, lt-ltb, le-ltb, le-leb, ltb-true, ltb-false, leb-true}
 use Rattle.laws.specs.Cases.{by}
-use Rattle.laws.specs.All.{all, and-left, and-right}
+use Rattle.laws.specs.All.{all}
+use Rattle.laws.specs.Laws.All.{and-left, and-right}
 use Rattle.rig.specs.declared.Cycle.{Cycle}
 use Rattle.rig.specs.declared.Rig.{Rig}
 use Rattle.rig.specs.Rules.{noRow, noCycle, Right}
@@ -22,7 +23,7 @@ use Rattle.rig_lines.specs.Kinds.{counts, countOf, sorts, sortOf, under}
 use Rattle.rig_lines.specs.Line.{Line}
 use Rattle.rig_fill.specs.OfLines.{zeros}
 use Rattle.rig_round_trips.specs.Built.{Built, built, numbers, noMarks, noTable, nothing, underOne, aboveAfter, rowOf, putFlag, byKind, store, build}
-use Rattle.laws.specs.Tables.{zeros-at}
+use Rattle.laws.specs.Laws.Tables.{zeros-at}
 use Rattle.rig_round_trips.specs.Marked.{begun}
 use Rattle.rig_write.specs.Kept.{kept}
 use Rattle.rig_write.specs.File.{rigLine, isTask, taskLine, isCondition, conditionLine, isLine, flagLine, flagAt, isFlag, cycleLine, isRow, rowLine}

@@ -12,8 +12,9 @@ use lib.ListN.{length, getD, set, length-set, length-replicate}
 use borrow.Author.Tests.{eqb-true, eqb-false, eq-eqb, ne-eqb, le-leb, lt-leb, lt-ltb, ltb-true, ltb-false}
 use lib.Seq.{getD-set-same, getD-set-other}
 use Rattle.laws.specs.Cases.{by}
-use Rattle.laws.specs.All.{all, all-all, all-not, all-same}
-use Rattle.laws.specs.Tables.{getD-set, zeros-at}
+use Rattle.laws.specs.All.{all}
+use Rattle.laws.specs.Laws.All.{all-all, all-not, all-same}
+use Rattle.laws.specs.Laws.Tables.{getD-set, zeros-at}
 use Rattle.rig.specs.Forms.{noRig}
 use Rattle.rig_lines.specs.Kinds.{countOf, counts, keysOf, keys, highOf, highs, sorts, sortOf, under, keyed, rank, follows}
 use Rattle.rig_lines.specs.Laws.Kinds.{within-is}

@@ -10,7 +10,7 @@ use lib.Dec.{eqb, leb}
 use lib.ListN.{getD}
 use borrow.Author.Tests.{eqb-true, eqb-false, ne-eqb, lt-ltb, le-leb, ltb-true, leb-true}
 use Rattle.laws.specs.Cases.{by}
-use Rattle.laws.specs.All.{and-right}
+use Rattle.laws.specs.Laws.All.{and-right}
 use Rattle.rig.specs.declared.Cycle.{Cycle}
 use Rattle.rig.specs.declared.Rig.{Rig}
 use Rattle.rig.specs.Rules.{noCycle, Right, Rises}

@@ -6,8 +6,10 @@ use mathlib.Core.Path.{_≡_, refl, sym, ap, ap₂, _∙_, subst}
 use mathlib.Core.List.{List, [], _∷_}
 use lib.Dec.{eqb}
 use borrow.Author.Tests.{eqb-true, eq-eqb}
-use Rattle.laws.specs.All.{all, all-all, allOf-cons, allOf-nil}
-use Rattle.laws.specs.First.{firstFalse, all-first}
+use Rattle.laws.specs.All.{all}
+use Rattle.laws.specs.Laws.All.{all-all, allOf-cons, allOf-nil}
+use Rattle.laws.specs.First.{firstFalse}
+use Rattle.laws.specs.Laws.First.{all-first}
 use Rattle.rig.specs.declared.Cycle.{Cycle}
 use Rattle.rig.specs.declared.Rig.{Rig}
 use Rattle.rig.specs.Rules.{Right}

@@ -13,8 +13,10 @@ use lib.Dec.{eqb, leb}
 use lib.ListN.{length, getD, getD-replicate, length-replicate}
 use borrow.Author.Tests.{eqb-true, le-leb, leb-true}
 use Rattle.laws.specs.Cases.{by}
-use Rattle.laws.specs.All.{all, all-at, allOf-at, and-left, and-right}
-use Rattle.laws.specs.First.{firstFalse, first-all}
+use Rattle.laws.specs.All.{all}
+use Rattle.laws.specs.Laws.All.{all-at, allOf-at, and-left, and-right}
+use Rattle.laws.specs.First.{firstFalse}
+use Rattle.laws.specs.Laws.First.{first-all}
 use Rattle.rig.specs.declared.Cycle.{Cycle}
 use Rattle.rig.specs.declared.Rig.{Rig}
 use Rattle.rig.specs.Rules.{noRow}
@@ -29,7 +31,7 @@ use Rattle.rig_lines.specs.Laws.RoundTrip.{written, some-line}
 use Rattle.rig_round_trips.specs.Built.{Marks, Built, built, numbers, noMarks, noTable, nothing, underOne, aboveAfter, withAbove, withTask, withCondition, withLine, withRow, rowOf, hasLine, oneFlag, putFlag, store, build}
 use Rattle.rig_build.specs.declared.Answer.{Answer}
 use Rattle.rig_fill.specs.OfLines.{zeros}
-use Rattle.laws.specs.Tables.{zeros-at}
+use Rattle.laws.specs.Laws.Tables.{zeros-at}
 use Rattle.rig_round_trips.specs.Cases.{by-cases}
 use Rattle.rig_round_trips.specs.MarkTests.{markedOne, markTests}
 use Rattle.rig_round_trips.specs.Marked.{not-rig, tasks-most, begun, after-rig, marks-say}

@@ -3,7 +3,8 @@ use mathlib.Core.List.{List}
 use Prim.Native.Nat.{ℕ}
 use lib.Dec.{ltb}
 use lib.ListN.{getD}
-use Rattle.laws.specs.All.{all, all-all}
+use Rattle.laws.specs.All.{all}
+use Rattle.laws.specs.Laws.All.{all-all}
 use mathlib.Core.Path.{_≡_, sym}
 use mathlib.Core.Bool.{true}
 use borrow.Author.Tests.{lt-ltb}

@@ -9,9 +9,11 @@ use lib.Dec.{eqb, ltb}
 use lib.ListN.{length, length-append}
 use borrow.Author.Tests.{lt-ltb, le-ltb}
 use Rattle.laws.specs.Cases.{by}
-use Rattle.laws.specs.Put.{put, length-put}
+use Rattle.laws.specs.Put.{put}
+use Rattle.laws.specs.Laws.Put.{length-put}
 use Rattle.decimal.specs.Decimal.{cap, dec}
-use Rattle.bench_script.specs.Wrote.{Wrote, wrote-then, wrote-as, wrote-none}
+use Rattle.bench_script.specs.Wrote.{Wrote}
+use Rattle.bench_script.specs.Laws.Wrote.{wrote-then, wrote-as, wrote-none}
 use Rattle.bench_script.specs.Laws.Written.{dec-length}
 
 -- a number in decimal; one of more than ten digits, to which no file leads, is left out

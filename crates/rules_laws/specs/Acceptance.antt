@@ -9,7 +9,7 @@ use native.Mathlib.Numerals.{add-one}
 use borrow.Author.Tests.{eqb-true, eqb-false, ltb-false, not-false}
 use lib.Dec.{eqb, ltb}
 use Rattle.laws.specs.Cases.{or-false}
-use Rattle.laws.specs.Any.{any-not}
+use Rattle.laws.specs.Laws.Any.{any-not}
 use Rattle.rules.specs.Rig.{Rig}
 use Rattle.rules.specs.State.{State}
 use Rattle.rules.specs.Calls.{Refusal, row, decide, nobodyRuns, noSuch, notController, activationOne, isActivation}

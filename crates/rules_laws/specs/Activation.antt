@@ -13,9 +13,10 @@ use lib.Dec.{eqb, leb}
 use lib.ListN.{length, getD, set}
 use lib.Seq.{getD-set-other}
 use Rattle.laws.specs.Cases.{by, dec-eq, and-true}
-use Rattle.laws.specs.Tables.{same-under, keeps-under}
-use Rattle.laws.specs.Members.{keep, in-keep}
-use Rattle.laws.specs.Stores.{stores-keep}
+use Rattle.laws.specs.Laws.Tables.{same-under, keeps-under}
+use Rattle.laws.specs.Members.{keep}
+use Rattle.laws.specs.Laws.Members.{in-keep}
+use Rattle.laws.specs.Laws.Stores.{stores-keep}
 use Rattle.rules.specs.Rig.{Rig, placeOf}
 use Rattle.rules.specs.RigOk.{RigOk}
 use Rattle.rules.specs.State.{State, Work, Entry, stateOf, valueOf, active, inactive, dispatchable, chainOf, timeChain, withCount, withTables}

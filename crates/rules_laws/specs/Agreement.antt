@@ -7,7 +7,7 @@ use native.Mathlib.Omega.{arith}
 use lib.ListN.{length, getD, set}
 use lib.Seq.{getD-set-same, getD-set-other}
 use Rattle.laws.specs.Cases.{dec-eq}
-use Rattle.laws.specs.Tables.{getD-set, same-under, in-range}
+use Rattle.laws.specs.Laws.Tables.{getD-set, same-under, in-range}
 use Rattle.rules.specs.Rig.{Rig}
 use Rattle.rules.specs.RigOk.{RigOk}
 use Rattle.rules.specs.State.{Entry, active}

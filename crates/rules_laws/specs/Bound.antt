@@ -9,8 +9,10 @@ use native.Mathlib.Nat.{le-refl, le-trans}
 use lib.Dec.{eqb, leb}
 use lib.ListN.{length, getD, set, length-set, replicate}
 use lib.Seq.{getD-set-other}
-use Rattle.laws.specs.Iter.{iter, iter-ind}
-use Rattle.laws.specs.Tables.{total, over, over-set, over-store, over-length, over-le, in-range}
+use Rattle.laws.specs.Iter.{iter}
+use Rattle.laws.specs.Laws.Iter.{iter-ind}
+use Rattle.laws.specs.Tables.{total, over}
+use Rattle.laws.specs.Laws.Tables.{over-set, over-store, over-length, over-le, in-range}
 use Rattle.laws.specs.Members.{keep}
 use Rattle.rules.specs.Rig.{Rig}
 use Rattle.rules.specs.State.{State, Work, Done, Entry, active, valueOf, withTables, timeChain, blank}

@@ -8,8 +8,8 @@ use borrow.Author.Tests.{eqb-true, eq-eqb}
 use lib.Dec.{eqb}
 use lib.ListN.{length, getD}
 use Rattle.laws.specs.Cases.{and-true, and-go}
-use Rattle.laws.specs.Decides.{is-eqb, is-not, is-or, is-and, is-all, is-any}
-use Rattle.laws.specs.Stores.{stores-hit, stores-miss}
+use Rattle.laws.specs.Laws.Decides.{is-eqb, is-not, is-or, is-and, is-all, is-any}
+use Rattle.laws.specs.Laws.Stores.{stores-hit, stores-miss}
 use Rattle.rules.specs.Rig.{placeOf}
 use Rattle.rules.specs.Conditions.{relax, met, drive, names}
 

@@ -8,9 +8,10 @@ use native.Mathlib.Omega.{arith}
 use native.Mathlib.Nat.{le-refl}
 use lib.ListN.{getD, set}
 use lib.Seq.{getD-set-same}
-use Rattle.laws.specs.Iter.{iter-ind}
-use Rattle.laws.specs.Tables.{has-place}
-use Rattle.laws.specs.Members.{In, keep, in-keep}
+use Rattle.laws.specs.Laws.Iter.{iter-ind}
+use Rattle.laws.specs.Laws.Tables.{has-place}
+use Rattle.laws.specs.Members.{In, keep}
+use Rattle.laws.specs.Laws.Members.{in-keep}
 use Rattle.rules.specs.Rig.{Rig}
 use Rattle.rules.specs.RigOk.{RigOk}
 use Rattle.rules.specs.State.{State, Work, Entry, stateOf, active, withTables, timeChain, chainOf}

@@ -8,7 +8,7 @@ use native.Mathlib.Omega.{arith}
 use borrow.Author.Tests.{ne-eqb}
 use lib.Dec.{eqb, ltb}
 use lib.ListN.{length, getD, List·getD-eq-default}
-use Rattle.laws.specs.Iter.{iter-stop}
+use Rattle.laws.specs.Laws.Iter.{iter-stop}
 use Rattle.rules.specs.Rig.{Rig}
 use Rattle.rules.specs.State.{Work}
 use Rattle.rules.specs.Serving.{activate, ready, offer, offerNext, offers}

@@ -12,8 +12,8 @@ use lib.Dec.{eqb}
 use lib.ListN.{length, getD, set, replicate, length-replicate, length-set}
 use lib.Seq.{getD-set-same, getD-set-other}
 use Rattle.laws.specs.Cases.{dec-eq}
-use Rattle.laws.specs.Iter.{iter-ind}
-use Rattle.laws.specs.Tables.{zeros}
+use Rattle.laws.specs.Laws.Iter.{iter-ind}
+use Rattle.laws.specs.Laws.Tables.{zeros}
 use Rattle.rules.specs.Rig.{Rig}
 use Rattle.rules.specs.RigOk.{RigOk}
 use Rattle.rules.specs.Family.{Under, itself, below, markOne, family, isMarked}

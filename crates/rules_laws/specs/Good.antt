@@ -9,8 +9,8 @@ use native.Mathlib.Nat.{le-refl}
 use borrow.Author.Tests.{eqb-true}
 use lib.Dec.{eqb}
 use lib.ListN.{length, getD}
-use Rattle.laws.specs.Iter.{iter-ind}
-use Rattle.laws.specs.Tables.{in-range}
+use Rattle.laws.specs.Laws.Iter.{iter-ind}
+use Rattle.laws.specs.Laws.Tables.{in-range}
 use Rattle.rules.specs.Rig.{Rig}
 use Rattle.rules.specs.RigOk.{RigOk}
 use Rattle.rules.specs.State.{State, Work, Entry, stateOf, active, chainOf}

@@ -10,12 +10,16 @@ use lib.Dec.{eqb, leb}
 use lib.ListN.{length, getD, set}
 use lib.Seq.{getD-set-same, getD-set-other}
 use Rattle.laws.specs.Cases.{by}
-use Rattle.laws.specs.Iter.{iter-ind}
-use Rattle.laws.specs.Functions.{upd, upd-same, upd-other, on-upd}
-use Rattle.laws.specs.Tables.{in-range}
-use Rattle.laws.specs.Members.{In, in-cases, in-without, keep, in-keep}
-use Rattle.laws.specs.Order.{place, in-place}
-use Rattle.laws.specs.Ordered.{Ordered, ordered-map, ordered-keep, ordered-without, ordered-end, ordered-same}
+use Rattle.laws.specs.Laws.Iter.{iter-ind}
+use Rattle.laws.specs.Functions.{upd}
+use Rattle.laws.specs.Laws.Functions.{upd-same, upd-other, on-upd}
+use Rattle.laws.specs.Laws.Tables.{in-range}
+use Rattle.laws.specs.Members.{In, keep}
+use Rattle.laws.specs.Laws.Members.{in-cases, in-without, in-keep}
+use Rattle.laws.specs.Order.{place}
+use Rattle.laws.specs.Laws.Order.{in-place}
+use Rattle.laws.specs.Ordered.{Ordered}
+use Rattle.laws.specs.Laws.Ordered.{ordered-map, ordered-keep, ordered-without, ordered-end, ordered-same}
 use Rattle.rules.specs.Rig.{Rig}
 use Rattle.rules.specs.RigOk.{RigOk}
 use Rattle.rules.specs.State.{State, Work, stateOf, valueOf, withCount, withTables, timeChain, chainOf, blank}

@@ -11,9 +11,12 @@ use borrow.Author.Tests.{eqb-true, eq-eqb}
 use lib.Dec.{eqb}
 use lib.ListN.{getD}
 use Rattle.laws.specs.Cases.{and-true, and-go, dec-eq}
-use Rattle.laws.specs.Iter.{iter, iter-ind}
-use Rattle.laws.specs.Members.{In, in-left, in-right, in-cases}
-use Rattle.laws.specs.Ordered.{Ordered, ordered-end}
+use Rattle.laws.specs.Iter.{iter}
+use Rattle.laws.specs.Laws.Iter.{iter-ind}
+use Rattle.laws.specs.Members.{In}
+use Rattle.laws.specs.Laws.Members.{in-left, in-right, in-cases}
+use Rattle.laws.specs.Ordered.{Ordered}
+use Rattle.laws.specs.Laws.Ordered.{ordered-end}
 use Rattle.rules.specs.Rig.{Rig, Row}
 use Rattle.rules.specs.RigOk.{RigOk}
 use Rattle.rules.specs.State.{State, Entry, stateOf, active, on, off}

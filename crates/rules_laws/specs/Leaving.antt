@@ -11,9 +11,10 @@ use lib.Dec.{eqb, leb}
 use lib.ListN.{length, getD}
 use Rattle.laws.specs.Cases.{by, dec-eq, and-yes, and-no}
 use Rattle.laws.specs.Iter.{iter}
-use Rattle.laws.specs.Tables.{set-le}
-use Rattle.laws.specs.Members.{In, without, keep, keep-same, keep-all, without-keep}
-use Rattle.laws.specs.Stores.{stores-keep, stores-hit, stores-miss}
+use Rattle.laws.specs.Laws.Tables.{set-le}
+use Rattle.laws.specs.Members.{In, without, keep}
+use Rattle.laws.specs.Laws.Members.{keep-same, keep-all, without-keep}
+use Rattle.laws.specs.Laws.Stores.{stores-keep, stores-hit, stores-miss}
 use Rattle.rules.specs.Waiting.{leave}
 use Rattle.rules.specs.Family.{isMarked, cleared, leaveOne, deserted}
 

@@ -5,7 +5,7 @@ use mathlib.Core.List.{List, [], _∷_}
 use Prim.Native.Nat.{ℕ, _+_, _-_}
 use lib.Dec.{eqb}
 use lib.ListN.{length, set, length-set}
-use Rattle.laws.specs.Stores.{stores-length}
+use Rattle.laws.specs.Laws.Stores.{stores-length}
 use Rattle.rules.specs.Rig.{placeOf}
 use Rattle.rules.specs.Conditions.{relax, drive}
 use Rattle.rules.specs.Serving.{rouse}

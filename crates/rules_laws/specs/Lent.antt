@@ -11,8 +11,9 @@ use lib.Dec.{eqb, ltb, leb}
 use lib.ListN.{length, getD, drop, length-append, length-drop}
 use lib.Seq.{length-take-le, getD-take, getD-drop}
 use Rattle.laws.specs.Cases.{or-false}
-use Rattle.laws.specs.Iter.{iter-ind}
-use Rattle.laws.specs.Put.{put, length-put, put-inside, put-before, put-behind}
+use Rattle.laws.specs.Laws.Iter.{iter-ind}
+use Rattle.laws.specs.Put.{put}
+use Rattle.laws.specs.Laws.Put.{length-put, put-inside, put-before, put-behind}
 use Rattle.rules.specs.Rig.{Rig, Row}
 use Rattle.rules.specs.RigOk.{RowsOk}
 use Rattle.rules.specs.State.{State}

@@ -14,9 +14,10 @@ use lib.Dec.{eqb, leb}
 use lib.ListN.{getD, set}
 use lib.Seq.{getD-set-same, getD-set-other}
 use Rattle.laws.specs.Cases.{by, dec-eq, and-true}
-use Rattle.laws.specs.Iter.{iter, iter-ind, iter-zero}
-use Rattle.laws.specs.All.{all-same}
-use Rattle.laws.specs.Tables.{in-range}
+use Rattle.laws.specs.Iter.{iter}
+use Rattle.laws.specs.Laws.Iter.{iter-ind, iter-zero}
+use Rattle.laws.specs.Laws.All.{all-same}
+use Rattle.laws.specs.Laws.Tables.{in-range}
 use Rattle.rules.specs.Rig.{Rig, placeOf}
 use Rattle.rules.specs.State.{Work, Entry, stateOf}
 use Rattle.rules.specs.Conditions.{relax, metOne, met}

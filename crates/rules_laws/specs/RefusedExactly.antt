@@ -8,7 +8,8 @@ use native.Mathlib.Omega.{arith}
 use native.Mathlib.Numerals.{add-one}
 use lib.Dec.{eqb, ltb, leb}
 use lib.ListN.{length}
-use Rattle.laws.specs.Decides.{Is, is-eqb, is-leb, is-ltb, is-not, is-or, is-any, is-said}
+use Rattle.laws.specs.Decides.{Is}
+use Rattle.laws.specs.Laws.Decides.{is-eqb, is-leb, is-ltb, is-not, is-or, is-any, is-said}
 use Rattle.rules.specs.Rig.{Rig}
 use Rattle.rules.specs.State.{State, stateOf, active}
 use Rattle.rules.specs.Bus.{areaWords, blockWords}

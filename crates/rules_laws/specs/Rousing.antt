@@ -6,7 +6,7 @@ use Prim.Native.Nat.{ℕ, _≤_, _<_}
 use native.Mathlib.Omega.{arith}
 use lib.ListN.{length, getD, set, length-set}
 use lib.Seq.{getD-set-same, getD-set-other}
-use Rattle.laws.specs.Tables.{same-under, was-there, set-le, keeps}
+use Rattle.laws.specs.Laws.Tables.{same-under, was-there, set-le, keeps}
 use Rattle.laws.specs.Members.{In}
 use Rattle.rules.specs.Serving.{rouse}
 

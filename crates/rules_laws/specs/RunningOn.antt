@@ -11,7 +11,7 @@ use lib.Dec.{eqb, leb}
 use lib.ListN.{length, set}
 use lib.Seq.{getD-set-same, getD-set-other}
 use Rattle.laws.specs.Cases.{by, dec-eq}
-use Rattle.laws.specs.Tables.{keeps, in-range}
+use Rattle.laws.specs.Laws.Tables.{keeps, in-range}
 use Rattle.laws.specs.Members.{keep}
 use Rattle.rules.specs.Rig.{Rig}
 use Rattle.rules.specs.RigOk.{RigOk}

@@ -9,8 +9,8 @@ use native.Mathlib.Nat.{le-refl, le-trans, suc-add}
 use borrow.Author.Tests.{eqb-true}
 use lib.Dec.{eqb}
 use lib.ListN.{length, getD, set}
-use Rattle.laws.specs.Iter.{iter-ind}
-use Rattle.laws.specs.Tables.{over-set, over-store, in-range}
+use Rattle.laws.specs.Laws.Iter.{iter-ind}
+use Rattle.laws.specs.Laws.Tables.{over-set, over-store, in-range}
 use Rattle.rules.specs.Rig.{Rig}
 use Rattle.rules.specs.State.{State, Work, Entry, stateOf, chainOf}
 use Rattle.rules.specs.Serving.{push, isInactive, inactives, activate, offer, offerNext, offers, rouse, wake, takes, serveFlag, another, serving, serve, ready}

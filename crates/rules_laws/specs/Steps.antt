@@ -9,7 +9,7 @@ use borrow.Author.Tests.{eqb-true, leb-false, not-false}
 use lib.Dec.{eqb, leb}
 use lib.ListN.{set, replicate, length-replicate}
 use Rattle.laws.specs.Cases.{or-false}
-use Rattle.laws.specs.Tables.{zeros}
+use Rattle.laws.specs.Laws.Tables.{zeros}
 use Rattle.rules.specs.Rig.{Rig}
 use Rattle.rules.specs.RigOk.{RigOk}
 use Rattle.rules.specs.State.{State, Work, stateOf, valueOf, active, withRunning, blank}

@@ -11,9 +11,9 @@ use lib.Dec.{eqb}
 use lib.ListN.{getD, set, length-set}
 use lib.Seq.{getD-set-other}
 use Rattle.laws.specs.Cases.{dec-eq, and-true}
-use Rattle.laws.specs.Tables.{set-le, set-within, keeps-some, was-some}
+use Rattle.laws.specs.Laws.Tables.{set-le, set-within, keeps-some, was-some}
 use Rattle.laws.specs.Members.{In}
-use Rattle.laws.specs.Stores.{stores-keep}
+use Rattle.laws.specs.Laws.Stores.{stores-keep}
 use Rattle.rules.specs.Rig.{Rig, placeOf}
 use Rattle.rules.specs.RigOk.{RigOk}
 use Rattle.rules.specs.Conditions.{relax, drive}

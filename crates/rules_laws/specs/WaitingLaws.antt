@@ -10,10 +10,13 @@ use lib.ListN.{length, getD, set}
 use lib.Seq.{getD-set-same, getD-set-other}
 use Rattle.laws.specs.Cases.{by, dec-eq}
 use Rattle.laws.specs.Iter.{iter}
-use Rattle.laws.specs.Tables.{in-range, was-there, keeps}
-use Rattle.laws.specs.Functions.{upd, upd-same, upd-other, on-upd}
-use Rattle.laws.specs.Members.{In, Distinct, keep, in-left, in-right, in-cases, dec-in, in-without, without-in, distinct-without, in-keep, keep-in, keep-test, distinct-keep, distinct-end}
-use Rattle.laws.specs.Order.{Sorted, place, in-place, place-new, place-old, place-sorted, place-distinct, sorted-same, keep-sorted, without-sorted}
+use Rattle.laws.specs.Laws.Tables.{in-range, was-there, keeps}
+use Rattle.laws.specs.Functions.{upd}
+use Rattle.laws.specs.Laws.Functions.{upd-same, upd-other, on-upd}
+use Rattle.laws.specs.Members.{In, Distinct, keep}
+use Rattle.laws.specs.Laws.Members.{in-left, in-right, in-cases, dec-in, in-without, without-in, distinct-without, in-keep, keep-in, keep-test, distinct-keep, distinct-end}
+use Rattle.laws.specs.Order.{Sorted, place}
+use Rattle.laws.specs.Laws.Order.{in-place, place-new, place-old, place-sorted, place-distinct, sorted-same, keep-sorted, without-sorted}
 use Rattle.rules.specs.State.{timeChain}
 use Rattle.rules.specs.Serving.{rouse}
 use Rattle.rules.specs.Waiting.{leave, isDue}

@@ -11,11 +11,13 @@ use lib.Dec.{eqb, leb, ltb}
 use lib.ListN.{length, getD, set}
 use lib.Seq.{getD-set-same, getD-set-other}
 use Rattle.laws.specs.Cases.{by}
-use Rattle.laws.specs.Iter.{iter, iter-ind}
-use Rattle.laws.specs.Functions.{upd-same, upd-other}
-use Rattle.laws.specs.Tables.{in-range, keeps}
-use Rattle.laws.specs.Members.{In, without-in, keep, keep-in}
-use Rattle.laws.specs.Order.{place-new, place-old}
+use Rattle.laws.specs.Iter.{iter}
+use Rattle.laws.specs.Laws.Iter.{iter-ind}
+use Rattle.laws.specs.Laws.Functions.{upd-same, upd-other}
+use Rattle.laws.specs.Laws.Tables.{in-range, keeps}
+use Rattle.laws.specs.Members.{In, keep}
+use Rattle.laws.specs.Laws.Members.{without-in, keep-in}
+use Rattle.laws.specs.Laws.Order.{place-new, place-old}
 use Rattle.rules.specs.Rig.{Rig}
 use Rattle.rules.specs.RigOk.{RigOk}
 use Rattle.rules.specs.State.{State, Work, Entry, stateOf, valueOf, wakeOf, withTables, timeChain, chainOf}

@@ -8,14 +8,16 @@ use native.Mathlib.Omega.{arith}
 use lib.Bits.{bitOr, bitXor}
 use lib.Dec.{eqb}
 use lib.ListN.{length, set, length-set, replicate}
-use Rattle.laws.specs.Tables.{zeros-at}
+use Rattle.laws.specs.Laws.Tables.{zeros-at}
 use borrow.Author.Tests.{eq-eqb, ne-eqb, eqb-true, lt-leb, le-leb, le-ltb, lt-ltb}
 use Rattle.laws.specs.Cases.{by, and-true, and-yes}
-use Rattle.laws.specs.All.{all, all-at}
+use Rattle.laws.specs.All.{all}
+use Rattle.laws.specs.Laws.All.{all-at}
 use Rattle.laws.specs.Faults.{or-zero, xor-zero}
 use Rattle.chains.specs.Ops.{walk}
 use Rattle.chains.specs.Laws.Check.{stepb, step-out, ringb, marked, rings-start, rings-next, taskb, ring-end, ring-out, ring-bad, ring-next, walk-end, walk-next, tasks-accepted, accepted-tasks, equivalence}
-use Rattle.chains.specs.Held.{at, at-set, Sound}
+use Rattle.chains.specs.Held.{at, Sound}
+use Rattle.chains.specs.Laws.Held.{at-set}
 use Rattle.chains.specs.declared.Links.{Links}
 use Rattle.sound_chains.specs.declared.Ring.{Ring}
 use Rattle.sound_chains.specs.Post.{aloneb, RingsTo, Walked, WalkedFrom, AllWalked, TasksTested}

@@ -10,7 +10,8 @@ use borrow.Author.Tests.{le-leb, lt-leb, leb-true}
 use Rattle.laws.specs.Members.{In}
 use Rattle.laws.specs.Order.{Sorted}
 use Rattle.chains.specs.Laws.Check.{and-out}
-use Rattle.chains.specs.Held.{at, Held, Scan, scan-start, start-back, scan-step, scan-back, scan-none}
+use Rattle.chains.specs.Held.{at, Held, Scan}
+use Rattle.chains.specs.Laws.Held.{scan-start, start-back, scan-step, scan-back, scan-none}
 use Rattle.chains.specs.declared.Links.{Links}
 
 -- each waking count is at least the one before, the first at least lo

@@ -9,8 +9,9 @@ use lib.Dec.{eqb, leb, ltb}
 use lib.ListN.{length, getD, List·getD-eq-default}
 use borrow.Author.Tests.{leb-true, le-leb, ltb-true, ltb-false, le-ltb, eqb-true, eqb-false, eq-eqb, ne-eqb}
 use Rattle.laws.specs.Cases.{by, by-eqb}
-use Rattle.laws.specs.All.{all, all-at, all-all, all-more}
-use Rattle.laws.specs.Tables.{has-place}
+use Rattle.laws.specs.All.{all}
+use Rattle.laws.specs.Laws.All.{all-at, all-all, all-more}
+use Rattle.laws.specs.Laws.Tables.{has-place}
 use Rattle.rules.specs.State.{active}
 use Rattle.rules.specs.Calls.{noSuch}
 use Rattle.rules.specs.Soundness.{Within, Tree}

@@ -10,9 +10,11 @@ use lib.Dec.{eqb, leb}
 use lib.ListN.{length, getD}
 use borrow.Author.Tests.{eqb-true, eqb-false}
 use Rattle.laws.specs.Cases.{by}
-use Rattle.laws.specs.All.{all, since, since-at}
+use Rattle.laws.specs.All.{all, since}
+use Rattle.laws.specs.Laws.All.{since-at}
 use Rattle.laws.specs.Largest.{top-next}
-use Rattle.laws.specs.Decides.{Is, is-eqb, is-leb, is-ltb, is-and, is-else, is-then, is-all, is-said, is-same}
+use Rattle.laws.specs.Decides.{Is}
+use Rattle.laws.specs.Laws.Decides.{is-eqb, is-leb, is-ltb, is-and, is-else, is-then, is-all, is-said, is-same}
 use Rattle.rules.specs.Calls.{noSuch}
 use Rattle.rules_laws.specs.Acceptance.{there-is}
 use Rattle.sound_tables.specs.Tests.{withinOne, withinB, emptyB}

@@ -9,7 +9,8 @@ use Rattle.laws.specs.Cases.{by}
 use Rattle.chains.specs.Held.{at}
 use Rattle.compool.specs.View.{rowOf, rowsOf}
 use Rattle.rig.specs.Rules.{noRow}
-use Rattle.rig.specs.Forms.{cyclesOf, cycles-flag}
+use Rattle.rig.specs.Forms.{cyclesOf}
+use Rattle.rig.specs.Laws.Forms.{cycles-flag}
 use Rattle.rig.specs.declared.Cycle.{Cycle}
 use Rattle.rig.specs.declared.Rig.{Rig}
 use Rattle.rig.specs.declared.Row.{Row}

@@ -11,10 +11,13 @@ use lib.ListN.{length, set, replicate, length-set, length-replicate}
 use lib.Seq.{getD-set-other}
 use borrow.Author.Tests.{lt-ltb, le-ltb, ltb-true, ltb-false, eqb-true, eqb-false, eq-eqb}
 use Rattle.laws.specs.Cases.{by}
-use Rattle.laws.specs.Functions.{upd, upd-same, upd-upd, upd-self}
+use Rattle.laws.specs.Functions.{upd}
+use Rattle.laws.specs.Laws.Functions.{upd-same, upd-upd, upd-self}
 use Rattle.laws.specs.Members.{In, Distinct}
-use Rattle.chains.specs.Held.{at, Held, Sized, Selves, selves-empty, linked-after, tail-node}
-use Rattle.chains.specs.Read.{chainsOf, held-chains, inside-is, inside}
+use Rattle.chains.specs.Held.{at, Held, Sized, Selves}
+use Rattle.chains.specs.Laws.Held.{selves-empty, linked-after, tail-node}
+use Rattle.chains.specs.Read.{chainsOf, inside}
+use Rattle.chains.specs.Laws.Read.{held-chains, inside-is}
 use Rattle.chains.specs.declared.Links.{Links}
 use Rattle.witness.specs.Tables.{table, table-length, table-at}
 

@@ -10,7 +10,7 @@ use lib.ListN.{getD, List·getD-eq-default}
 use borrow.Author.Tests.{ne-eqb}
 use Rattle.text.specs.Split.{led}
 use Rattle.decimal.specs.Decimal.{decBy, dec}
-use Rattle.rig.specs.Forms.{table-of-cycles}
+use Rattle.rig.specs.Laws.Forms.{table-of-cycles}
 use Rattle.rig_lines.specs.Kinds.{nameOf}
 use Rattle.rig_lines.specs.Text.{bytesOf, text}
 use Rattle.rig_build.specs.Read.{readOf, accepted}

@@ -8,9 +8,11 @@ use native.Mathlib.Nat.{le-of-suc-le-suc}
 use native.Mathlib.Omega.{arith}
 use lib.Dec.{eqb, ltb}
 use lib.ListN.{getD, drop}
-use Rattle.laws.specs.All.{all-all, and-left, and-right, allOf, allOf-at, allOf-cons, allOf-nil}
+use Rattle.laws.specs.All.{allOf}
+use Rattle.laws.specs.Laws.All.{all-all, and-left, and-right, allOf-at, allOf-cons, allOf-nil}
 use Rattle.laws.specs.Any.{any}
-use Rattle.laws.specs.First.{firstFalse, first-all, all-first}
+use Rattle.laws.specs.First.{firstFalse}
+use Rattle.laws.specs.Laws.First.{first-all, all-first}
 use Rattle.rig_tables.specs.Tests.{at, linesRiseB, smallB, conditionTest, conditionOne, conditionsB, conditionTaskTest, conditionTaskOne, conditionTasksB, linesB, notMinorB, namedB, isPlace, usedOne, usedB, minorConditionsB, taskZerosB, lineZeroOne, lineZerosB, controllersB, servesOneB}
 use Rattle.rig_tables.specs.Tests.{marked}
 use Rattle.rig.specs.Rules.{Right}

@@ -9,7 +9,8 @@ use lib.ListN.{length}
 use borrow.Author.Tests.{eq-eqb, ne-eqb, lt-ltb}
 use Rattle.laws.specs.Cases.{if-yes, if-no}
 use Rattle.rig.specs.Rules.{Right}
-use Rattle.rig.specs.Forms.{cyclesOf, tableOf, cycles-of-table}
+use Rattle.rig.specs.Forms.{cyclesOf, tableOf}
+use Rattle.rig.specs.Laws.Forms.{cycles-of-table}
 use Rattle.rig.specs.declared.Cycle.{Cycle}
 use Rattle.rules.specs.State as S
 use Rattle.rules.specs.Calls as R
@@ -23,7 +24,8 @@ use Rattle.rig_build.specs.declared.Answer.{Answer}
 use Rattle.rig_build.specs.Read.{readOf}
 use Rattle.bench_script.specs.Letters.{startName}
 use Rattle.bench_script.specs.Output.{lineText, startRoom}
-use Rattle.bench_script.specs.Wrote.{Wrote, wrote-as}
+use Rattle.bench_script.specs.Wrote.{Wrote}
+use Rattle.bench_script.specs.Laws.Wrote.{wrote-as}
 use Rattle.bench_script.specs.Laws.Written.{Begun}
 use Rattle.bench_input.specs.Line.{lineNumber}
 use Rattle.bench_morning.specs.Morning.{fileRig, startText}

@@ -9,12 +9,14 @@ use lib.Dec.{ltb}
 use lib.ListN.{length, getD, take, set, length-append, length-set, length-take}
 use lib.Seq.{take-suc, take-all}
 use Rattle.laws.specs.Cases.{by}
-use Rattle.laws.specs.Put.{put, put-one, put-put, length-put}
+use Rattle.laws.specs.Put.{put}
+use Rattle.laws.specs.Laws.Put.{put-one, put-put, length-put}
 use Rattle.decimal.specs.Decimal.{decBy, dec}
 use Rattle.text.specs.Split.{led}
 use Rattle.bench_script.specs.Letters.{lf, question, startName}
 use Rattle.bench_script.specs.Output.{fieldsText, lineText, wrongText, startRoom}
-use Rattle.bench_script.specs.Wrote.{Wrote, wrote-same, wrote-then, wrote-as, wrote-none, byte-wrote}
+use Rattle.bench_script.specs.Wrote.{Wrote}
+use Rattle.bench_script.specs.Laws.Wrote.{wrote-same, wrote-then, wrote-as, wrote-none, byte-wrote}
 
 length-take-most : (i : ℕ) (l : List ℕ) → length (take i l) ≤ i
 length-take-most i l = rw length-take (omega arith)

@@ -2,7 +2,7 @@
 use borrow.Author.Needs.{needs}
 use mathlib.Core.Path.{sym}
 use mathlib.Core.List.{[], append-nil}
-use Rattle.chains.specs.Held.{puts-at, tail-node}
+use Rattle.chains.specs.Laws.Held.{puts-at, tail-node}
 use Rattle.chains.proofs.append.Statement.{statement}
 use Rattle.chains.proofs.append.Tie as tie
 

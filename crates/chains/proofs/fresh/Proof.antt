@@ -3,7 +3,8 @@ use borrow.Author.Needs.{needs}
 use Prim.Native.Nat.{_-_, _≤_, _<_}
 use mathlib.Core.Path.{_≡_}
 use native.Mathlib.Omega.{arith}
-use Rattle.chains.specs.Held.{Selves, selves-start, selves-step, selves-empty}
+use Rattle.chains.specs.Held.{Selves}
+use Rattle.chains.specs.Laws.Held.{selves-start, selves-step, selves-empty}
 use Rattle.chains.proofs.fresh.Statement.{statement}
 use Rattle.chains.proofs.fresh.Tie as tie
 

@@ -2,7 +2,8 @@
 use borrow.Author.Needs.{needs}
 use native.Mathlib.Omega.{arith}
 use Prim.Native.Nat.{_<_}
-use Rattle.chains.specs.Held.{at, Sized, linked-after, node-links}
+use Rattle.chains.specs.Held.{at, Sized}
+use Rattle.chains.specs.Laws.Held.{linked-after, node-links}
 use Rattle.chains.proofs.link_after.Statement.{statement}
 use Rattle.chains.proofs.link_after.Tie as tie
 

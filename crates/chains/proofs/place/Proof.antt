@@ -6,7 +6,8 @@ use Prim.Native.Nat.{ℕ, _≤_, _<_}
 use native.Mathlib.Omega.{arith}
 use lib.ListN.{length}
 use Rattle.chains.specs.Ops.{walk}
-use Rattle.chains.specs.Held.{at, Held, Scan, scan-start, scan-task, scan-step, scan-falls, scan-done, scan-node, puts-at}
+use Rattle.chains.specs.Held.{at, Held, Scan}
+use Rattle.chains.specs.Laws.Held.{scan-start, scan-task, scan-step, scan-falls, scan-done, scan-node, puts-at}
 use Rattle.chains.proofs.place.Statement.{statement}
 use Rattle.chains.proofs.place.Tie as tie
 

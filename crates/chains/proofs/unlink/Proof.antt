@@ -2,7 +2,8 @@
 use borrow.Author.Needs.{needs}
 use native.Mathlib.Omega.{arith}
 use Prim.Native.Nat.{_<_}
-use Rattle.chains.specs.Held.{at, Sized, unlinked, task-links}
+use Rattle.chains.specs.Held.{at, Sized}
+use Rattle.chains.specs.Laws.Held.{unlinked, task-links}
 use Rattle.chains.proofs.unlink.Statement.{statement}
 use Rattle.chains.proofs.unlink.Tie as tie
 

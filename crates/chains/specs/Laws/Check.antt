@@ -9,11 +9,13 @@ use lib.Dec.{eqb, leb, ltb}
 use lib.ListN.{length}
 use borrow.Author.Tests.{eq-eqb, ne-eqb, eqb-true, eqb-false, le-leb, lt-leb, lt-ltb, leb-true, ltb-true, not-true}
 use Rattle.laws.specs.Cases.{by}
-use Rattle.laws.specs.Functions.{upd, upd-same, on-upd}
+use Rattle.laws.specs.Functions.{upd}
+use Rattle.laws.specs.Laws.Functions.{upd-same, on-upd}
 use Rattle.laws.specs.Members.{In}
 use Rattle.chains.specs.Link.{Linked}
 use Rattle.chains.specs.Chains.{Chains}
-use Rattle.chains.specs.Ops.{walk, short, forward}
+use Rattle.chains.specs.Ops.{walk}
+use Rattle.chains.specs.Laws.Ops.{short, forward}
 
 -- the parts of a test that holds
 pub and-out : (a b : Bool) → (a && b) ≡ true → (a ≡ true) × (b ≡ true)

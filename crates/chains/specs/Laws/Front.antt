@@ -5,11 +5,14 @@ use mathlib.Core.List.{List, [], _∷_}
 use Prim.Native.Nat.{ℕ, _≤_, _<_}
 use native.Mathlib.Omega.{arith}
 use lib.ListN.{length}
-use Rattle.laws.specs.Functions.{upd, upd-same, upd-upd, upd-self}
-use Rattle.laws.specs.Members.{In, Distinct, without, without-mid}
+use Rattle.laws.specs.Functions.{upd}
+use Rattle.laws.specs.Laws.Functions.{upd-same, upd-upd, upd-self}
+use Rattle.laws.specs.Members.{In, Distinct, without}
+use Rattle.laws.specs.Laws.Members.{without-mid}
 use Rattle.chains.specs.Link.{first}
-use Rattle.chains.specs.Chains.{nodes-distinct, at-place}
-use Rattle.chains.specs.Ops.{walk, forward}
+use Rattle.chains.specs.Laws.Chains.{nodes-distinct, at-place}
+use Rattle.chains.specs.Ops.{walk}
+use Rattle.chains.specs.Laws.Ops.{forward}
 use Rattle.chains.specs.Held.{at, Held, Leaves}
 use Rattle.chains.specs.declared.Links.{Links}
 

@@ -8,11 +8,12 @@ use lib.Dec.{leb}
 use lib.Seq.{ext-getD}
 use borrow.Author.Tests.{leb-true, leb-false}
 use Rattle.laws.specs.Cases.{by}
-use Rattle.laws.specs.Members.{in-split}
+use Rattle.laws.specs.Laws.Members.{in-split}
 use Rattle.chains.specs.Link.{Chain}
 use Rattle.chains.specs.Held.{at, Held, Sized}
 use Rattle.chains.specs.declared.Links.{Links}
-use Rattle.chains.specs.Chains.{Chains, at-place, at-element}
+use Rattle.chains.specs.Chains.{Chains}
+use Rattle.chains.specs.Laws.Chains.{at-place, at-element}
 
 module _ (T M : ℕ) (N P O N′ P′ O′ : ℕ → ℕ) (X : ℕ → List ℕ) (h : Chains T M N P O X) (h′ : Chains T M N′ P′ O′ X) where
   pub anchors-same : (s : ℕ) → T < s → s < M → (N s ≡ N′ s) × (P s ≡ P′ s)

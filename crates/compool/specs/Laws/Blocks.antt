@@ -10,7 +10,8 @@ use lib.ListN.{length, getD, take, drop, set, length-set, length-take, length-dr
 use lib.Seq.{getD-set-same, getD-set-other, ext-getD, getD-take, getD-drop, paste, paste-suc, take-length}
 use borrow.Author.Tests.{eqb-true, eqb-false}
 use Rattle.laws.specs.Cases.{by}
-use Rattle.laws.specs.Put.{put, put-one, put-put, length-put}
+use Rattle.laws.specs.Put.{put}
+use Rattle.laws.specs.Laws.Put.{put-one, put-put, length-put}
 
 pub record Copied (area : List ℕ) (start : ℕ) (out₀ out : List ℕ) (i : ℕ) : Type 0 where
   pub long : length out ≡ length out₀

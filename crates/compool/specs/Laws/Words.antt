@@ -9,8 +9,10 @@ use lib.Dec.{eqb}
 use lib.ListN.{length, set, length-append, length-set}
 use borrow.Author.Tests.{eq-eqb, ne-eqb}
 use Rattle.laws.specs.Cases.{if-yes, if-no}
-use Rattle.laws.specs.Iter.{iter, iter-zero, iter-step}
-use Rattle.laws.specs.Put.{put, put-one, put-put, length-put, put-none}
+use Rattle.laws.specs.Iter.{iter}
+use Rattle.laws.specs.Laws.Iter.{iter-zero, iter-step}
+use Rattle.laws.specs.Put.{put}
+use Rattle.laws.specs.Laws.Put.{put-one, put-put, length-put, put-none}
 use Rattle.rules.specs.Rig as R
 use Rattle.rules.specs.Bus.{rowDue, rowWords, receiveWord, transmitWord, busOne, busWords}
 

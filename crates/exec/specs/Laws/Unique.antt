@@ -7,7 +7,8 @@ use Prim.Native.Nat.{ℕ}
 use native.Mathlib.Omega.{arith}
 use Rattle.chains.specs.Held.{Held, Sized}
 use Rattle.chains.specs.Held as Links
-use Rattle.chains.specs.Read.{chainsOf, sound-chains}
+use Rattle.chains.specs.Read.{chainsOf}
+use Rattle.chains.specs.Laws.Read.{sound-chains}
 use Rattle.chains.specs.Laws.Unique.{held-same}
 use Rattle.rules.specs.State as S
 use Rattle.rules.specs.Calls as R

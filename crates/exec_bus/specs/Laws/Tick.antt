@@ -7,7 +7,7 @@ use native.Mathlib.Omega.{arith}
 use lib.Dec.{leb, ltb}
 use lib.ListN.{length, length-append}
 use borrow.Author.Tests.{leb-false, ltb-false}
-use Rattle.laws.specs.Iter.{iter-ind}
+use Rattle.laws.specs.Laws.Iter.{iter-ind}
 use Rattle.laws.specs.Put.{put}
 use Rattle.rig.specs.Rules.{Right}
 use Rattle.rig.specs.declared.Cycle.{Cycle}

@@ -5,7 +5,7 @@ use Prim.Native.Nat.{ℕ, _+_, _≤_, _-_}
 use native.Mathlib.Omega.{arith}
 use Rattle.rig_tables.specs.Tests.{at}
 use Rattle.rules.specs.Conditions.{drive}
-use Rattle.laws.specs.Iter.{iter-zero}
+use Rattle.laws.specs.Laws.Iter.{iter-zero}
 use Rattle.exec_conditions.specs.Laws.Driving.{lines-fewer, drive-more, drive-pass}
 use Rattle.exec_conditions.proofs.drive.Statement.{statement}
 use Rattle.exec_conditions.proofs.drive.Tie as tie

@@ -5,7 +5,8 @@ use mathlib.Core.Logic.{⊎-elim}
 use Prim.Native.Nat.{ℕ, _≤_, _-_}
 use native.Mathlib.Omega.{arith}
 use lib.Dec.{eqb}
-use Rattle.laws.specs.Any.{any, any-zero, any-at, any-skip}
+use Rattle.laws.specs.Any.{any}
+use Rattle.laws.specs.Laws.Any.{any-zero, any-at, any-skip}
 use Rattle.exec_conditions.specs.Lines.{past}
 use Rattle.exec_conditions.proofs.named_from.Statement.{statement}
 use Rattle.exec_conditions.proofs.named_from.Tie as tie

@@ -3,7 +3,8 @@ use mathlib.Core.Path.{_≡_, sym, _∙_}
 use mathlib.Core.Bool.{false}
 use Prim.Native.Nat.{_≤_, _-_}
 use native.Mathlib.Omega.{arith}
-use Rattle.laws.specs.Any.{any, any-zero, any-next, any-at}
+use Rattle.laws.specs.Any.{any}
+use Rattle.laws.specs.Laws.Any.{any-zero, any-next, any-at}
 use Rattle.rig_tables.specs.Tests.{at}
 use Rattle.rules.specs.Conditions.{names, namesOne}
 use Rattle.exec_conditions.proofs.names.Statement.{statement}

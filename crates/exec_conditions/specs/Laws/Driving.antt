@@ -2,13 +2,15 @@
 use mathlib.Core.Path.{_≡_, refl, sym, ap, _∙_}
 use Prim.Native.Nat.{_+_, _<_, _≤_, ℕ, zero, suc}
 use lib.Dec.{eqb}
-use Rattle.laws.specs.Any.{any, any-not}
+use Rattle.laws.specs.Any.{any}
+use Rattle.laws.specs.Laws.Any.{any-not}
 use Rattle.rules.specs.Conditions.{drive}
 use mathlib.Core.Bool.{false}
 use mathlib.Core.List.{List}
 use native.Mathlib.Omega.{arith}
 use Rattle.laws.specs.Cases.{if-no}
-use Rattle.laws.specs.Iter.{iter, iter-plus}
+use Rattle.laws.specs.Iter.{iter}
+use Rattle.laws.specs.Laws.Iter.{iter-plus}
 use Rattle.exec_conditions.specs.Lines.{Lines}
 
 -- fewer lines

@@ -3,7 +3,8 @@ use mathlib.Core.Path.{_≡_, sym, _∙_, ap}
 use Prim.Native.Nat.{ℕ, _≤_, _-_, _+_}
 use native.Mathlib.Omega.{arith}
 use lib.ListN.{length, set, replicate, length-set}
-use Rattle.laws.specs.Iter.{iter, iter-zero, iter-step}
+use Rattle.laws.specs.Iter.{iter}
+use Rattle.laws.specs.Laws.Iter.{iter-zero, iter-step}
 use Rattle.chains.specs.Held.{at}
 use Rattle.rules.specs.Family.{family, markOne}
 use Rattle.exec_family.proofs.family.Statement.{statement}

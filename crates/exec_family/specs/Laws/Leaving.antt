@@ -7,14 +7,18 @@ use mathlib.Core.List.{List}
 use lib.ListN.{getD}
 use native.Mathlib.Omega.{arith}
 use borrow.Author.Tests.{eq-eqb, ne-eqb}
-use Rattle.chains.specs.Read.{chainsOf, only-of, held-chains, sound-chains, chains-ext}
+use Rattle.chains.specs.Read.{chainsOf}
+use Rattle.chains.specs.Laws.Read.{only-of, held-chains, sound-chains, chains-ext}
 use Rattle.chains.specs.declared.Links.{Links}
 use Rattle.rules.specs.Waiting.{leave}
 use Rattle.rules.specs.Family.{deserted, leaveOne}
 use Rattle.laws.specs.Cases.{if-yes, if-no}
-use Rattle.laws.specs.Iter.{iter, iter-zero, iter-step}
-use Rattle.laws.specs.Functions.{upd, on-upd}
-use Rattle.laws.specs.Members.{without, without-out}
+use Rattle.laws.specs.Iter.{iter}
+use Rattle.laws.specs.Laws.Iter.{iter-zero, iter-step}
+use Rattle.laws.specs.Functions.{upd}
+use Rattle.laws.specs.Laws.Functions.{on-upd}
+use Rattle.laws.specs.Members.{without}
+use Rattle.laws.specs.Laws.Members.{without-out}
 use Rattle.exec_family.specs.Post.{Left, Deserted}
 
 -- links that hold what is left hold nothing else

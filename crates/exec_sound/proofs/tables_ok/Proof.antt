@@ -2,7 +2,7 @@ use mathlib.Core.Path.{sym, _∙_}
 use mathlib.Core.Bool.{Bool}
 use mathlib.Core.List.{List}
 use borrow.Author.Tests.{not-true, not-false, lt-leb, le-leb}
-use Rattle.laws.specs.All.{allOf-not}
+use Rattle.laws.specs.Laws.All.{allOf-not}
 use Rattle.sound_tables.specs.Exact.{within-facts}
 use Rattle.exec_sound.specs.Laws.Check.{tableTestsOf, last-test}
 use borrow.Author.Needs.{needs}

@@ -9,12 +9,14 @@ use lib.Dec.{eqb, leb}
 use lib.ListN.{length, getD}
 use borrow.Author.Tests.{leb-true, le-leb, eqb-true, eqb-false, eq-eqb}
 use Rattle.laws.specs.Cases.{by}
-use Rattle.laws.specs.All.{allOf, allOf-at, allOf-cons, allOf-nil, allOf-skip, allOf-last}
+use Rattle.laws.specs.All.{allOf}
+use Rattle.laws.specs.Laws.All.{allOf-at, allOf-cons, allOf-nil, allOf-skip, allOf-last}
 use Rattle.laws.specs.Members.{In, Distinct}
-use Rattle.laws.specs.Tables.{has-place}
+use Rattle.laws.specs.Laws.Tables.{has-place}
 use Rattle.chains.specs.Held.{at, Held, Sized}
 use Rattle.chains.specs.Held as L
-use Rattle.chains.specs.Read.{chainsOf, sound-chains, read-once, inside, inside-low, inside-high, only-of}
+use Rattle.chains.specs.Read.{chainsOf, inside}
+use Rattle.chains.specs.Laws.Read.{sound-chains, read-once, inside-low, inside-high, only-of}
 use Rattle.chains.specs.declared.Links.{Links}
 use Rattle.sound_chains.specs.Order.{risingb, rising-sorted, sorted-rising}
 use Rattle.rig.specs.Rules.{Right}

@@ -8,7 +8,7 @@ use lib.Dec.{leb, ltb}
 use lib.ListN.{length, List·getD-eq-default}
 use borrow.Author.Tests.{leb-true, leb-false, ltb-true, ltb-false}
 use Rattle.laws.specs.Cases.{by}
-use Rattle.laws.specs.Tables.{has-place}
+use Rattle.laws.specs.Laws.Tables.{has-place}
 use Rattle.rig_tables.specs.Tests.{at}
 use Rattle.rig.specs.Rules.{Right, Ancestor, nearest, further}
 use Rattle.rig.specs.declared.Cycle.{Cycle}

@@ -9,13 +9,15 @@ use native.Mathlib.Omega.{arith}
 use lib.Dec.{lit<}
 use lib.ListN.{set}
 use borrow.Author.Tests.{eq-eqb, ne-eqb}
-use Rattle.laws.specs.Functions.{upd, upd-same}
+use Rattle.laws.specs.Functions.{upd}
+use Rattle.laws.specs.Laws.Functions.{upd-same}
 use Rattle.laws.specs.Members.{In, keep}
 use Rattle.laws.specs.Order.{Sorted}
 use Rattle.chains.specs.Held.{at, Sound, Leaves}
 use Rattle.chains.specs.Link.{first}
 use Rattle.chains.specs.Laws.Front.{Leaving, leaving-start, leaving-step, left-start, left-step}
-use Rattle.chains.specs.Read.{chainsOf, sound-chains, held-chains, only-of, only-upd}
+use Rattle.chains.specs.Read.{chainsOf}
+use Rattle.chains.specs.Laws.Read.{sound-chains, held-chains, only-of, only-upd}
 use Rattle.chains.specs.declared.Links.{Links}
 use Rattle.rules.specs.State.{withChains}
 use Rattle.rules.specs.Serving.{rouse}

@@ -8,7 +8,8 @@ use native.Mathlib.Numerals.{add-one}
 use lib.ListN.{set, replicate}
 use Rattle.laws.specs.Cases.{if-yes, if-no}
 use Rattle.chains.specs.Held.{at, Empty}
-use Rattle.chains.specs.Read.{chainsOf, held-chains}
+use Rattle.chains.specs.Read.{chainsOf}
+use Rattle.chains.specs.Laws.Read.{held-chains}
 use Rattle.chains.specs.declared.Links.{Links}
 use Rattle.exec_family.specs.Post.{Left, Deserted}
 use Rattle.exec_queue.specs.Post.{Pushed}

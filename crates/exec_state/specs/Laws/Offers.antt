@@ -8,7 +8,8 @@ use native.Mathlib.Nat.{le-trans}
 use lib.Dec.{eqb}
 use lib.ListN.{getD, set}
 use Rattle.laws.specs.Cases.{if-yes, if-no}
-use Rattle.laws.specs.Iter.{iter, iter-zero, iter-step}
+use Rattle.laws.specs.Iter.{iter}
+use Rattle.laws.specs.Laws.Iter.{iter-zero, iter-step}
 use Rattle.chains.specs.Held.{at}
 use Rattle.rig.specs.declared.Cycle.{Cycle}
 use Rattle.rig.specs.declared.Rig.{Rig}

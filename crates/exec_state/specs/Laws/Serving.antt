@@ -6,7 +6,7 @@ use Prim.Native.Nat.{ℕ, zero, suc, _+_, _*_, _≤_, _<_}
 use native.Mathlib.Omega.{arith}
 use lib.Dec.{eqb}
 use lib.ListN.{length, getD, set}
-use Rattle.laws.specs.Iter.{iter-ind}
+use Rattle.laws.specs.Laws.Iter.{iter-ind}
 use Rattle.chains.specs.Held.{at, Sound}
 use Rattle.chains.specs.declared.Links.{Links}
 use Rattle.rig.specs.declared.Cycle.{Cycle}

@@ -8,7 +8,8 @@ use lib.ListN.{set}
 use Rattle.laws.specs.Functions.{upd}
 use Rattle.laws.specs.Order.{place}
 use Rattle.chains.specs.Held.{at, Held, Puts, Joins, Places}
-use Rattle.chains.specs.Read.{chainsOf, sound-chains, held-chains, only-of, only-upd}
+use Rattle.chains.specs.Read.{chainsOf}
+use Rattle.chains.specs.Laws.Read.{sound-chains, held-chains, only-of, only-upd}
 use Rattle.chains.specs.declared.Links.{Links}
 use Rattle.rules.specs.State.{withChains, withRunning, withWakes, chainOf}
 use Rattle.rules.specs.Waiting.{waitOn, waitUntilCount}

@@ -7,7 +7,8 @@ use lib.ListN.{set}
 use Rattle.laws.specs.Functions.{upd}
 use Rattle.chains.specs.Held.{at, Held, Sound, Leaves}
 use Rattle.chains.specs.Laws.Front.{Leaving, leaving-start, leaving-step, leaving-none, left-start, left-step, left-none}
-use Rattle.chains.specs.Read.{chainsOf, sound-chains, held-chains, only-of, only-upd}
+use Rattle.chains.specs.Read.{chainsOf}
+use Rattle.chains.specs.Laws.Read.{sound-chains, held-chains, only-of, only-upd}
 use Rattle.chains.specs.declared.Links.{Links}
 use Rattle.rules.specs.State.{withChains}
 use Rattle.rules.specs.Serving.{rouse, wake}

@@ -10,7 +10,7 @@ use lib.ListN.{getD}
 use borrow.Author.Tests.{ltb-false, eqb-true, eqb-false, eq-eqb, ne-eqb, le-leb, lt-leb}
 use Rattle.laws.specs.Cases.{by}
 use Rattle.chains.specs.Held.{at}
-use Rattle.chains.specs.Read.{sound-chains}
+use Rattle.chains.specs.Laws.Read.{sound-chains}
 use Rattle.rig.specs.declared.Cycle.{Cycle}
 use Rattle.rig.specs.declared.Rig.{Rig}
 use Rattle.rules.specs.State as S

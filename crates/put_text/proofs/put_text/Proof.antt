@@ -5,7 +5,7 @@ use native.Mathlib.Omega.{arith}
 use lib.ListN.{length, take, length-set}
 use lib.Seq.{take-all}
 use Rattle.laws.specs.Put.{put}
-use Rattle.put_text.specs.Text.{copy-start, copy-next}
+use Rattle.put_text.specs.Laws.Text.{copy-start, copy-next}
 use Rattle.put_text.proofs.put_text.Statement.{statement}
 use Rattle.put_text.proofs.put_text.Tie as tie
 

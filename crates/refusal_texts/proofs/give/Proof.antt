@@ -1,4 +1,4 @@
-use Rattle.refusal_texts.specs.Texts.{given-written, given-narrow}
+use Rattle.refusal_texts.specs.Laws.Texts.{given-written, given-narrow}
 use borrow.Author.Needs.{needs}
 use Rattle.refusal_texts.proofs.give.Statement.{statement}
 use Rattle.refusal_texts.proofs.give.Tie as tie

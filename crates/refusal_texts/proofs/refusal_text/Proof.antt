@@ -1,5 +1,6 @@
 use native.Mathlib.Omega.{arith}
-use Rattle.refusal_texts.specs.Texts.{refusalText, of-number, of-text, no-other}
+use Rattle.refusal_texts.specs.Texts.{refusalText}
+use Rattle.refusal_texts.specs.Laws.Texts.{of-number, of-text, no-other}
 use borrow.Author.Needs.{needs}
 use Rattle.refusal_texts.proofs.refusal_text.Statement.{statement}
 use Rattle.refusal_texts.proofs.refusal_text.Tie as tie

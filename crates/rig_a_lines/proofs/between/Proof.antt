@@ -3,7 +3,8 @@ use mathlib.Core.Logic.{⊎-elim}
 use mathlib.Core.Path.{_≡_, _∙_}
 use Prim.Native.Nat.{_≤_, _-_}
 use native.Mathlib.Omega.{arith}
-use Rattle.laws.specs.All.{Passed, passed-none, passed-next, passed-not}
+use Rattle.laws.specs.All.{Passed}
+use Rattle.laws.specs.Laws.All.{passed-none, passed-next, passed-not}
 use Rattle.rig_a_lines.specs.Laws.Passes.{betweenOne}
 use Rattle.rig_tables.specs.Laws.Passes.{within-yes, within-below, within-above}
 use Rattle.rig_a_lines.proofs.between.Statement.{statement}

@@ -8,7 +8,8 @@ use lib.Bits.{bitOr, bitAnd, bitXor}
 use lib.Dec.{eqb, ltb, leb·zero}
 use borrow.Author.Tests.{eqb-true, eqb-false, ltb-true, ltb-false, lt-ltb, le-ltb}
 use Rattle.laws.specs.Cases.{by}
-use Rattle.laws.specs.All.{all, all-same, all-three}
+use Rattle.laws.specs.All.{all}
+use Rattle.laws.specs.Laws.All.{all-same, all-three}
 use Rattle.laws.specs.Bits.{bit}
 use Rattle.laws.specs.Faults.{bit-or, bit-and, bit-not}
 use Rattle.rig_tables.specs.Tests.{at, within, risesTest, lineOne, linesB}

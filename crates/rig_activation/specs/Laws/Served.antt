@@ -9,9 +9,11 @@ use lib.Dec.{eqb}
 use borrow.Author.Tests.{eqb-true, eqb-false}
 use Rattle.laws.specs.Cases.{by}
 use Rattle.laws.specs.All.{all}
-use Rattle.laws.specs.Decides.{is-eqb, is-else, is-all, is-said, is-same, Is, is-or, is-not}
+use Rattle.laws.specs.Decides.{Is}
+use Rattle.laws.specs.Laws.Decides.{is-eqb, is-else, is-all, is-said, is-same, is-or, is-not}
 use mathlib.Core.Logic.{_≢_, inl, inr, ⊎-elim}
-use Rattle.laws.specs.Owners.{owners, owner-key, owner-some}
+use Rattle.laws.specs.Owners.{owners}
+use Rattle.laws.specs.Laws.Owners.{owner-key, owner-some}
 use Rattle.rig_tables.specs.Tests.{at, servesOne, servesOneB}
 use Rattle.rig_tables.specs.Laws.Passes.{some-suc}
 

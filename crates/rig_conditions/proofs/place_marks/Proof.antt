@@ -3,7 +3,8 @@ use mathlib.Core.Path.{_≡_, sym, _∙_, ap}
 use Prim.Native.Nat.{ℕ, _≤_, _-_}
 use native.Mathlib.Omega.{arith}
 use lib.ListN.{replicate, set}
-use Rattle.laws.specs.Iter.{iter, iter-zero, iter-step}
+use Rattle.laws.specs.Iter.{iter}
+use Rattle.laws.specs.Laws.Iter.{iter-zero, iter-step}
 use Rattle.laws.specs.Owners.{markOne, marks}
 use Rattle.rig_tables.specs.Tests.{placeOf}
 use Rattle.rig_conditions.specs.Tables.{placeMarks}

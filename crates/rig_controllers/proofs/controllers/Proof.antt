@@ -5,7 +5,8 @@ use borrow.Author.Tests.{ne-eqb, eq-eqb, not-true, not-false, lt-leb}
 use Prim.Native.Nat.{_≤_, _-_, _+_}
 use native.Mathlib.Omega.{arith}
 use Rattle.laws.specs.Cases.{and-go, and-stop, or-skip}
-use Rattle.laws.specs.All.{all, all-next, all-not}
+use Rattle.laws.specs.All.{all}
+use Rattle.laws.specs.Laws.All.{all-next, all-not}
 use Rattle.rig_tables.specs.Tests.{controllerOne, controllersB}
 use Rattle.rig_controllers.specs.Laws.Climb.{controllers-start, low-all}
 use Rattle.rig_controllers.proofs.controllers.Statement.{statement}

@@ -7,7 +7,8 @@ use native.Mathlib.Omega.{arith}
 use lib.Dec.{eqb, leb, ltb}
 use borrow.Author.Tests.{eqb-true, ltb-true, lt-leb, lt-ltb, le-ltb}
 use Rattle.laws.specs.Cases.{by, by-eqb, below-but}
-use Rattle.laws.specs.All.{all, and-right, and-left}
+use Rattle.laws.specs.All.{all}
+use Rattle.laws.specs.Laws.All.{and-right, and-left}
 use Rattle.rig_tables.specs.Tests.{at, climb, controllerOne}
 
 -- each task below n has a controller with a lower number, or none

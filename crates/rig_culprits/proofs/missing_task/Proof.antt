@@ -5,7 +5,8 @@ use mathlib.Core.Bool.{true}
 use native.Mathlib.Omega.{arith}
 use native.Mathlib.Numerals.{add-one}
 use native.Mathlib.Nat.{le-antisymm}
-use Rattle.laws.specs.All.{all, all-zero, all-next}
+use Rattle.laws.specs.All.{all}
+use Rattle.laws.specs.Laws.All.{all-zero, all-next}
 use Rattle.rig_lines.specs.File.{linesOf}
 use Rattle.rig_culprits.specs.Culprits.{linesFrom, lookIn, taskKey, taskCount, hasTLine, taskMissing}
 use Rattle.rig_culprits.specs.declared.Key.{Key}

@@ -6,7 +6,8 @@ use Prim.Native.Nat.{ℕ, _≤_, _-_}
 use native.Mathlib.Omega.{arith}
 use lib.Dec.{eqb}
 use lib.ListN.{length}
-use Rattle.laws.specs.All.{all, Passed, passed-none}
+use Rattle.laws.specs.All.{all, Passed}
+use Rattle.laws.specs.Laws.All.{passed-none}
 use Rattle.laws.specs.Faults.{or-next, bit-passes}
 use Rattle.rig_tables.specs.Tests.{flagRises, cycleRises}
 use Rattle.rig_cycles.proofs.cycle_rises.Statement.{statement}

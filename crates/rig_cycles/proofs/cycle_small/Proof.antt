@@ -2,7 +2,7 @@ use borrow.Author.Needs.{needs}
 use mathlib.Core.Path.{_≡_, sym}
 use Prim.Native.Nat.{_≤_, _-_}
 use native.Mathlib.Omega.{arith}
-use Rattle.laws.specs.All.{all-zero}
+use Rattle.laws.specs.Laws.All.{all-zero}
 use Rattle.rig_tables.specs.Tests.{cycleSmall}
 use Rattle.rig_tables.specs.Laws.Passes.{Topped, topped-none, topped-next}
 use Rattle.rig_cycles.specs.Laws.Cycles.{small-up-to}

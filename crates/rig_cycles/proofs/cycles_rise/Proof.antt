@@ -15,7 +15,8 @@ use Rattle.rig.specs.Rules.{noCycle}
 use Rattle.rig.proofs.Cycle.{the-type}
 use Rattle.rig.proofs.Cycle.Laws.{the-laws, the-copy}
 use Rattle.laws.specs.Cases.{and-go}
-use Rattle.laws.specs.All.{all, all-zero, all-next, all-not}
+use Rattle.laws.specs.All.{all}
+use Rattle.laws.specs.Laws.All.{all-zero, all-next, all-not}
 use Rattle.rig_cycles.specs.Tests.{cycleRisesOne, cyclesRiseB}
 use Rattle.rig_cycles.proofs.cycles_rise.Statement.{statement}
 use Rattle.rig_cycles.proofs.cycles_rise.Tie as tie

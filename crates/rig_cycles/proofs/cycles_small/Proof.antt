@@ -4,7 +4,8 @@ use mathlib.Core.Bool.{true}
 use borrow.Author.Tests.{not-true, not-false}
 use Prim.Native.Nat.{_≤_, _-_}
 use native.Mathlib.Omega.{arith}
-use Rattle.laws.specs.All.{all, all-zero, all-next, all-not}
+use Rattle.laws.specs.All.{all}
+use Rattle.laws.specs.Laws.All.{all-zero, all-next, all-not}
 use Rattle.rig_cycles.specs.Tests.{cycleSmallOne, cyclesSmallB}
 use Rattle.rig_cycles.specs.Laws.Marks.{cycles-rise-at}
 use Rattle.rig_cycles.proofs.cycles_small.Statement.{statement}

@@ -3,7 +3,8 @@ use mathlib.Core.Path.{_≡_, sym, _∙_, ap}
 use Prim.Native.Nat.{ℕ, _≤_, _-_}
 use native.Mathlib.Omega.{arith}
 use lib.ListN.{set}
-use Rattle.laws.specs.Iter.{iter, iter-zero, iter-step}
+use Rattle.laws.specs.Iter.{iter}
+use Rattle.laws.specs.Laws.Iter.{iter-zero, iter-step}
 use Rattle.laws.specs.Owners.{markOne, marks}
 use Rattle.rig_tables.specs.Tests.{at}
 use Rattle.rig_cycles.specs.Laws.Cycles.{flagsOnly, marks-up-to}

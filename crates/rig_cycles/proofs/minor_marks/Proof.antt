@@ -3,7 +3,8 @@ use mathlib.Core.Path.{_≡_, sym, _∙_, ap}
 use Prim.Native.Nat.{_≤_, _-_}
 use native.Mathlib.Omega.{arith}
 use lib.ListN.{getD, replicate}
-use Rattle.laws.specs.Iter.{iter, iter-zero, iter-next}
+use Rattle.laws.specs.Iter.{iter}
+use Rattle.laws.specs.Laws.Iter.{iter-zero, iter-next}
 use Rattle.rig_cycles.specs.Laws.Cycles.{flagsOnly, marks-flags}
 use Rattle.rig.specs.Rules.{at, noCycle}
 use Rattle.rig_cycles.specs.Tests.{markCycle, minorMarks}

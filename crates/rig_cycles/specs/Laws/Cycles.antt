@@ -12,7 +12,8 @@ use lib.ListN.{length, set}
 use lib.Seq.{set-set, set-comm}
 use borrow.Author.Tests.{eqb-true, eqb-false, le-leb, ltb-true, ltb-false, lt-ltb, le-ltb}
 use Rattle.laws.specs.Cases.{by}
-use Rattle.laws.specs.All.{all, all-at, all-all, and-right}
+use Rattle.laws.specs.All.{all}
+use Rattle.laws.specs.Laws.All.{all-at, all-all, and-right}
 use Rattle.laws.specs.Bits.{bit}
 use Rattle.laws.specs.Faults.{bit-or, bit-and, bit-not}
 use Rattle.laws.specs.Iter.{iter}

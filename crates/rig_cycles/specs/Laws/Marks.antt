@@ -4,8 +4,10 @@ use mathlib.Core.List.{List}
 use Prim.Native.Nat.{ℕ, suc, _≤_, _<_}
 use lib.Dec.{eqb}
 use lib.ListN.{length, getD, replicate, length-replicate}
-use Rattle.laws.specs.Iter.{iter, iter-ind}
-use Rattle.laws.specs.All.{all, all-at, all-same, and-right}
+use Rattle.laws.specs.Iter.{iter}
+use Rattle.laws.specs.Laws.Iter.{iter-ind}
+use Rattle.laws.specs.All.{all}
+use Rattle.laws.specs.Laws.All.{all-at, all-same, and-right}
 use Rattle.rig_tables.specs.Tests.{at, cycleRises, inCycle, notMinorB, minorConditionsB, notMinorOne, minorConditionOne, minorConditionTest, onlyOne, placeOf, marked}
 use mathlib.Core.Path.{_≡_, sym, _∙_, ap}
 use mathlib.Core.Logic.{inl, inr, ⊎-elim, _≢_, _↔_}
@@ -13,9 +15,10 @@ use native.Mathlib.Omega.{arith}
 use lib.Seq.{getD-set-other}
 use borrow.Author.Tests.{eqb-true, eqb-false}
 use Rattle.laws.specs.Cases.{by, below-but}
-use Rattle.laws.specs.Tables.{set-zero, zeros}
-use Rattle.laws.specs.Decides.{Is, is-eqb, is-and, is-not, is-any, is-said, is-same}
-use Rattle.laws.specs.Owners.{marked-by, marks-it, marks-length}
+use Rattle.laws.specs.Laws.Tables.{set-zero, zeros}
+use Rattle.laws.specs.Decides.{Is}
+use Rattle.laws.specs.Laws.Decides.{is-eqb, is-and, is-not, is-any, is-said, is-same}
+use Rattle.laws.specs.Laws.Owners.{marked-by, marks-it, marks-length}
 use Rattle.rig.specs.declared.Cycle.{Cycle}
 use Rattle.rig.specs.Rules.{noCycle, at, flagAt, Minor}
 use Rattle.rig_cycles.specs.Tests.{cycleRisesOne, cyclesRiseB, minorB, markCycle, minorMarks}

@@ -6,7 +6,7 @@ use Rattle.rig_held.specs.Held.{heldLine, held}
 use Rattle.rig_held.specs.Laws.Rules.{kind-yes, kind-no}
 use Rattle.rig_lines.specs.Kinds.{kindM}
 use Rattle.rig_fill.specs.OfLines.{zeros}
-use Rattle.laws.specs.Tables.{zeros-at}
+use Rattle.laws.specs.Laws.Tables.{zeros-at}
 use lib.ListN.{getD-replicate}
 use Rattle.rig_fill.specs.Laws.Tables.{Cycled, cycled-start, cycled-skip, cycled-on, cycled-past, cycled-room, cycled-end}
 use Rattle.rig_fill.proofs.table_from.Statement.{statement}

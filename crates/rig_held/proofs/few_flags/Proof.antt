@@ -4,7 +4,8 @@ use mathlib.Core.Bool.{true}
 use native.Mathlib.Omega.{arith}
 use Prim.Native.Nat.{_-_, _≤_}
 use borrow.Author.Tests.{le-leb, lt-leb}
-use Rattle.laws.specs.All.{all, all-zero, all-next, all-not}
+use Rattle.laws.specs.All.{all}
+use Rattle.laws.specs.Laws.All.{all-zero, all-next, all-not}
 use Rattle.rig_held.specs.Laws.Rules.{fewOne}
 use Rattle.rig_held.proofs.few_flags.Statement.{statement}
 use Rattle.rig_held.proofs.few_flags.Tie as tie

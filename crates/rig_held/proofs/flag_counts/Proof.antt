@@ -3,7 +3,7 @@ use mathlib.Core.Logic.{⊎-elim}
 use mathlib.Core.Path.{_≡_, refl, sym, _∙_}
 use native.Mathlib.Omega.{arith}
 use Prim.Native.Nat.{_-_, _≤_}
-use Rattle.laws.specs.Tables.{zeros-at}
+use Rattle.laws.specs.Laws.Tables.{zeros-at}
 use Rattle.rig_held.specs.Laws.Rules.{Counted, counted-none, counted-on, counted-skip, counted-room}
 use Rattle.rig_held.proofs.flag_counts.Statement.{statement}
 use Rattle.rig_held.proofs.flag_counts.Tie as tie

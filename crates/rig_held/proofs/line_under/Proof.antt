@@ -5,7 +5,8 @@ use mathlib.Core.Bool.{true, false}
 use native.Mathlib.Omega.{arith}
 use Prim.Native.Nat.{ℕ, _-_, _≤_, _<_, _*_}
 use lib.ListN.{getD}
-use Rattle.laws.specs.All.{all, all-zero, all-next, all-not}
+use Rattle.laws.specs.All.{all}
+use Rattle.laws.specs.Laws.All.{all-zero, all-next, all-not}
 use Rattle.rig_lines.specs.Kinds.{countOf, sortOf}
 use Rattle.rig_lines.specs.Whole.{numberUnder}
 use Rattle.rig_held.specs.Held.{heldLine}

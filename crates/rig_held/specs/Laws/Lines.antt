@@ -10,7 +10,8 @@ use native.Mathlib.Omega.{arith}
 use native.Mathlib.Numerals.{add-one}
 use lib.ListN.{length, getD, take, drop, set, length-take, length-drop, length-append, length-set}
 use lib.Seq.{getD-take, getD-drop, ext-getD}
-use Rattle.laws.specs.Put.{put, put-one, put-inside, put-before, length-put}
+use Rattle.laws.specs.Put.{put}
+use Rattle.laws.specs.Laws.Put.{put-one, put-inside, put-before, length-put}
 use Rattle.rig_lines.specs.Kinds.{countOf, counts}
 use Rattle.rig_lines.specs.Line.{Line}
 use Rattle.rig_lines.specs.Laws.Kinds.{entries, entries-le}

@@ -11,9 +11,11 @@ use lib.Dec.{leb, ltb, eqb}
 use lib.ListN.{length, getD, set, length-set}
 use borrow.Author.Tests.{eqb-true, eqb-false, eq-eqb, ne-eqb, lt-ltb, le-ltb, le-leb, lt-leb, ltb-true, ltb-false}
 use Rattle.laws.specs.Cases.{by, and-no}
-use Rattle.laws.specs.All.{all, all-same}
-use Rattle.laws.specs.Tables.{getD-set, zeros-at}
-use Rattle.laws.specs.First.{firstFalse, first-none, first-skip, first-here}
+use Rattle.laws.specs.All.{all}
+use Rattle.laws.specs.Laws.All.{all-same}
+use Rattle.laws.specs.Laws.Tables.{getD-set, zeros-at}
+use Rattle.laws.specs.First.{firstFalse}
+use Rattle.laws.specs.Laws.First.{first-none, first-skip, first-here}
 use Rattle.rig_lines.specs.Kinds.{kindRIG, kindT, kindA, kindM, kindB, countOf, counts, sortOf, under}
 use Rattle.rig_lines.specs.Line.{Line}
 use Rattle.rig_lines.specs.Whole.{numberOf, isKind, isTaskLine, isFlagLine, howMany, every, numberUnder, lineUnder, tasksOf, flagsOf, masterOf, hasTask, fewFlags, lineTests}

@@ -8,7 +8,7 @@ use native.Mathlib.Omega.{arith}
 use lib.Dec.{ltb, eqb}
 use lib.ListN.{length, getD}
 use borrow.Author.Tests.{ltb-true, eqb-true, lt-ltb, eq-eqb}
-use Rattle.laws.specs.All.{and-left, and-right}
+use Rattle.laws.specs.Laws.All.{and-left, and-right}
 use Rattle.rig_lines.specs.Kinds.{countOf, within, timed}
 use Rattle.rig_lines.specs.Laws.Kinds.{within-small}
 use Rattle.rig_lines.specs.Line.{Line, decimals, shaped, fits, sized, placed, ordered, judge}

@@ -10,10 +10,10 @@ use lib.Dec.{leb, eqb}
 use lib.ListN.{length, getD, drop, List·getD-append}
 use lib.Seq.{getD-drop}
 use borrow.Author.Tests.{leb-true, le-leb, lt-leb, eqb-true, eqb-false}
-use Rattle.laws.specs.Tables.{zeros-at}
+use Rattle.laws.specs.Laws.Tables.{zeros-at}
 use Rattle.laws.specs.Cases.{by}
 use Rattle.laws.specs.Decides.{Is}
-use Rattle.laws.specs.All.{and-left, and-right}
+use Rattle.laws.specs.Laws.All.{and-left, and-right}
 use Rattle.rig_lines.specs.Kinds.{counts, keys, lows, highs, sorts, countOf, keysOf, lowOf, highOf, sortOf, within, letterOf, kindOf}
 
 pub within-low : (k f n : ℕ) → n < lowOf k f → false ≡ within k f n

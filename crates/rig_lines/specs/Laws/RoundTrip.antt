@@ -14,7 +14,7 @@ use lib.Dec.{ltb, eqb}
 use lib.ListN.{length}
 use borrow.Author.Tests.{eqb-true, eqb-false, lt-ltb}
 use Rattle.laws.specs.Cases.{by}
-use Rattle.laws.specs.All.{and-left, and-right}
+use Rattle.laws.specs.Laws.All.{and-left, and-right}
 use Rattle.decimal.specs.Decimal.{number, dec, decBy}
 use Rattle.decimal.specs.Laws.{number-dec, dec-number}
 use Rattle.text.specs.Split.{split, join, led}

@@ -12,9 +12,10 @@ use native.Mathlib.Omega.{arith}
 use lib.Dec.{leb, eqb}
 use lib.ListN.{length, getD, length-map}
 use borrow.Author.Tests.{leb-true, le-leb}
-use Rattle.laws.specs.All.{and-left, and-right}
+use Rattle.laws.specs.Laws.All.{and-left, and-right}
 use Rattle.laws.specs.Members.{In}
-use Rattle.laws.specs.Decides.{Is, is-eqb, is-ltb, is-and, is-if, is-said}
+use Rattle.laws.specs.Decides.{Is}
+use Rattle.laws.specs.Laws.Decides.{is-eqb, is-ltb, is-and, is-if, is-said}
 use Rattle.decimal.specs.Decimal.{cap, number}
 use Rattle.decimal.specs.Plain.{number-exact}
 use Rattle.text.specs.Split.{split}

@@ -11,9 +11,12 @@ use native.Mathlib.Omega.{arith}
 use lib.Dec.{leb, ltb, eqb}
 use borrow.Author.Tests.{ltb-true, lt-ltb, eqb-true}
 use Rattle.laws.specs.Cases.{by}
-use Rattle.laws.specs.All.{all, allOf-at, allOf-cons, allOf-nil, and-left, and-right}
-use Rattle.laws.specs.First.{firstFalse, first-all, all-first}
-use Rattle.laws.specs.Decides.{Is, is-eqb, is-leb, is-and, is-if, is-all, is-said}
+use Rattle.laws.specs.All.{all}
+use Rattle.laws.specs.Laws.All.{allOf-at, allOf-cons, allOf-nil, and-left, and-right}
+use Rattle.laws.specs.First.{firstFalse}
+use Rattle.laws.specs.Laws.First.{first-all, all-first}
+use Rattle.laws.specs.Decides.{Is}
+use Rattle.laws.specs.Laws.Decides.{is-eqb, is-leb, is-and, is-if, is-all, is-said}
 use Rattle.rig_lines.specs.Kinds.{kindT, kindA, kindB, countOf, sortOf, namesTask, namesFlag, under}
 use Rattle.rig_lines.specs.Line.{Line}
 use Rattle.rig_lines.specs.Laws.Kinds.{is-always}

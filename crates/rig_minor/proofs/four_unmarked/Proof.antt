@@ -3,7 +3,8 @@ use mathlib.Core.Path.{_≡_, refl, sym, _∙_, ap}
 use Prim.Native.Nat.{ℕ, _+_, _≤_, _-_}
 use native.Mathlib.Omega.{arith}
 use lib.Dec.{eqb}
-use Rattle.laws.specs.All.{Passed, passed-none}
+use Rattle.laws.specs.All.{Passed}
+use Rattle.laws.specs.Laws.All.{passed-none}
 use Rattle.laws.specs.Faults.{or-next}
 use Rattle.rig_tables.specs.Tests.{at}
 use Rattle.rig_minor.proofs.four_unmarked.Statement.{statement}

@@ -5,7 +5,8 @@ use mathlib.Core.Bool.{true}
 use borrow.Author.Tests.{not-true, not-false}
 use Prim.Native.Nat.{ℕ, _+_, _≤_, _<_, _-_}
 use native.Mathlib.Omega.{arith}
-use Rattle.laws.specs.All.{all, all-zero, all-next, all-not}
+use Rattle.laws.specs.All.{all}
+use Rattle.laws.specs.Laws.All.{all-zero, all-next, all-not}
 use Rattle.rig_tables.specs.Tests.{at, minorConditionOne, marked}
 use Rattle.rig_minor.specs.Laws.{minor-not, minor-so}
 use Rattle.rig_minor.proofs.minor_from.Statement.{statement}

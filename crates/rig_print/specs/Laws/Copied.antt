@@ -7,7 +7,8 @@ use native.Mathlib.Omega.{arith}
 use native.Mathlib.Numerals.{add-one}
 use lib.ListN.{length, take, set, getD, length-take, length-append}
 use lib.Seq.{take-suc}
-use Rattle.laws.specs.Put.{put, put-one, put-put, put-none, length-put}
+use Rattle.laws.specs.Put.{put}
+use Rattle.laws.specs.Laws.Put.{put-one, put-put, put-none, length-put}
 
 pub record Copied (b₀ b f : List ℕ) (n i : ℕ) : Type 0 where
   pub few : i ≤ n

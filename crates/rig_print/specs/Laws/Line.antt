@@ -7,7 +7,8 @@ use native.Mathlib.Omega.{arith}
 use native.Mathlib.Numerals.{add-one}
 use lib.ListN.{length, getD, take, set, length-append, length-set}
 use lib.Seq.{take-suc, take-add}
-use Rattle.laws.specs.Put.{put, put-one, put-put, length-put}
+use Rattle.laws.specs.Put.{put}
+use Rattle.laws.specs.Laws.Put.{put-one, put-put, length-put}
 use Rattle.decimal.specs.Decimal.{dec}
 use Rattle.text.specs.Split.{led}
 use Rattle.rig_lines.specs.Kinds.{countOf, nameOf}

@@ -4,7 +4,8 @@ use mathlib.Core.Bool.{true, not}
 use borrow.Author.Tests.{ne-eqb, eq-eqb}
 use Prim.Native.Nat.{_≤_, _-_}
 use native.Mathlib.Omega.{arith}
-use Rattle.laws.specs.All.{all, all-zero, all-next, all-not}
+use Rattle.laws.specs.All.{all}
+use Rattle.laws.specs.Laws.All.{all-zero, all-next, all-not}
 use Rattle.rig_rows.specs.Tests.{differOne, differB}
 use Rattle.rig_rows.proofs.differ.Statement.{statement}
 use Rattle.rig_rows.proofs.differ.Tie as tie

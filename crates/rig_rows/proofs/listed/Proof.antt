@@ -4,7 +4,8 @@ use mathlib.Core.Bool.{false}
 use borrow.Author.Tests.{ne-eqb, eq-eqb}
 use Prim.Native.Nat.{_≤_, _-_}
 use native.Mathlib.Omega.{arith}
-use Rattle.laws.specs.Any.{any, any-zero, any-next, any-at}
+use Rattle.laws.specs.Any.{any}
+use Rattle.laws.specs.Laws.Any.{any-zero, any-next, any-at}
 use Rattle.rig_rows.specs.Tests.{isPeriod, listedB}
 use Rattle.rig_rows.proofs.listed.Statement.{statement}
 use Rattle.rig_rows.proofs.listed.Tie as tie

@@ -1,6 +1,6 @@
 use mathlib.Core.Path.{sym, _∙_}
 use borrow.Author.Tests.{lt-leb, le-leb, not-true, not-false}
-use Rattle.laws.specs.All.{allOf-not, allOf-skip, allOf-last}
+use Rattle.laws.specs.Laws.All.{allOf-not, allOf-skip, allOf-last}
 use Rattle.rig_rows.specs.Tests.{rowTests}
 use borrow.Author.Needs.{needs}
 use Rattle.rig_rows.proofs.row_ok.Statement.{statement}

@@ -1,6 +1,6 @@
 use mathlib.Core.Path.{sym, _∙_}
 use borrow.Author.Tests.{ne-eqb, eq-eqb}
-use Rattle.laws.specs.All.{allOf-not, allOf-skip, allOf-last}
+use Rattle.laws.specs.Laws.All.{allOf-not, allOf-skip, allOf-last}
 use Rattle.rig_rows.specs.Tests.{rowZero, rowZeros}
 use Rattle.rig_rows.proofs.row_zero.Statement.{statement}
 use Rattle.rig_rows.proofs.row_zero.Tie as tie

@@ -5,7 +5,8 @@ use borrow.Author.Tests.{not-true, not-false, le-ltb}
 use Prim.Native.Nat.{_≤_, _-_}
 use native.Mathlib.Omega.{arith}
 use Rattle.laws.specs.Cases.{or-skip}
-use Rattle.laws.specs.All.{all, all-next, all-not}
+use Rattle.laws.specs.All.{all}
+use Rattle.laws.specs.Laws.All.{all-next, all-not}
 use Rattle.rig_rows.specs.Tests.{rowZeroOne, rowZerosB}
 use Rattle.rig_rows.specs.Laws.{rows-start}
 use Rattle.rig_rows.proofs.row_zeros.Statement.{statement}

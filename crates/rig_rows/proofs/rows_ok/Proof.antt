@@ -6,7 +6,8 @@ use Prim.Native.Nat.{_≤_, _-_}
 use native.Mathlib.Omega.{arith}
 use lib.ListN.{length}
 use Rattle.laws.specs.Cases.{and-go}
-use Rattle.laws.specs.All.{all, all-zero, all-next, all-not}
+use Rattle.laws.specs.All.{all}
+use Rattle.laws.specs.Laws.All.{all-zero, all-next, all-not}
 use Rattle.rig_rows.specs.Tests.{rowOne, rowsB}
 use Rattle.rig_rows.proofs.rows_ok.Statement.{statement}
 use Rattle.rig_rows.proofs.rows_ok.Tie as tie

@@ -7,7 +7,8 @@ use Prim.Native.Nat.{ℕ, _+_, _≤_, _<_, zero, suc}
 use lib.Dec.{eqb, leb, leb·zero}
 use borrow.Author.Tests.{le-leb, lt-leb}
 use Rattle.laws.specs.Cases.{and-go, and-stop, and-no}
-use Rattle.laws.specs.All.{all, all-zero}
+use Rattle.laws.specs.All.{all}
+use Rattle.laws.specs.Laws.All.{all-zero}
 use Rattle.laws.specs.Largest.{top-next}
 use Rattle.rig_tables.specs.Tests.{at, within, smallOne}
 

@@ -2,7 +2,8 @@ use mathlib.Core.Path.{_≡_, sym, _∙_}
 use mathlib.Core.Bool.{true}
 use native.Mathlib.Omega.{arith}
 use Rattle.laws.specs.All.{allOf}
-use Rattle.laws.specs.First.{firstFalse, first-found, first-passed, first-last}
+use Rattle.laws.specs.First.{firstFalse}
+use Rattle.laws.specs.Laws.First.{first-found, first-passed, first-last}
 use Rattle.rig.specs.declared.Rig.{Rig}
 use Rattle.rig.specs.Forms.{rigOf}
 use Rattle.rig_tables.specs.Tests.{linesRiseB}

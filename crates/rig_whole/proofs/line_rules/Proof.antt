@@ -5,7 +5,7 @@ use Prim.Native.Nat.{ℕ, _+_, _*_}
 use native.Mathlib.Omega.{arith}
 use borrow.Author.Tests.{not-true, not-false}
 use Rattle.laws.specs.Cases.{and-true}
-use Rattle.laws.specs.First.{first-none, first-skip, first-here}
+use Rattle.laws.specs.Laws.First.{first-none, first-skip, first-here}
 use Rattle.rig_tables.specs.Tests.{namedB, usedB}
 use Rattle.rig_conditions.specs.Tables.{matchedB, ZeroFrom}
 use Rattle.rig_conditions.specs.Laws.{matched-law, marks-end}

@@ -1,6 +1,6 @@
 use mathlib.Core.Path.{sym, _∙_}
 use borrow.Author.Tests.{not-true, not-false}
-use Rattle.laws.specs.First.{first-none, first-skip, first-here}
+use Rattle.laws.specs.Laws.First.{first-none, first-skip, first-here}
 use borrow.Author.Needs.{needs}
 use Rattle.rig_whole.proofs.rest_rules.Statement.{statement}
 use Rattle.rig_whole.proofs.rest_rules.Tie as tie

@@ -1,6 +1,6 @@
 use mathlib.Core.Path.{sym, _∙_, ap}
 use borrow.Author.Tests.{not-true, not-false}
-use Rattle.laws.specs.First.{first-none, first-skip, first-here}
+use Rattle.laws.specs.Laws.First.{first-none, first-skip, first-here}
 use Rattle.rig_activation.specs.Laws.Served.{servedB, served-law}
 use borrow.Author.Needs.{needs}
 use Rattle.rig_whole.proofs.task_rules.Statement.{statement}

@@ -4,15 +4,18 @@ use mathlib.Core.List.{List}
 use Prim.Native.Nat.{ℕ, _≤_, _<_, _+_, _-_, _*_}
 use lib.Dec.{eqb}
 use lib.ListN.{length, getD}
-use Rattle.laws.specs.All.{allOf, allOf-at, allOf-cons, allOf-nil}
+use Rattle.laws.specs.All.{allOf}
+use Rattle.laws.specs.Laws.All.{allOf-at, allOf-cons, allOf-nil}
 use Rattle.rig_tables.specs.Tests.{at, within, smallB, conditionsB, linesRiseB, cycleRises, conditionTasksB, linesB, cycleSmall, servesOneB, notMinorB, namedB, usedB, minorConditionsB, taskZerosB, lineZerosB, risesTest}
 use mathlib.Core.Path.{_≡_, sym, _∙_, ap}
 use mathlib.Core.Logic.{inl, inr, ⊎-elim, _≢_}
 use native.Mathlib.Omega.{arith}
 use borrow.Author.Tests.{lt-ltb, eqb-true, eqb-false, eq-eqb, leb-true, le-leb, ltb-true}
 use Rattle.laws.specs.Cases.{by}
-use Rattle.laws.specs.Decides.{Is, is-eqb, is-and, is-not, is-any, is-said, is-leb, is-else, is-all, is-ltb, is-then, is-if}
-use Rattle.laws.specs.Members.{In, in-at, at-in}
+use Rattle.laws.specs.Decides.{Is}
+use Rattle.laws.specs.Laws.Decides.{is-eqb, is-and, is-not, is-any, is-said, is-leb, is-else, is-all, is-ltb, is-then, is-if}
+use Rattle.laws.specs.Members.{In}
+use Rattle.laws.specs.Laws.Members.{in-at, at-in}
 use Rattle.rig_activation.specs.Laws.Served.{serves-is}
 use Rattle.rig.specs.declared.Row.{Row}
 use Rattle.rig.specs.declared.Cycle.{Cycle}

@@ -8,7 +8,8 @@ use mathlib.Core.Logic.{_⊎_, inl, inr, ⊎-elim, _≢_}
 use native.Mathlib.Omega.{arith}
 use borrow.Author.Tests.{lt-ltb}
 use Rattle.laws.specs.Cases.{by, below-but, by-eqb}
-use Rattle.laws.specs.Decides.{Is, is-eqb, is-and, is-not, is-said, is-leb, is-else, is-all}
+use Rattle.laws.specs.Decides.{Is}
+use Rattle.laws.specs.Laws.Decides.{is-eqb, is-and, is-not, is-said, is-leb, is-else, is-all}
 use Rattle.rig_controllers.specs.Laws.Climb.{Low, climb-stop}
 use Rattle.rig.specs.declared.Rig.{Rig}
 use Rattle.rig.specs.Rules.{Ancestor, nearest, further, Controllers}

@@ -7,8 +7,9 @@ use lib.ListN.{length, getD}
 use Rattle.laws.specs.All.{allOf}
 use mathlib.Core.Path.{_≡_, sym, _∙_, refl}
 use native.Mathlib.Omega.{arith}
-use Rattle.laws.specs.Decides.{Is, is-leb}
-use Rattle.laws.specs.First.{first-fails, first-before}
+use Rattle.laws.specs.Decides.{Is}
+use Rattle.laws.specs.Laws.Decides.{is-leb}
+use Rattle.laws.specs.Laws.First.{first-fails, first-before}
 use Rattle.rig.specs.declared.Cycle.{Cycle}
 use Rattle.rig.specs.declared.Rig.{Rig}
 use Rattle.rig.specs.Rules.{noCycle, Controllers, Conditions, Rows, LineOrder, CycleOrder, ConditionNumbers, Lines, CycleNumbers, ActivationServesOne, ActivationNotMinor, LineHasCondition, ConditionHasLine, MinorConditions, SenderDiffers, TaskZeros, LineZeros, RowZeros, TaskCount, FlagCount, MasterAddress, LineCount, RowCount, Priorities, Privileges, ActivationNumbers}

@@ -4,15 +4,17 @@ use mathlib.Core.List.{List, [], _∷_}
 use Prim.Native.Nat.{ℕ, _+_, _≤_, _<_}
 use lib.Dec.{eqb}
 use lib.ListN.{length}
-use Rattle.laws.specs.All.{allOf, allOf-at, allOf-cons, allOf-nil}
-use Rattle.laws.specs.First.{firstFalse, first-all, all-first}
+use Rattle.laws.specs.All.{allOf}
+use Rattle.laws.specs.Laws.All.{allOf-at, allOf-cons, allOf-nil}
+use Rattle.laws.specs.First.{firstFalse}
+use Rattle.laws.specs.Laws.First.{first-all, all-first}
 use Rattle.rig_tables.specs.Tests.{at, controllersB, servesOneB, namedB, usedB, marked, place, linesRiseB}
 use mathlib.Core.Path.{_≡_, sym, _∙_, ap}
 use mathlib.Core.Logic.{_↔_, ⊎-elim}
 use native.Mathlib.Omega.{arith}
 use borrow.Author.Tests.{eqb-true, eqb-false, eq-eqb, leb-true, le-leb}
 use Rattle.laws.specs.Cases.{by}
-use Rattle.laws.specs.Decides.{is-eqb, is-said}
+use Rattle.laws.specs.Laws.Decides.{is-eqb, is-said}
 use Rattle.rig_tables.specs.Lines.{LinesFit, Together}
 use Rattle.rig_conditions.specs.Tables.{Ends}
 use Rattle.rig.specs.declared.Cycle.{Cycle}

@@ -7,7 +7,8 @@ use mathlib.Core.List.{List, [], _∷_, _++_, append-assoc, append-nil}
 use native.Mathlib.Omega.{arith}
 use native.Mathlib.Numerals.{add-one}
 use lib.ListN.{length, length-append}
-use Rattle.laws.specs.Put.{put, put-put, put-none, length-put}
+use Rattle.laws.specs.Put.{put}
+use Rattle.laws.specs.Laws.Put.{put-put, put-none, length-put}
 use Rattle.rig_lines.specs.Line.{Line}
 use Rattle.rig_lines.specs.Text.{text}
 use Rattle.rig_write.specs.Kept.{kept, ended}

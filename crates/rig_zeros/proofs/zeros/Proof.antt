@@ -4,7 +4,8 @@ use mathlib.Core.Path.{sym, _∙_}
 use Prim.Native.Nat.{_≤_, _-_}
 use native.Mathlib.Omega.{arith}
 use borrow.Author.Tests.{eq-eqb, ne-eqb}
-use Rattle.laws.specs.All.{Passed, passed-next, passed-not, since-start, since-at, since-end}
+use Rattle.laws.specs.All.{Passed}
+use Rattle.laws.specs.Laws.All.{passed-next, passed-not, since-start, since-at, since-end}
 use Rattle.rig_tables.specs.Laws.Passes.{zeroOne}
 use Rattle.rig_zeros.specs.Laws.Passes.{zeroFrom}
 use Rattle.rig_zeros.proofs.zeros.Statement.{statement}

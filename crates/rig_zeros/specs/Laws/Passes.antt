@@ -8,9 +8,10 @@ use native.Mathlib.Omega.{arith}
 use lib.Dec.{eqb, leb, ltb}
 use borrow.Author.Tests.{eqb-true, eqb-false, leb-true, leb-false, ltb-true, ltb-false}
 use Rattle.laws.specs.Cases.{by, or-skip}
-use Rattle.laws.specs.All.{all, all-same, all-and, all-three, since}
+use Rattle.laws.specs.All.{all, since}
+use Rattle.laws.specs.Laws.All.{all-same, all-and, all-three}
 use Rattle.laws.specs.Largest.{zero-next}
-use Rattle.laws.specs.Decides.{is-eqb, is-leb, is-ltb, is-and, is-else, is-all, is-said, is-same}
+use Rattle.laws.specs.Laws.Decides.{is-eqb, is-leb, is-ltb, is-and, is-else, is-all, is-said, is-same}
 use Rattle.rig_tables.specs.Tests.{at, within, conditionTasksB, taskZeroOne, taskZerosB, lineZeroOne, lineZerosB}
 use Rattle.rig_tables.specs.Laws.Passes.{zeroOne, within-above}
 

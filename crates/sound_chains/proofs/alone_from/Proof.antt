@@ -3,7 +3,8 @@ use mathlib.Core.Path.{_≡_, refl}
 use Prim.Native.Nat.{_+_, _-_, _≤_}
 use native.Mathlib.Omega.{arith}
 use lib.Bits.{bitOr, bitXor}
-use Rattle.laws.specs.All.{Passed, passed-none}
+use Rattle.laws.specs.All.{Passed}
+use Rattle.laws.specs.Laws.All.{passed-none}
 use Rattle.laws.specs.Faults.{or-next}
 use Rattle.chains.specs.Held.{at}
 use Rattle.sound_chains.specs.Post.{aloneb}

@@ -5,7 +5,8 @@ use Prim.Native.Nat.{ℕ, _≤_, _<_}
 use native.Mathlib.Omega.{arith}
 use lib.ListN.{length}
 use Rattle.chains.specs.Ops.{walk}
-use Rattle.chains.specs.Held.{at, Held, scan-task, scan-falls}
+use Rattle.chains.specs.Held.{at, Held}
+use Rattle.chains.specs.Laws.Held.{scan-task, scan-falls}
 use Rattle.chains.specs.declared.Links.{Links}
 use Rattle.sound_chains.specs.Post.{linksOf}
 use Rattle.sound_chains.specs.Order.{Any, Rising, rising-start, rising-end, rising-bad, rising-step}

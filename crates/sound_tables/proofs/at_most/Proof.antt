@@ -3,7 +3,7 @@ use mathlib.Core.Path.{sym, _∙_}
 use Prim.Native.Nat.{_≤_, _-_}
 use native.Mathlib.Omega.{arith}
 use lib.Dec.{leb·zero}
-use Rattle.laws.specs.All.{since-start, since-end}
+use Rattle.laws.specs.Laws.All.{since-start, since-end}
 use Rattle.sound_tables.specs.Passes.{Most, most-next}
 use Rattle.sound_tables.proofs.at_most.Statement.{statement}
 use Rattle.sound_tables.proofs.at_most.Tie as tie

@@ -4,7 +4,8 @@ use mathlib.Core.Logic.{⊎-elim}
 use mathlib.Core.Path.{_≡_}
 use Prim.Native.Nat.{_≤_, _-_}
 use native.Mathlib.Omega.{arith}
-use Rattle.laws.specs.All.{Passed, passed-none, passed-next, passed-not}
+use Rattle.laws.specs.All.{Passed}
+use Rattle.laws.specs.Laws.All.{passed-none, passed-next, passed-not}
 use Rattle.sound_tables.specs.Tests.{condOne}
 use Rattle.sound_tables.proofs.conds.Statement.{statement}
 use Rattle.sound_tables.proofs.conds.Tie as tie

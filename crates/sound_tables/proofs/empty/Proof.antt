@@ -5,7 +5,8 @@ use Prim.Native.Nat.{_≤_, _-_}
 use native.Mathlib.Omega.{arith}
 use borrow.Author.Tests.{eq-eqb, ne-eqb}
 use Rattle.laws.specs.Cases.{and-go, and-stop}
-use Rattle.laws.specs.All.{Passed, passed-next, passed-not, since, since-start, since-at}
+use Rattle.laws.specs.All.{Passed, since}
+use Rattle.laws.specs.Laws.All.{passed-next, passed-not, since-start, since-at}
 use Rattle.sound_tables.specs.Passes.{none, empty-each}
 use Rattle.sound_tables.proofs.empty.Statement.{statement}
 use Rattle.sound_tables.proofs.empty.Tie as tie

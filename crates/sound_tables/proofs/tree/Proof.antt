@@ -4,7 +4,8 @@ use mathlib.Core.Bool.{true}
 use borrow.Author.Tests.{not-true, not-false}
 use Prim.Native.Nat.{_+_, _-_, _≤_}
 use native.Mathlib.Omega.{arith}
-use Rattle.laws.specs.All.{all, all-zero, all-next, all-not}
+use Rattle.laws.specs.All.{all}
+use Rattle.laws.specs.Laws.All.{all-zero, all-next, all-not}
 use Rattle.sound_tables.specs.Tests.{treeOne}
 use Rattle.sound_tables.specs.Exact.{tree-many}
 use Rattle.sound_tables.proofs.tree.Statement.{statement}

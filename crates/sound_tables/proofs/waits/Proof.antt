@@ -4,7 +4,8 @@ use Prim.Native.Nat.{_-_, _≤_}
 use native.Mathlib.Omega.{arith}
 use lib.Bits.{bitXor}
 use lib.ListN.{getD}
-use Rattle.laws.specs.All.{Passed, passed-none}
+use Rattle.laws.specs.All.{Passed}
+use Rattle.laws.specs.Laws.All.{passed-none}
 use Rattle.laws.specs.Faults.{or-next}
 use Rattle.sound_tables.specs.Tests.{waitOne}
 use Rattle.sound_tables.specs.Laws.{wait-fault}

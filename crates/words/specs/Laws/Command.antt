@@ -6,8 +6,10 @@ use Prim.Native.Nat.{ℕ, _/_, _%_, _<_, _≤_}
 use native.Mathlib.Omega.{arith}
 use lib.Dec.{leb, eqb}
 use borrow.Author.Tests.{leb-true, le-leb, eqb-true, eqb-false}
-use Rattle.laws.specs.All.{allOf, allOf-at, allOf-skip, allOf-last, and-left, and-right}
-use Rattle.laws.specs.Bits.{bit, bit-below, isOne-bit, bit-isOne}
+use Rattle.laws.specs.All.{allOf}
+use Rattle.laws.specs.Laws.All.{allOf-at, allOf-skip, allOf-last, and-left, and-right}
+use Rattle.laws.specs.Bits.{bit}
+use Rattle.laws.specs.Laws.Bits.{bit-below, isOne-bit, bit-isOne}
 use Rattle.laws.specs.Cases.{by}
 use Rattle.word_parts.specs.Packed.{commandWord}
 use Rattle.words.specs.declared.command.Command.{Command}

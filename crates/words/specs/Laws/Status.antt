@@ -7,8 +7,10 @@ use native.Mathlib.Omega.{arith}
 use native.Mathlib.Nat.{div-div-eq-div-mul}
 use lib.Dec.{leb, eqb}
 use borrow.Author.Tests.{leb-true, le-leb, eqb-true, eqb-false, eq-eqb, ne-eqb}
-use Rattle.laws.specs.All.{allOf, allOf-at, allOf-skip, allOf-last}
-use Rattle.laws.specs.Bits.{bit, isOne, bit-below, isOne-bit, bit-isOne}
+use Rattle.laws.specs.All.{allOf}
+use Rattle.laws.specs.Laws.All.{allOf-at, allOf-skip, allOf-last}
+use Rattle.laws.specs.Bits.{bit, isOne}
+use Rattle.laws.specs.Laws.Bits.{bit-below, isOne-bit, bit-isOne}
 use Rattle.laws.specs.Cases.{by}
 use Rattle.words.specs.declared.status.Status.{Status}
 use Rattle.words.specs.declared.status.Verdict.the-variants.{Error, Exception, Clean}

@@ -1,5 +1,5 @@
 -- `entry` reads a table that follows the rule, so what it reads is what the rule says there.
-use Rattle.laws.specs.Tables.{follows-at}
+use Rattle.laws.specs.Laws.Tables.{follows-at}
 use Rattle.word_parts.specs.Parity.{parityBit}
 use borrow.Author.Needs.{needs}
 use Rattle.word_parts.proofs.parity.entry.Statement.{statement}

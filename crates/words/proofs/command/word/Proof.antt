@@ -1,7 +1,7 @@
 -- `word` makes the word of fields in their sizes, and refuses all others.
 use mathlib.Core.Path.{sym, ap, _∙_}
 use Prim.Native.Nat.{ℕ}
-use Rattle.laws.specs.Bits.{bit-below}
+use Rattle.laws.specs.Laws.Bits.{bit-below}
 use Rattle.word_parts.specs.Packed.{commandWord}
 use Rattle.words.specs.Command.{wordOfCommand, commandReport}
 use Rattle.words.specs.Laws.Command.{in-size}

@@ -1,7 +1,7 @@
 -- `word` makes the word of fields in their sizes, and refuses all others.
 use mathlib.Core.Path.{sym, ap₂, _∙_}
 use Prim.Native.Nat.{ℕ}
-use Rattle.laws.specs.Bits.{bit-below}
+use Rattle.laws.specs.Laws.Bits.{bit-below}
 use Rattle.word_parts.specs.Packed.{statusWord}
 use Rattle.words.specs.Status.{wordOfStatus, statusReport}
 use Rattle.words.specs.Laws.Status.{in-size}

@@ -1,0 +1,14 @@
+pub mod All
+pub mod Any
+pub mod Bits
+pub mod First
+pub mod Functions
+pub mod Iter
+pub mod Members
+pub mod Order
+pub mod Ordered
+pub mod Put
+pub mod Tables
+pub mod Owners
+pub mod Stores
+pub mod Decides
