@@ -24,12 +24,12 @@ abbrev pub begun : Desk
 begun = opening [] 0
 
 -- behind the line START
-unfoldable pub started : Answer → Desk
-started a = cond (eqb (a .no) 0) (talking (fileRig a) (R.start (fileRig a)) []) over
+unfoldable pub deskStarted : Answer → Desk
+deskStarted a = cond (eqb (a .no) 0) (talking (fileRig a) (R.start (fileRig a)) []) over
 
 abbrev pub opened : Opening → Desk
 opened (still text from) = opening text from
-opened (whole text) = started (readOf text)
+opened (whole text) = deskStarted (readOf text)
 
 abbrev pub openedText : Opening → List ℕ
 openedText (still text from) = []
@@ -47,16 +47,16 @@ says (talking r s line) b = cond (eqb b lf) (turnText r s line) []
 says over b = []
 
 -- after bytes
-unfoldable pub after : Desk → List ℕ → Desk
-after d [] = d
-after d (b ∷ bytes) = after (next d b) bytes
+unfoldable pub deskAfter : Desk → List ℕ → Desk
+deskAfter d [] = d
+deskAfter d (b ∷ bytes) = deskAfter (next d b) bytes
 
 unfoldable pub said : Desk → List ℕ → List ℕ
 said d [] = []
 said d (b ∷ bytes) = says d b ++ said (next d b) bytes
 
 -- the input has ended
-unfoldable pub last : Desk → List ℕ
-last (opening text from) = startText (readOf text)
-last (talking r s line) = lastText line
-last over = []
+unfoldable pub lastSaid : Desk → List ℕ
+lastSaid (opening text from) = startText (readOf text)
+lastSaid (talking r s line) = lastText line
+lastSaid over = []

@@ -2,7 +2,7 @@
 use Prim.Native.Nat.{ℕ, _≤_, _<_}
 use mathlib.Core.List.{List}
 use lib.ListN.{take, replicate}
-use Rattle.exec.specs.Sound.{rigIn, view, Sound}
+use Rattle.exec.specs.Sound.{rigIn, view, SoundRecord}
 use Rattle.exec.specs.Starting.{noExec}
 use Rattle.exec.specs.declared.Exec.{Exec}
 use Rattle.bench_input.specs.Opening.{full}
@@ -24,7 +24,7 @@ deskOf s keep = deskBy (s .phase) s keep
 -- what holds of every stream that is handed out: its numbers lie inside its tables, its record is sound
 abbrev pub HoldsBy : Phase → Stream → ℕ → Type 0
 HoldsBy Opening s kept = (full ≤ kept) × (s .at < full) × (s .from ≤ s .at)
-HoldsBy Talking s kept = (s .held ≤ lineRoom) × Sound (s .exec)
+HoldsBy Talking s kept = (s .held ≤ lineRoom) × SoundRecord (s .exec)
 HoldsBy Over s kept = Unit {0}
 
 abbrev pub HoldsIn : Stream → ℕ → Type 0

@@ -6,7 +6,7 @@ use mathlib.Core.List.{List}
 use lib.ListN.{length, take}
 use Rattle.bench_script.specs.Output.{turnRoom}
 use Rattle.bench_script.specs.Wrote.{Wrote}
-use Rattle.bench_morning.specs.Desk.{after, said, last}
+use Rattle.bench_morning.specs.Desk.{deskAfter, said, lastSaid}
 use Rattle.bench_morning.specs.Stream.{deskOf, HoldsIn}
 use Rattle.bench_morning.specs.declared.Stream.{Stream}
 use Rattle.bench_morning.specs.declared.Fed.{Fed}
@@ -19,7 +19,7 @@ pub record Ready (s : Stream) (kept all : ℕ) : Type 0 where
 -- bytes of the piece are taken, to its end or for as long as there is room for any turn's line, and what they decide stands at
 -- the front of the output
 pub record Moves (s : Stream) (keep piece out : List ℕ) (r : Fed) (kept written : List ℕ) : Type 0 where
-  pub desk : deskOf (r .stream) kept ≡ after (deskOf s keep) (take (r .took) piece)
+  pub desk : deskOf (r .stream) kept ≡ deskAfter (deskOf s keep) (take (r .took) piece)
   pub wrote : Wrote out 0 (said (deskOf s keep) (take (r .took) piece)) written (r .wrote)
   pub took : r .took ≤ length piece
   pub roomy : (k : ℕ) → k < r .took → length (said (deskOf s keep) (take k piece)) + turnRoom ≤ length out
@@ -35,5 +35,5 @@ pub record Feeds (s : Stream) (keep piece out : List ℕ) (r : Fed) (kept writte
 
 pub record Ends (s : Stream) (keep out : List ℕ) (n : ℕ) (written : List ℕ) : Type 0 where
   pub is :
-      (Ready s (length keep) (length out) × Wrote out 0 (last (deskOf s keep)) written n)
+      (Ready s (length keep) (length out) × Wrote out 0 (lastSaid (deskOf s keep)) written n)
       ⊎ ((Ready s (length keep) (length out) → ⊥) × (n ≡ 0) × (written ≡ out))

@@ -39,8 +39,8 @@ letterOf (Ask f) = askVerb
 letterOf Wrong = question
 
 -- "Its lent buffer has at least 128 words"
-abbrev pub tickWords : ℕ
-tickWords = 128
+abbrev pub wordsLent : ℕ
+wordsLent = 128
 
 -- and as many fields have room for them
 abbrev pub extraRoom : ℕ
@@ -56,7 +56,7 @@ askedBy (Schedule t) = call (R.schedule t)
 askedBy (Cancel t) = call (R.cancel t)
 askedBy (Terminate t) = call (R.terminate t)
 askedBy Finish = call R.finish
-askedBy Tick = call (R.tick (replicate tickWords 0))
+askedBy Tick = call (R.tick (replicate wordsLent 0))
 askedBy (Until t) = call (R.waitUntil t)
 askedBy (Cycles n) = call (R.waitFor n)
 askedBy (Latched f v) = call (R.latched f (bit v))

@@ -10,8 +10,8 @@ ghost use Prim.Native.Nat.{_+_, _≤_, _<_, min};
 ghost use lib.ListN.{length};
 ghost use Rattle.bench_script.specs.Wrote.{Wrote};
 ghost use Rattle.bench_script.specs.Output.{fieldsText, turnRoom};
-ghost use Rattle.exec.specs.Call.{reportOf, answerOf, Proper};
-ghost use Rattle.bench_turn.specs.Turn.{letterOf, extraRoom, extra, textOf, tickWords, Turns};
+ghost use Rattle.exec.specs.Call.{reportOf, answerOf, ProperAnswer};
+ghost use Rattle.bench_turn.specs.Turn.{letterOf, extraRoom, extra, textOf, wordsLent, Turns};
 ghost use Rattle.bench_turn.specs.Laws.Turn.{Made};
 
 // The number of a line that has the wrong shape.
@@ -29,7 +29,7 @@ pub struct Turn {
 
 // Bus words of a tick, the value of a flag that was read, nothing of any other call.
 fn put_extra(verb: u8, report: Report, words: &[u16], out: &mut [u8], at: usize) -> usize
-    requires { ⌜ (length (now words) ≤ tickWords) × (at + extraRoom ≤ length (now out)) ⌝ }
+    requires { ⌜ (length (now words) ≤ wordsLent) × (at + extraRoom ≤ length (now out)) ⌝ }
     ensures { λ r. ⌜ Wrote (now (out .entry)) at (fieldsText (extra verb (reportOf report) (now (words .entry)))) (now (out .exit)) r ⌝ }
 {
     if verb == b'K' {
@@ -68,7 +68,7 @@ fn show(
     out: &mut [u8],
     at: usize,
 ) -> usize
-    requires { ⌜ (length (now words) ≤ tickWords) × (at + turnRoom ≤ length (now out)) × Proper answer ⌝ }
+    requires { ⌜ (length (now words) ≤ wordsLent) × (at + turnRoom ≤ length (now out)) × ProperAnswer answer ⌝ }
     ensures { λ r. ⌜ Wrote (now (out .entry)) at (textOf verb (answerOf answer) count running (now (words .entry))) (now (out .exit)) r ⌝ }
 {
     let n = number_of(answer);

@@ -10,7 +10,7 @@ use Rattle.chains.specs.Link.{Chain}
 
 -- THE INVARIANT. N, P and O hold the chains X: each chain is linked round its anchor; who is in it is a task and says so;
 -- each task is in no chain, with its links 0, or is in the chain that it names.
-pub record Chains (T M : ℕ) (N P O : ℕ → ℕ) (X : ℕ → List ℕ) : Type 0 where
+pub record LinkedChains (T M : ℕ) (N P O : ℕ → ℕ) (X : ℕ → List ℕ) : Type 0 where
   pub link : (s : ℕ) → T < s → s < M → Chain N P s (X s)
   pub own : (s : ℕ) → T < s → s < M → (a : ℕ) → In a (X s) → (0 < a) × (a ≤ T) × (O a ≡ s)
   pub task : (a : ℕ) → a ≤ T → ((O a ≡ 0) × (N a ≡ 0) × (P a ≡ 0)) ⊎ ((T < O a) × (O a < M) × In a (X (O a)))

@@ -2,25 +2,22 @@
 use mathlib.Core.Path.{_≡_}
 use mathlib.Core.List.{List, [], _∷_, _++_}
 use Prim.Native.Nat.{ℕ, _+_, _≤_, _<_}
-use lib.ListN.{length, getD}
+use lib.ListN.{length}
+pub use Rattle.laws.specs.Tables.{at}
 use Rattle.laws.specs.Functions.{upd}
 use Rattle.laws.specs.Members.{In, without}
-use Rattle.laws.specs.Order.{place}
+use Rattle.laws.specs.Order.{insertBy}
 use Rattle.chains.specs.Link.{last, first}
-use Rattle.chains.specs.Chains.{Chains}
+use Rattle.chains.specs.Chains.{LinkedChains}
 use Rattle.chains.specs.declared.Links.{Links}
-
--- the entry at i
-abbrev pub at : List ℕ → ℕ → ℕ
-at l i = getD l i 0
 
 -- the arrays hold the chains X
 abbrev pub Held : Links → (ℕ → List ℕ) → Type 0
-Held l X = Chains 64 322 (at (l .next)) (at (l .prev)) (at (l .on)) X
+Held l X = LinkedChains 64 322 (at (l .next)) (at (l .prev)) (at (l .on)) X
 
 -- the arrays hold some chains
-abbrev pub Sound : Links → Type 0
-Sound l = (X : ℕ → List ℕ) × Held l X
+abbrev pub HoldsChains : Links → Type 0
+HoldsChains l = (X : ℕ → List ℕ) × Held l X
 
 -- t leaves its chain, and nothing else changes
 abbrev pub Leaves : Links → ℕ → Links → Type 0
@@ -53,7 +50,7 @@ pub record Puts (l : Links) (s u t : ℕ) : Type 0 where
 
 -- t is put in its place by waking count
 abbrev pub Places : Links → List ℕ → ℕ → ℕ → Links → Type 0
-Places l wake s t r = (X : ℕ → List ℕ) → Held l X → Held r (upd X s (place (at wake) t (X s)))
+Places l wake s t r = (X : ℕ → List ℕ) → Held l X → Held r (upd X s (insertBy (at wake) t (X s)))
 
 -- a walk through the chain of s, forward from its anchor, at node u with v behind it: all the tasks up to u have passed Q
 pub record Scan (Q : ℕ → Type 0) (s u v : ℕ) (xs : List ℕ) : Type 0 where

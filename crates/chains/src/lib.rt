@@ -1,7 +1,7 @@
 // Wait chains: doubly linked rings over 64 tasks, each round an anchor. Node numbers: tasks 1 to 64, anchors 65 to 321.
 ghost use mathlib.Core.Path.{_≡_};
 ghost use Prim.Native.Nat.{_≤_, _<_};
-ghost use Rattle.chains.specs.Held.{at, Sound, Leaves, Joins, Inserts, Places, Puts, Empty};
+ghost use Rattle.chains.specs.Held.{at, HoldsChains, Leaves, Joins, Inserts, Places, Puts, Empty};
 
 // Place 0 is no node.
 pub const PLACES: usize = 65;
@@ -20,7 +20,7 @@ pub struct Links {
 
 // Task t leaves its chain.
 pub fn unlink(l: Links, t: usize) -> Links
-    requires { ⌜ Sound l ⌝ }
+    requires { ⌜ HoldsChains l ⌝ }
     requires { ⌜ (0 < t) × (t ≤ 64) × (at (l .on) t ≡ 0 → ⊥) ⌝ }
     ensures { λ r. ⌜ Leaves l t r ⌝ }
 {
@@ -39,7 +39,7 @@ pub fn unlink(l: Links, t: usize) -> Links
 
 // Task t goes behind the node u of the chain of anchor s.
 pub fn link_after(l: Links, s: usize, u: usize, t: usize) -> Links
-    requires { ⌜ Sound l ⌝ }
+    requires { ⌜ HoldsChains l ⌝ }
     requires { ⌜ Puts l s u t ⌝ }
     ensures { λ r. ⌜ Inserts l s u t r ⌝ }
 {
@@ -56,7 +56,7 @@ pub fn link_after(l: Links, s: usize, u: usize, t: usize) -> Links
 
 // Task t goes to the end of the chain of anchor s.
 pub fn append(l: Links, s: usize, t: usize) -> Links
-    requires { ⌜ Sound l ⌝ }
+    requires { ⌜ HoldsChains l ⌝ }
     requires { ⌜ Puts l s s t ⌝ }
     ensures { λ r. ⌜ Joins l s t r ⌝ }
 {
@@ -66,7 +66,7 @@ pub fn append(l: Links, s: usize, t: usize) -> Links
 
 // Task t goes to its place by waking count in the chain of anchor s, behind those with the same count.
 pub fn place(l: Links, wake: [u32; PLACES], s: usize, t: usize) -> Links
-    requires { ⌜ Sound l ⌝ }
+    requires { ⌜ HoldsChains l ⌝ }
     requires { ⌜ Puts l s s t ⌝ }
     ensures { λ r. ⌜ Places l wake s t r ⌝ }
 {

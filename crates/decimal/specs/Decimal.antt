@@ -1,7 +1,7 @@
 -- Decimal numbers without spare zeros.
---     number     what a text says: its value below `cap`, `cap` for every larger one, `bad` or `start` where it is no decimal
+--     number     what a text says: its value below `cap`, `cap` for every larger one, `bad` or `unread` where it is no decimal
 --     dec        the decimal of a number
--- The reading goes byte after byte, by `step`, so that a loop's invariant is one equation on what is left. What a decimal is, said of the
+-- The reading goes byte after byte, by `readByte`, so that a loop's invariant is one equation on what is left. What a decimal is, said of the
 -- text alone, and that exactly these are read, each as its value: `Decimal`, `value`, `number-exact`, `number-value` (Plain).
 use Prim.Native.Nat.{ℕ, zero, suc, _+_, _-_, _*_, _/_, _%_, min}
 use mathlib.Core.Bool.{Bool, cond, _&&_}
@@ -15,25 +15,25 @@ cap = 4294967296
 abbrev pub bad : ℕ
 bad = 4294967297
 
-abbrev pub start : ℕ
-start = 4294967298
+abbrev pub unread : ℕ
+unread = 4294967298
 
 abbrev pub digit : ℕ → Bool
 digit b = leb 48 b && leb b 57
 
 -- one byte more: after nothing the digit's value, after a number its next value, after 0 (a spare zero) and after `bad` nothing good
-unfoldable pub step : ℕ → ℕ → ℕ
-step m b =
+unfoldable pub readByte : ℕ → ℕ → ℕ
+readByte m b =
     cond (digit b)
-    (cond (eqb m start) (b - 48) (cond (eqb m 0) bad (cond (ltb cap m) bad (min cap (m * 10 + (b - 48))))))
+    (cond (eqb m unread) (b - 48) (cond (eqb m 0) bad (cond (ltb cap m) bad (min cap (m * 10 + (b - 48))))))
     bad
 
-unfoldable pub run : ℕ → List ℕ → ℕ
-run m [] = m
-run m (b ∷ bs) = run (step m b) bs
+unfoldable pub readOn : ℕ → List ℕ → ℕ
+readOn m [] = m
+readOn m (b ∷ bs) = readOn (readByte m b) bs
 
 abbrev pub number : List ℕ → ℕ
-number l = run start l
+number l = readOn unread l
 
 -- the decimal of n, for n below 10 ^ (k + 1)
 unfoldable pub decBy : ℕ → ℕ → List ℕ

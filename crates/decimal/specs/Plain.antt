@@ -17,7 +17,7 @@ use lib.Dec.{ltb, eqb}
 use lib.ListN.{length, getD}
 use borrow.Author.Tests.{ltb-true, ltb-false, eqb-true, eqb-false}
 use Rattle.laws.specs.Cases.{by}
-use Rattle.decimal.specs.Decimal.{cap, bad, start, digit, step, run, number, dec}
+use Rattle.decimal.specs.Decimal.{cap, bad, unread, digit, readByte, readOn, number, dec}
 use Rattle.decimal.specs.Laws.{digit-of, digit-is, step-start, step-num, step-not, step-zero, step-over, number-dec}
 
 -- every byte is a digit, 48 for 0 to 57 for 9
@@ -37,23 +37,23 @@ value [] = 0
 value (b ∷ bs) = (b - 48) * 10 ^ length bs + value bs
 
 -- what is `bad` stays so
-bad-stays : (l : List ℕ) → run bad l ≡ bad
-unfolding run
+bad-stays : (l : List ℕ) → readOn bad l ≡ bad
+unfolding readOn
 bad-stays [] = refl
 bad-stays (b ∷ bs) = rw (step-over bad b (omega arith) (λ e. omega arith)) (bad-stays bs)
 
 -- after a number that is not 0, whatever is not `bad` was digits
-digits-of : (l : List ℕ) (m : ℕ) → 0 < m → m ≤ cap → run m l ≢ bad → Digits l
-unfolding run
+digits-of : (l : List ℕ) (m : ℕ) → 0 < m → m ≤ cap → readOn m l ≢ bad → Digits l
+unfolding readOn
 digits-of [] m p q n = tt
 digits-of (b ∷ bs) m p q n =
     by (digit b)
     (λ t. let w = digit-is b t in
     let s = step-num m b t p q in
-    let low : 0 < step m b = rw s (omega arith) in
-    let high : step m b ≤ cap = rw s (omega arith) in
-    (w .0, w .1, digits-of bs (step m b) low high n))
-    (λ t. absurd (n (ap (λ (x : ℕ). run x bs) (step-not m b t) ∙ bad-stays bs)))
+    let low : 0 < readByte m b = rw s (omega arith) in
+    let high : readByte m b ≤ cap = rw s (omega arith) in
+    (w .0, w .1, digits-of bs (readByte m b) low high n))
+    (λ t. absurd (n (ap (λ (x : ℕ). readOn x bs) (step-not m b t) ∙ bad-stays bs)))
 
 -- a power of ten is not 0
 tens : (k : ℕ) → 1 ≤ 10 ^ k
@@ -73,15 +73,15 @@ capped x p v h =
     rw e (omega arith))
 
 -- after a number m that is not 0, digits are read by their places behind it
-reads-on : (l : List ℕ) (m : ℕ) → 0 < m → m ≤ cap → Digits l → run m l ≡ min cap (m * 10 ^ length l + value l)
-unfolding run value
+reads-on : (l : List ℕ) (m : ℕ) → 0 < m → m ≤ cap → Digits l → readOn m l ≡ min cap (m * 10 ^ length l + value l)
+unfolding readOn value
 reads-on [] m p q d = omega arith
 reads-on (b ∷ bs) m p q d =
     let t = digit-of b (d .0) (d .1) in
     let s = step-num m b t p q in
-    let low : 0 < step m b = rw s (omega arith) in
-    let high : step m b ≤ cap = rw s (omega arith) in
-    let i = reads-on bs (step m b) low high (d .2) in
+    let low : 0 < readByte m b = rw s (omega arith) in
+    let high : readByte m b ≤ cap = rw s (omega arith) in
+    let i = reads-on bs (readByte m b) low high (d .2) in
     i ∙ (ap (λ (x : ℕ). min cap (x * 10 ^ length bs + value bs)) s ∙ (capped (m * 10 + (b - 48)) (10 ^ length bs) (value bs) (tens (length bs)) ∙ ap (min cap) (spread m (b - 48) (length bs) (value bs))))
   where
     spread : (m d k v : ℕ) → (m * 10 + d) * 10 ^ k + v ≡ m * 10 ^ suc k + (d * 10 ^ k + v)
@@ -95,7 +95,7 @@ reads-on (b ∷ bs) m p q d =
 
 -- a text that is not empty and not `bad` is a decimal
 decimal-of : (l : List ℕ) → 0 < length l → number l ≢ bad → Decimal l
-unfolding run
+unfolding readOn
 decimal-of [] h n = absurd (omega arith)
 decimal-of (b ∷ bs) h n =
     by (digit b)
@@ -103,23 +103,23 @@ decimal-of (b ∷ bs) h n =
     let s = step-start b t in
     by (eqb b 48)
     (λ u. let v = eqb-true b 48 u in
-    let z : run 0 bs ≢ bad = λ e. n (ap (λ (x : ℕ). run x bs) (s ∙ ap (λ (x : ℕ). x - 48) v) ∙ e) in
+    let z : readOn 0 bs ≢ bad = λ e. n (ap (λ (x : ℕ). readOn x bs) (s ∙ ap (λ (x : ℕ). x - 48) v) ∙ e) in
     only b bs (w .0) (w .1) z)
     (λ u. let v = eqb-false b 48 u in
-    let z : run (b - 48) bs ≢ bad = λ e. n (ap (λ (x : ℕ). run x bs) s ∙ e) in
+    let z : readOn (b - 48) bs ≢ bad = λ e. n (ap (λ (x : ℕ). readOn x bs) s ∙ e) in
     record { some = h; digits = (w .0, w .1, digits-of bs (b - 48) (above b v (w .0)) (omega arith) z); spare = λ e. absurd (v e) }))
-    (λ t. absurd (n (ap (λ (x : ℕ). run x bs) (step-not start b t) ∙ bad-stays bs)))
+    (λ t. absurd (n (ap (λ (x : ℕ). readOn x bs) (step-not unread b t) ∙ bad-stays bs)))
   where
     above : (b : ℕ) → b ≢ 48 → 48 ≤ b → 0 < b - 48
     above b v p = omega arith
 
-    only : (b : ℕ) (bs : List ℕ) → 48 ≤ b → b ≤ 57 → run 0 bs ≢ bad → Decimal (b ∷ bs)
+    only : (b : ℕ) (bs : List ℕ) → 48 ≤ b → b ≤ 57 → readOn 0 bs ≢ bad → Decimal (b ∷ bs)
     only b [] p q z = record { some = omega arith; digits = (p, q, tt); spare = λ e. refl }
-    only b (c ∷ cs) p q z = absurd (z (ap (λ (x : ℕ). run x cs) (step-zero c) ∙ bad-stays cs))
+    only b (c ∷ cs) p q z = absurd (z (ap (λ (x : ℕ). readOn x cs) (step-zero c) ∙ bad-stays cs))
 
 -- "decimal": a text is read as its value, or as `cap` where that is not below it
 pub number-value : (l : List ℕ) → Decimal l → number l ≡ min cap (value l)
-unfolding run value
+unfolding readOn value
 number-value [] w = absurd (let h = w .some in omega arith)
 number-value (b ∷ bs) w =
     let d = w .digits in
@@ -127,14 +127,14 @@ number-value (b ∷ bs) w =
     let s = step-start b t in
     by (eqb b 48)
     (λ u. let v = eqb-true b 48 u in zero-alone b bs v s (w .spare v))
-    (λ u. let v = eqb-false b 48 u in ap (λ (x : ℕ). run x bs) s ∙ reads-on bs (b - 48) (omega arith) (omega arith) (d .2))
+    (λ u. let v = eqb-false b 48 u in ap (λ (x : ℕ). readOn x bs) s ∙ reads-on bs (b - 48) (omega arith) (omega arith) (d .2))
   where
-    zero-alone : (b : ℕ) (bs : List ℕ) → b ≡ 48 → step start b ≡ b - 48 → suc (length bs) ≡ 1 → run (step start b) bs ≡ min cap ((b - 48) * 10 ^ length bs + value bs)
+    zero-alone : (b : ℕ) (bs : List ℕ) → b ≡ 48 → readByte unread b ≡ b - 48 → suc (length bs) ≡ 1 → readOn (readByte unread b) bs ≡ min cap ((b - 48) * 10 ^ length bs + value bs)
     zero-alone b [] v s e = s ∙ omega arith
     zero-alone b (c ∷ cs) v s e = absurd (omega arith)
 
-number-none : number [] ≡ start
-unfolding run
+number-none : number [] ≡ unread
+unfolding readOn
 number-none = refl
 
 -- "numbers are decimal without spare zeros": exactly these are read as numbers
@@ -145,8 +145,8 @@ number-exact l = (there l, λ w. let e = number-value l w in omega arith)
     there [] h = let e = number-none in absurd (omega arith)
     there (b ∷ bs) h = decimal-of (b ∷ bs) (omega arith) (λ e. omega arith)
 
--- what is no decimal: nothing at all is read as `start`, and everything else as `bad`
-pub number-start : (l : List ℕ) → (number l ≡ start) ↔ (length l ≡ 0)
+-- what is no decimal: nothing at all is read as `unread`, and everything else as `bad`
+pub number-start : (l : List ℕ) → (number l ≡ unread) ↔ (length l ≡ 0)
 number-start [] = (λ e. refl, λ e. number-none)
 number-start (b ∷ bs) = (
   λ e. let w = decimal-of (b ∷ bs) (omega arith) (λ f. omega arith) in

@@ -2,7 +2,7 @@
 ghost use mathlib.Core.Path.{_≡_};
 ghost use Prim.Native.Nat.{_+_, _≤_, _<_};
 ghost use lib.ListN.{length};
-ghost use Rattle.decimal.specs.Decimal.{cap, step, number, dec};
+ghost use Rattle.decimal.specs.Decimal.{cap, readByte, number, dec};
 ghost use Rattle.laws.specs.Put.{put};
 
 pub const CAP: u64 = 4294967296;
@@ -16,7 +16,7 @@ const DIGIT: u64 = 48;
 
 // One byte more of a number: the next value, CAP where that is larger, BAD where the byte does not belong there.
 fn step_on(m: u64, b: u8) -> u64
-    ensures { λ r. ⌜ r ≡ step m b ⌝ }
+    ensures { λ r. ⌜ r ≡ readByte m b ⌝ }
 {
     if b < b'0' {
         return BAD;

@@ -2,23 +2,18 @@
 -- record.
 use mathlib.Core.Path.{_≡_}
 use mathlib.Core.Logic.{_≢_, _⊎_}
-use mathlib.Core.Bool.{Bool}
 use mathlib.Core.List.{List}
 use Prim.Native.Nat.{ℕ}
 use Rattle.rules.specs.Calls as R
-use Rattle.exec_refusals.specs.Bits.{bit as valueNumber}
+pub use Rattle.laws.specs.Bits.{bit}
 use Rattle.exec_refusals.specs.Numbers.{notSound}
 use Rattle.exec_state.specs.declared.State.{State}
-use Rattle.exec.specs.Sound.{rigIn, view, Sound}
+use Rattle.exec.specs.Sound.{rigIn, view, SoundRecord}
 use Rattle.exec.specs.declared.Exec.{Exec}
 use Rattle.exec.specs.declared.Report.{Report}
 use Rattle.exec.specs.declared.Step.{Step}
 use Rattle.exec.specs.declared.Answer.{Answer}
 use Rattle.exec.specs.declared.Answer.the-variants.{Accepted, Refused}
-
--- a value as a number
-abbrev pub bit : Bool → ℕ
-bit = valueNumber
 
 abbrev pub reportOf : Report → R.Report
 reportOf p = record { served = p .served; words = p .words; value = p .value }
@@ -29,9 +24,9 @@ answerOf (Accepted p) = record { code = 0; report = reportOf p }
 answerOf (Refused n) = record { code = n; report = R.nothing }
 
 -- 0 is no refusal's number
-abbrev pub Proper : Answer → Type 0
-Proper (Accepted p) = Unit {0}
-Proper (Refused n) = n ≢ 0
+abbrev pub ProperAnswer : Answer → Type 0
+ProperAnswer (Accepted p) = Unit {0}
+ProperAnswer (Refused n) = n ≢ 0
 
 -- the record with another state
 abbrev pub withState : Exec → State → Exec
@@ -52,11 +47,11 @@ pub record Follows (x : Exec) (k : R.Call) (r : Step) (after : List ℕ) : Type 
   pub next : view (r .exec) ≡ R.step (rigIn x) (view x) k .next
   pub answer : answerOf (r .answer) ≡ R.step (rigIn x) (view x) k .answer
   pub lent : after ≡ R.step (rigIn x) (view x) k .lent
-  pub proper : Proper (r .answer)
+  pub proper : ProperAnswer (r .answer)
   pub rig : r .exec .rig ≡ x .rig
   pub cycles : r .exec .cycles ≡ x .cycles
-  pub sound : Sound (r .exec)
+  pub sound : SoundRecord (r .exec)
 
 -- "For a call, 12 comes first, then the smallest number. A refused call returns the record unchanged and writes nothing"
 pub record Meets (x : Exec) (k : R.Call) (r : Step) (after : List ℕ) : Type 0 where
-  pub is : (Sound x × Follows x k r after) ⊎ ((Sound x → ⊥) × Refuses x notSound r × (after ≡ R.lent k))
+  pub is : (SoundRecord x × Follows x k r after) ⊎ ((SoundRecord x → ⊥) × Refuses x notSound r × (after ≡ R.lent k))

@@ -12,5 +12,5 @@ rigIn x = rigOf (x .rig) (x .cycles)
 abbrev pub view : Exec → State
 view x = viewOf (x .st)
 
-abbrev pub Sound : Exec → Type 0
-Sound x = SoundParts (x .rig) (x .cycles) (x .st)
+abbrev pub SoundRecord : Exec → Type 0
+SoundRecord x = SoundParts (x .rig) (x .cycles) (x .st)

@@ -11,8 +11,8 @@ use Rattle.rig.specs.declared.Rig.{Rig}
 use Rattle.rules.specs.Calls as R
 use Rattle.exec_state.specs.View.{rigOf}
 use Rattle.exec_state.specs.declared.State.{State}
-use Rattle.exec.specs.Sound.{view, Sound}
-use Rattle.exec.specs.Call.{Proper, Refuses, answerOf}
+use Rattle.exec.specs.Sound.{view, SoundRecord}
+use Rattle.exec.specs.Call.{ProperAnswer, Refuses, answerOf}
 use Rattle.exec.specs.declared.Exec.{Exec}
 use Rattle.exec.specs.declared.Step.{Step}
 
@@ -45,10 +45,10 @@ servedOnly n = record { served = n; words = 0; value = 0 }
 pub record Started (g : Rig) (rows : List Cycle) (r : Step) : Type 0 where
   pub next : view (r .exec) ≡ R.start (rigOf g rows)
   pub answer : answerOf (r .answer) ≡ record { code = 0; report = servedOnly (R.started (rigOf g rows) .served) }
-  pub proper : Proper (r .answer)
+  pub proper : ProperAnswer (r .answer)
   pub rig : r .exec .rig ≡ g
   pub cycles : r .exec .cycles ≡ rows
-  pub sound : Sound (r .exec)
+  pub sound : SoundRecord (r .exec)
 
 -- 4: "an entry that takes a rig (start, writer) is given one that breaks any rule"; "a refused start returns a record of
 -- all zeros"

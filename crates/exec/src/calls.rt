@@ -6,13 +6,13 @@ ghost use mathlib.Core.Bool.{true};
 ghost use mathlib.Core.Logic.{_↔_};
 ghost use mathlib.Core.List.{[]};
 ghost use Rattle.rules.specs.Calls as Call;
-ghost use Rattle.exec.specs.Sound.{Sound};
+ghost use Rattle.exec.specs.Sound.{SoundRecord};
 ghost use Rattle.exec.specs.Call.{bit, Meets};
 
 impl Exec {
     // Whether the record is sound.
     pub fn sound(self) -> bool
-        ensures { λ r. ⌜ (r ≡ true) ↔ Sound self ⌝ }
+        ensures { λ r. ⌜ (r ≡ true) ↔ SoundRecord self ⌝ }
     {
         let rig = self.rig;
         let cycles = self.cycles;

@@ -1,7 +1,7 @@
 -- What the loops over a family ask, and what leaving gives.
 use mathlib.Core.Path.{_≡_}
 use Prim.Native.Nat.{_≤_, ℕ}
-use Rattle.chains.specs.Held.{Sound}
+use Rattle.chains.specs.Held.{HoldsChains}
 use mathlib.Core.List.{List}
 use lib.ListN.{getD}
 use Rattle.chains.specs.Read.{chainsOf}
@@ -16,9 +16,9 @@ Controllers controller = (t : ℕ) → getD controller t 0 ≤ 64
 -- task t has left its chain
 pub record Left (l : Links) (t : ℕ) (r : Links) : Type 0 where
   pub is : chainsOf r ≡ leave t (chainsOf l)
-  pub sound : Sound r
+  pub sound : HoldsChains r
 
 -- the marked tasks have left their chains
 pub record Deserted (l : Links) (marks : List ℕ) (r : Links) : Type 0 where
   pub is : chainsOf r ≡ deserted marks (chainsOf l)
-  pub sound : Sound r
+  pub sound : HoldsChains r

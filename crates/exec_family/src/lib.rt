@@ -6,7 +6,7 @@ ghost use mathlib.Core.Path.{_≡_};
 ghost use mathlib.Core.Bool.{cond, _||_};
 ghost use Prim.Native.Nat.{_<_, _≤_};
 ghost use lib.Dec.{eqb};
-ghost use Rattle.chains.specs.Held.{at, Sound};
+ghost use Rattle.chains.specs.Held.{at, HoldsChains};
 ghost use Rattle.rules.specs.Family.{family, cleared};
 ghost use Rattle.exec_family.specs.Post.{Controllers, Left, Deserted};
 
@@ -56,7 +56,7 @@ pub fn uninvoke(marks: &[u8; TASK_PLACES], state: &mut [u8; TASK_PLACES])
 
 // Task t is taken out of its chain, if it is in one.
 pub fn leave(l: Links, t: usize) -> Links
-    requires { ⌜ Sound l ⌝ }
+    requires { ⌜ HoldsChains l ⌝ }
     requires { ⌜ (0 < t) × (t ≤ 64) ⌝ }
     ensures { λ r. ⌜ Left l t r ⌝ }
 {
@@ -69,7 +69,7 @@ pub fn leave(l: Links, t: usize) -> Links
 
 // The marked tasks leave their chains.
 pub fn desert(l: Links, marks: [u8; TASK_PLACES]) -> Links
-    requires { ⌜ Sound l ⌝ }
+    requires { ⌜ HoldsChains l ⌝ }
     ensures { λ r. ⌜ Deserted l marks r ⌝ }
 {
     let mut k = l;

@@ -7,7 +7,7 @@ use rig::Cycle;
 use rig::Rig;
 ghost use mathlib.Core.List.{[]};
 ghost use Rattle.rules.specs.Calls.{signal, readFlag};
-ghost use Rattle.exec_refusals.specs.Bits.{bit};
+ghost use Rattle.laws.specs.Bits.{bit};
 ghost use Rattle.exec_outcome.specs.Outcome.{Tells};
 
 // "Signal: the flag and value are queued."

@@ -6,7 +6,7 @@ ghost use mathlib.Core.Path.{_≡_};
 ghost use Prim.Native.Nat.{_-_, _<_};
 ghost use lib.ListN.{getD};
 ghost use Rattle.compool.specs.View.{rowsOf};
-ghost use Rattle.exec_refusals.specs.Bits.{bit};
+ghost use Rattle.laws.specs.Bits.{bit};
 ghost use Rattle.exec_refusals.specs.Rows.{judge, runRows, countRows, flagRows, signalRows, taskRows, tickRows, blockRows};
 
 // The numbers of the paper's table.

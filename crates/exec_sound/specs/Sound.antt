@@ -15,7 +15,7 @@ pub record SoundParts (g : Rig) (cycles : List Cycle) (s : State) : Type 0 where
   -- "its rig obeys the rules"
   pub rig : Right g cycles
   -- its links hold chains, forward and backward alike; "a task in no chain has links 0"
-  pub links : Links.Sound (s .links)
+  pub links : Links.HoldsChains (s .links)
   -- the link tables have their lengths: so it is of every record that a program holds
   pub sized : Sized (s .links)
   -- all the rest of the paper's list, said of the state that the record shows

@@ -6,7 +6,7 @@ use Prim.Native.Nat.{ℕ, _+_, _<_, _≤_}
 use lib.ListN.{length}
 use Rattle.laws.specs.Members.{In}
 use Rattle.laws.specs.Order.{Sorted}
-use Rattle.chains.specs.Held.{at, Sound, Sized}
+use Rattle.chains.specs.Held.{at, HoldsChains, Sized}
 use Rattle.chains.specs.Read.{chainsOf}
 use Rattle.chains.specs.declared.Links.{Links}
 use Rattle.exec_conditions.specs.Lines.{Lines}
@@ -54,12 +54,12 @@ Servable (e ∷ q) = FlagOk (e .flag) (e .value) × Servable q
 pub record Begins (n : ℕ) (lineTask linePos activation : List ℕ) (s : State) (q : Queue) : Type 0 where
   pub fits : Fits n lineTask linePos activation
   pub room : load (workOf s q) ≤ 79
-  pub sound : Sound (s .links)
+  pub sound : HoldsChains (s .links)
   pub entries : Servable (entriesOf q)
 
 -- there is a running task, and it is in no chain
 pub record MayWait (s : State) : Type 0 where
-  pub sound : Sound (s .links)
+  pub sound : HoldsChains (s .links)
   pub some : 0 < s .running
   pub task : s .running ≤ 64
   pub idle : at (s .links .on) (s .running) ≡ 0
@@ -79,11 +79,11 @@ pub record TickOk (s : State) : Type 0 where
 
 pub record Blank (r : State) : Type 0 where
   pub is : viewOf r ≡ blank
-  pub sound : Sound (r .links)
+  pub sound : HoldsChains (r .links)
 
 pub record Woken (s : State) (c : ℕ) (r : State) : Type 0 where
   pub is : viewOf r ≡ wake c (viewOf s)
-  pub sound : Sound (r .links)
+  pub sound : HoldsChains (r .links)
 
 -- the same of the links and the states alone, with whatever stands beside them
 abbrev pub Awoken : Links → List ℕ → ℕ → Links → List ℕ → Type 0
@@ -91,15 +91,15 @@ Awoken l states c r after = (s : State) → Woken (putLinks (putState s states) 
 
 pub record WokenDue (s : State) (r : State) : Type 0 where
   pub is : viewOf r ≡ wakeDue (viewOf s)
-  pub sound : Sound (r .links)
+  pub sound : HoldsChains (r .links)
 
 pub record WaitsOn (s : State) (f v : ℕ) (r : State) : Type 0 where
   pub is : viewOf r ≡ waitOn (viewOf s) f v
-  pub sound : Sound (r .links)
+  pub sound : HoldsChains (r .links)
 
 pub record WaitsUntil (s : State) (count : ℕ) (r : State) : Type 0 where
   pub is : viewOf r ≡ waitUntilCount (viewOf s) count
-  pub sound : Sound (r .links)
+  pub sound : HoldsChains (r .links)
 
 pub record Dispatched (s : State) (g : Rig) (r : State) : Type 0 where
   pub is : (cycles : List Cycle) → viewOf r ≡ dispatch (rigOf g cycles) (viewOf s)
@@ -112,11 +112,11 @@ pub record Finished (s : State) (g : Rig) (r : Work) : Type 0 where
 
 pub record Terminated (s : State) (g : Rig) (t : ℕ) (r : Work) : Type 0 where
   pub is : (cycles : List Cycle) → workOf (r .st) (r .queue) ≡ terminated (rigOf g cycles) (viewOf s) t
-  pub sound : Sound (r .st .links)
+  pub sound : HoldsChains (r .st .links)
 
 pub record Cancelled (s : State) (g : Rig) (t : ℕ) (r : Work) : Type 0 where
   pub is : (cycles : List Cycle) → workOf (r .st) (r .queue) ≡ cancelled (rigOf g cycles) (viewOf s) t
-  pub sound : Sound (r .st .links)
+  pub sound : HoldsChains (r .st .links)
 
 pub record Scheduled (s : State) (g : Rig) (t : ℕ) (r : Work) : Type 0 where
   pub is : (cycles : List Cycle) → workOf (r .st) (r .queue) ≡ scheduled (rigOf g cycles) (viewOf s) t
@@ -124,7 +124,7 @@ pub record Scheduled (s : State) (g : Rig) (t : ℕ) (r : Work) : Type 0 where
 
 pub record Ticked (s : State) (cycles : List Cycle) (r : Work) : Type 0 where
   pub is : (g : Rig) → workOf (r .st) (r .queue) ≡ ticked (rigOf g cycles) (viewOf s)
-  pub sound : Sound (r .st .links)
+  pub sound : HoldsChains (r .st .links)
 
 pub record Offered (w : Work) (g : Rig) (f : ℕ) (r : Work) : Type 0 where
   pub is : (cycles : List Cycle) → workOf (r .st) (r .queue) ≡ offers (rigOf g cycles) f 64 (workOf (w .st) (w .queue))
@@ -140,10 +140,10 @@ Offering tables f c a q d b r = (g : Rig) (s : State) → Offered (workIn s c a 
 pub record Served (s : State) (q : Queue) (g : Rig) (f v : ℕ) (r : Work) : Type 0 where
   pub is :
       (cycles : List Cycle) → workOf (r .st) (r .queue) ≡ serveFlag (rigOf g cycles) (record { flag = f; value = v }) (viewOf s) (entriesOf q)
-  pub sound : Sound (r .st .links)
+  pub sound : HoldsChains (r .st .links)
 
 -- the queue is served to its end
 pub record Emptied (g : Rig) (s : State) (q : Queue) (r : Done) : Type 0 where
   pub is : (cycles : List Cycle) → doneOf r ≡ serve (rigOf g cycles) (workOf s q)
-  pub sound : Sound (r .st .links)
+  pub sound : HoldsChains (r .st .links)
   pub few : r .served ≤ 79

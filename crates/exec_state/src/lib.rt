@@ -8,7 +8,7 @@ ghost use mathlib.Core.Bool.{not};
 ghost use Prim.Native.Nat.{_+_, _<_, _≤_};
 ghost use lib.Dec.{eqb};
 ghost use lib.ListN.{getD};
-ghost use Rattle.chains.specs.Held.{Sound};
+ghost use Rattle.chains.specs.Held.{HoldsChains};
 ghost use Rattle.exec_state.specs.Post.{FlagOk, Begins, MayWait, Timed, TickOk, CancelOk, Awoken, WokenDue, WaitsOn, WaitsUntil, Dispatched, Offering, Emptied, Finished, Terminated, Cancelled, Scheduled, Ticked, Blank, Room};
 ghost use Rattle.exec_state.specs.Set.{withTables, withPlaces, withRanks};
 
@@ -77,7 +77,7 @@ impl State {
 
     // The tasks due at the count become dispatchable: they leave the time chain from its front.
     pub fn wake_due(mut self) -> State
-        requires { ⌜ Sound (self .links) ⌝ }
+        requires { ⌜ HoldsChains (self .links) ⌝ }
         requires { ⌜ Timed self ⌝ }
         ensures { λ r. ⌜ WokenDue self r ⌝ }
     {
@@ -151,7 +151,7 @@ impl State {
 
     // The same for task t, taken out of any chain.
     pub fn terminated(mut self, rig: Rig, t: usize) -> Work
-        requires { ⌜ Sound (self .links) ⌝ }
+        requires { ⌜ HoldsChains (self .links) ⌝ }
         requires { ⌜ (0 < t) × (t ≤ 64) ⌝ }
         ensures { λ r. ⌜ Terminated self rig t r ⌝ }
     {
@@ -166,7 +166,7 @@ impl State {
     // Task t and all its descendants become uninvoked and leave their chains; the activation flags of those that were
     // active are queued off.
     pub fn cancelled(mut self, rig: Rig, t: usize) -> Work
-        requires { ⌜ Sound (self .links) ⌝ }
+        requires { ⌜ HoldsChains (self .links) ⌝ }
         requires { ⌜ CancelOk rig ⌝ }
         ensures { λ r. ⌜ Cancelled self rig t r ⌝ }
     {
@@ -201,7 +201,7 @@ impl State {
 
     // The count rises by one, the tasks due at it become dispatchable, and the cycle's list is queued.
     pub fn ticked(mut self, cycles: [Cycle; 64]) -> Work
-        requires { ⌜ Sound (self .links) ⌝ }
+        requires { ⌜ HoldsChains (self .links) ⌝ }
         requires { ⌜ TickOk self ⌝ }
         ensures { λ r. ⌜ Ticked self cycles r ⌝ }
     {
@@ -251,7 +251,7 @@ pub fn offers<'a>(
 
 // All who wait in the chain of anchor s become dispatchable.
 pub fn wake(links: Links, state: &mut [u8; 65], s: usize) -> Links
-    requires { ⌜ Sound links ⌝ }
+    requires { ⌜ HoldsChains links ⌝ }
     requires { ⌜ (64 < s) × (s < 322) ⌝ }
     ensures { λ r. ⌜ Awoken links (now (state .entry)) s r (now (state .exit)) ⌝ }
 {

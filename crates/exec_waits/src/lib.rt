@@ -10,7 +10,7 @@ ghost use mathlib.Core.Bool.{_&&_};
 ghost use mathlib.Core.List.{[]};
 ghost use lib.Dec.{eqb};
 ghost use Rattle.rules.specs.Calls.{waitUntil, waitFor};
-ghost use Rattle.exec_refusals.specs.Bits.{bit};
+ghost use Rattle.laws.specs.Bits.{bit};
 ghost use Rattle.exec_outcome.specs.Outcome.{Tells};
 ghost use Rattle.exec_waits.specs.Laws.Waits.{flagWait};
 

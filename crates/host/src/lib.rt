@@ -6,7 +6,7 @@ ghost use mathlib.Core.Path.{_≡_};
 ghost use mathlib.Core.List.{[]};
 ghost use Rattle.rules.specs.Calls as Call;
 ghost use Rattle.exec.specs.Call.{bit};
-ghost use Rattle.host_replies.specs.Told.{codedOf, Replies, BeginsFrom};
+ghost use Rattle.host_replies.specs.Told.{codedOf, Replies, StartRepliesFrom};
 ghost use Rattle.refusal_texts.specs.Texts.{refusalText, Given};
 ghost use Rattle.host.specs.Library.{recordSize, recordAlign, version};
 
@@ -51,7 +51,7 @@ pub extern "C" fn algolmallet_record_align() -> usize
 // Whatever the memory held, it holds a fresh record then, or one of all zeros if the file is refused.
 #[no_mangle]
 pub extern "C" fn algolmallet_start(e: &mut Exec, file: &[u8]) -> Reply
-    ensures { λ r. ⌜ BeginsFrom (now (file .entry)) (codedOf (now (e .exit)) r) ⌝ }
+    ensures { λ r. ⌜ StartRepliesFrom (now (file .entry)) (codedOf (now (e .exit)) r) ⌝ }
 {
     let s = host_replies::start(file);
     *e = s.exec;

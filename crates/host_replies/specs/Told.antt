@@ -43,7 +43,7 @@ pub record Replies (x : Exec) (k : R.Call) (r : Coded) (after : List ℕ) : Type
   pub told : r ≡ coded step
 
 -- the start of an accepted rig
-pub record Begins (g : Rig) (rows : List Cycle) (r : Coded) : Type 0 where
+pub record StartReplies (g : Rig) (rows : List Cycle) (r : Coded) : Type 0 where
   pub step : Step
   pub started : Started g rows step
   pub told : r ≡ coded step
@@ -57,7 +57,7 @@ refusedFile number place =
     }
 
 -- a start from a rig file: what reading the file answers decides
-pub record BeginsFrom (file : List ℕ) (r : Coded) : Type 0 where
+pub record StartRepliesFrom (file : List ℕ) (r : Coded) : Type 0 where
   pub is :
-      ((readOf file .no ≡ 0) × Begins (readOf file .rig) (readOf file .cycles) r)
+      ((readOf file .no ≡ 0) × StartReplies (readOf file .rig) (readOf file .cycles) r)
       ⊎ ((readOf file .no ≢ 0) × (r ≡ refusedFile (readOf file .no) (readOf file .line)))

@@ -2,7 +2,7 @@
 use crate::Coded;
 use crate::Reply;
 ghost use mathlib.Core.Path.{_≡_};
-ghost use Rattle.host_replies.specs.Told.{refusedFile, BeginsFrom};
+ghost use Rattle.host_replies.specs.Told.{refusedFile, StartRepliesFrom};
 
 fn refused(number: u32, line: u32) -> Coded
     ensures { λ r. ⌜ r ≡ refusedFile number line ⌝ }
@@ -21,7 +21,7 @@ fn refused(number: u32, line: u32) -> Coded
 }
 
 pub fn start(file: &[u8]) -> Coded
-    ensures { λ r. ⌜ BeginsFrom (now (file .entry)) r ⌝ }
+    ensures { λ r. ⌜ StartRepliesFrom (now (file .entry)) r ⌝ }
 {
     let a = rig_read::read(file);
     if a.no != 0 {

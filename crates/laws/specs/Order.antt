@@ -6,9 +6,9 @@ use lib.Dec.{leb}
 use Rattle.laws.specs.Members.{In}
 
 -- x goes behind all whose key is at most its own, before the first with a larger one
-abbrev pub place : (ℕ → ℕ) → ℕ → List ℕ → List ℕ
-place W x [] = x ∷ []
-place W x (y ∷ ys) = cond (leb (W y) (W x)) (y ∷ place W x ys) (x ∷ y ∷ ys)
+abbrev pub insertBy : (ℕ → ℕ) → ℕ → List ℕ → List ℕ
+insertBy W x [] = x ∷ []
+insertBy W x (y ∷ ys) = cond (leb (W y) (W x)) (y ∷ insertBy W x ys) (x ∷ y ∷ ys)
 
 -- in order of the key
 abbrev pub Sorted : (ℕ → ℕ) → List ℕ → Type 0

@@ -6,49 +6,49 @@ use mathlib.Core.List.{List, [], _∷_, _++_}
 use lib.Dec.{eqb}
 use lib.ListN.{length}
 use Rattle.laws.specs.Put.{put}
-use Rattle.put_text.specs.Text.{bytesOf}
+use Rattle.put_text.specs.Text.{ascii}
 
 abbrev pub accepted : List ℕ
-accepted = bytesOf "accepted"
+accepted = ascii "accepted"
 
 abbrev pub wrongShape : List ℕ
-wrongShape = bytesOf "a line or script line has the wrong shape, or no LF; empty file (line 1)"
+wrongShape = ascii "a line or script line has the wrong shape, or no LF; empty file (line 1)"
 
 abbrev pub outsideSize : List ℕ
-outsideSize = bytesOf "a number is outside its size; file too long (line 0, tested first)"
+outsideSize = ascii "a number is outside its size; file too long (line 0, tested first)"
 
 abbrev pub outOfOrder : List ℕ
-outOfOrder = bytesOf "a record is out of order or repeated"
+outOfOrder = ascii "a record is out of order or repeated"
 
 abbrev pub ruleBroken : List ℕ
-ruleBroken = bytesOf "a whole-file rule is broken (line 0), or an entry that takes a rig (start, writer) is given one that breaks any rule"
+ruleBroken = ascii "a whole-file rule is broken (line 0), or an entry that takes a rig (start, writer) is given one that breaks any rule"
 
 abbrev pub nobodyRuns : List ℕ
-nobodyRuns = bytesOf "any call on a record but the tick (start makes the record), while no task is running"
+nobodyRuns = ascii "any call on a record but the tick (start makes the record), while no task is running"
 
 abbrev pub noSuch : List ℕ
-noSuch = bytesOf "no such task, flag or row"
+noSuch = ascii "no such task, flag or row"
 
 abbrev pub notAllowed : List ℕ
-notAllowed = bytesOf "caller is not the named task's controller; signal of an activation or minor-cycle flag; wait on or reading of a minor-cycle flag"
+notAllowed = ascii "caller is not the named task's controller; signal of an activation or minor-cycle flag; wait on or reading of a minor-cycle flag"
 
 abbrev pub wrongState : List ℕ
-wrongState = bytesOf "schedule of an invoked task, cancel of an uninvoked one, terminate of one not active"
+wrongState = ascii "schedule of an invoked task, cancel of an uninvoked one, terminate of one not active"
 
 abbrev pub countTooHigh : List ℕ
-countTooHigh = bytesOf "waking count above 2,147,483,647; tick at that count"
+countTooHigh = ascii "waking count above 2,147,483,647; tick at that count"
 
 abbrev pub wrongLength : List ℕ
-wrongLength = bytesOf "a lent buffer has not the length that this paper states for it"
+wrongLength = ascii "a lent buffer has not the length that this paper states for it"
 
 abbrev pub wordOutsideSize : List ℕ
-wordOutsideSize = bytesOf "a word's field, an expected address or a status image is outside its size"
+wordOutsideSize = ascii "a word's field, an expected address or a status image is outside its size"
 
 abbrev pub notSound : List ℕ
-notSound = bytesOf "the record handed in is not sound"
+notSound = ascii "the record handed in is not sound"
 
 abbrev pub noRefusal : List ℕ
-noRefusal = bytesOf "no refusal has this number"
+noRefusal = ascii "no refusal has this number"
 
 unfoldable pub refusalText : ℕ → List ℕ
 refusalText number =

@@ -11,18 +11,18 @@ use Rattle.rig.specs.Rules.{noRow}
 abbrev pub cycleOf : List ℕ → Cycle
 cycleOf flags = record { flags = flags }
 
-abbrev pub flagsOf : Cycle → List ℕ
-flagsOf cycle = cycle .flags
+abbrev pub cycleFlags : Cycle → List ℕ
+cycleFlags cycle = cycle .flags
 
 unfoldable pub cyclesOf : List (List ℕ) → List Cycle
 cyclesOf table = map cycleOf table
 
 unfoldable pub tableOf : List Cycle → List (List ℕ)
-tableOf cycles = map flagsOf cycles
+tableOf cycles = map cycleFlags cycles
 
 -- the rig that has these numbers and tables
-abbrev pub rigOf : ℕ → ℕ → ℕ → ℕ → ℕ → List ℕ → List ℕ → List ℕ → List ℕ → List ℕ → List ℕ → List ℕ → List ℕ → List ℕ → List ℕ → List Row → Rig
-rigOf tasks flags master lines rows controller priority privileged activation present latched desired lineTask linePos lineFlag row =
+abbrev pub rigWith : ℕ → ℕ → ℕ → ℕ → ℕ → List ℕ → List ℕ → List ℕ → List ℕ → List ℕ → List ℕ → List ℕ → List ℕ → List ℕ → List ℕ → List Row → Rig
+rigWith tasks flags master lines rows controller priority privileged activation present latched desired lineTask linePos lineFlag row =
     record {
       tasks = tasks;
       flags = flags;

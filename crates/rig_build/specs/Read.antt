@@ -16,11 +16,11 @@ use Rattle.rig_lines.specs.Whole.{lineTests}
 use Rattle.rig_fill.specs.OfLines.{rigFrom, tableFrom}
 use Rattle.rig_build.specs.declared.Answer.{Answer}
 
-abbrev pub refusal : ℕ → ℕ → ℕ → Answer
-refusal number place broken = record { no = number; line = place; rule = broken; rig = noRig; cycles = noCycles }
+abbrev pub fileRefused : ℕ → ℕ → ℕ → Answer
+fileRefused number place broken = record { no = number; line = place; rule = broken; rig = noRig; cycles = noCycles }
 
-abbrev pub accepted : Rig → List Cycle → Answer
-accepted g cycles = record { no = 0; line = 0; rule = 0; rig = g; cycles = cycles }
+abbrev pub fileAccepted : Rig → List Cycle → Answer
+fileAccepted g cycles = record { no = 0; line = 0; rule = 0; rig = g; cycles = cycles }
 
 -- the rules of the rig itself are numbered behind the five of the lines
 unfoldable pub behind : ℕ → ℕ
@@ -33,14 +33,14 @@ brokenRule ofLines g cycles = cond (eqb ofLines 0) (behind (firstBroken g cycles
 
 -- "4: a whole-file rule is broken (line 0)", "a refused rig is all zeros"
 unfoldable pub judged : ℕ → Rig → List Cycle → Answer
-judged ofLines g cycles = cond (eqb (brokenRule ofLines g cycles) 0) (accepted g cycles) (refusal 4 0 (brokenRule ofLines g cycles))
+judged ofLines g cycles = cond (eqb (brokenRule ofLines g cycles) 0) (fileAccepted g cycles) (fileRefused 4 0 (brokenRule ofLines g cycles))
 
 unfoldable pub wholeFile : List Line → Answer
 wholeFile rs = judged (firstFalse 1 (lineTests rs)) (rigFrom rs) (cyclesOf (tableFrom rs))
 
 -- "For a file, the first faulty line decides, then the smallest number; 4 only if no line is faulty"
 unfoldable pub byLines : List ℕ → Answer
-byLines s = cond (eqb (faultOf s .no) 0) (wholeFile (linesOf s)) (refusal (faultOf s .no) (faultOf s .line) 0)
+byLines s = cond (eqb (faultOf s .no) 0) (wholeFile (linesOf s)) (fileRefused (faultOf s .no) (faultOf s .line) 0)
 
 -- "rig file up to 40,960 bytes"
 abbrev pub longest : ℕ
@@ -48,4 +48,4 @@ longest = 40960
 
 -- "2: .. file too long (line 0, tested first)"
 unfoldable pub readOf : List ℕ → Answer
-readOf s = cond (ltb longest (length s)) (refusal 2 0 0) (byLines s)
+readOf s = cond (ltb longest (length s)) (fileRefused 2 0 0) (byLines s)

@@ -4,7 +4,7 @@ ghost use Prim.Native.Nat.{ℕ, _≤_};
 ghost use lib.ListN.{getD};
 ghost use Rattle.rig_lines.specs.Kinds.{kindRIG};
 ghost use Rattle.rig_held.specs.Held.{held};
-ghost use Rattle.rig_build.specs.Read.{refusal, accepted, behind, wholeFile};
+ghost use Rattle.rig_build.specs.Read.{fileRefused, fileAccepted, behind, wholeFile};
 
 // What reading a file answers: the refusal number and its line; the whole-file rule that is broken, 0 for none; the rig and
 // its cycles.
@@ -38,7 +38,7 @@ pub fn bytes_of(v: [u64; 9]) -> [u8; 9]
 }
 
 pub fn refused(no: u8, line: usize, rule: u16) -> Answer
-    ensures { λ r. ⌜ r ≡ refusal «no» line rule ⌝ }
+    ensures { λ r. ⌜ r ≡ fileRefused «no» line rule ⌝ }
 {
     Answer {
         no,
@@ -50,7 +50,7 @@ pub fn refused(no: u8, line: usize, rule: u16) -> Answer
 }
 
 fn taken(g: rig::Rig, cycles: [rig::Cycle; 64]) -> Answer
-    ensures { λ r. ⌜ r ≡ accepted g cycles ⌝ }
+    ensures { λ r. ⌜ r ≡ fileAccepted g cycles ⌝ }
 {
     Answer {
         no: 0,

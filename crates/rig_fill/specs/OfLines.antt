@@ -43,8 +43,8 @@ abbrev pub lineTable : ℕ → List Line → List ℕ
 lineTable f = listed (isKind kindA) (numberOf f) 0 (zeros 1024)
 
 -- B, sender, its sub-address, receiver, its sub-address, words, period, phase: one behind the other
-unfoldable pub rowOf : Line → Row
-rowOf r =
+unfoldable pub rowSaid : Line → Row
+rowSaid r =
     record {
       sender = numberOf 0 r;
       senderSub = numberOf 1 r;
@@ -74,7 +74,7 @@ rigFrom rs =
       lineTask = lineTable 0 rs;
       linePos = lineTable 1 rs;
       lineFlag = lineTable 2 rs;
-      row = listed (isKind kindB) rowOf 0 (replicate 64 noRow) rs;
+      row = listed (isKind kindB) rowSaid 0 (replicate 64 noRow) rs;
     }
 
 -- M, cycle, flag: a cycle's flags one behind the other

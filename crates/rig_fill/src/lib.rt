@@ -5,7 +5,7 @@ ghost use lib.ListN.{length, getD};
 ghost use Rattle.rig_lines.specs.Kinds.{kindRIG, kindT, kindC, kindA, kindB};
 ghost use Rattle.rig_lines.specs.Whole.{numberOf, isKind, howMany};
 ghost use Rattle.rig_held.specs.Held.{held};
-ghost use Rattle.rig_fill.specs.OfLines.{stored, listed, one, conditionPlace, rowOf, rigFrom, tableFrom};
+ghost use Rattle.rig_fill.specs.OfLines.{stored, listed, one, conditionPlace, rowSaid, rigFrom, tableFrom};
 
 // T lines.
 fn fill_tasks(

@@ -122,13 +122,13 @@ within k f n = leb (lowOf k f) n && leb n (highOf k f)
 abbrev pub periods : List ℕ
 periods = 1 ∷ 2 ∷ 4 ∷ 8 ∷ 16 ∷ 32 ∷ 64 ∷ []
 
-unfoldable pub listed : ℕ → Bool
-listed p =
+unfoldable pub periodListed : ℕ → Bool
+periodListed p =
     cond (eqb p 1) true (cond (eqb p 2) true (cond (eqb p 4) true (cond (eqb p 8) true (cond (eqb p 16) true (cond (eqb p 32) true (eqb p 64))))))
 
 -- "phase below the period": of a B line's numbers
 unfoldable pub timed : ℕ → List ℕ → Bool
-timed k v = cond (eqb k kindB) (listed (getD v 5 0) && ltb (getD v 6 0) (getD v 5 0)) true
+timed k v = cond (eqb k kindB) (periodListed (getD v 5 0) && ltb (getD v 6 0) (getD v 5 0)) true
 
 -- a kind's name, and the kind of a name, 0 where there is none
 unfoldable pub nameOf : ℕ → List ℕ
@@ -139,13 +139,13 @@ nameOf k =
     (cond (eqb k 4) (65 ∷ [])
     (cond (eqb k 5) (77 ∷ []) (66 ∷ [])))))
 
-unfoldable pub letterOf : ℕ → ℕ
-letterOf a =
+unfoldable pub kindOfLetter : ℕ → ℕ
+kindOfLetter a =
     cond (eqb a 84) 2 (cond (eqb a 67) 3 (cond (eqb a 65) 4 (cond (eqb a 77) 5 (cond (eqb a 66) 6 0))))
 
 unfoldable pub kindOf : List ℕ → ℕ
 kindOf [] = 0
-kindOf (a ∷ []) = letterOf a
+kindOf (a ∷ []) = kindOfLetter a
 kindOf (a ∷ b ∷ []) = 0
 kindOf (a ∷ b ∷ c ∷ []) = cond (eqb a 82 && (eqb b 73 && eqb c 71)) 1 0
 kindOf (a ∷ b ∷ c ∷ d ∷ l) = 0
@@ -155,8 +155,8 @@ kindOf (a ∷ b ∷ c ∷ d ∷ l) = 0
 unfoldable pub keyed : ℕ → List ℕ → ℕ → ℕ
 keyed k v j = cond (ltb j (keysOf k)) (getD v j 0) 0
 
-unfoldable pub rank : ℕ → List ℕ → ℕ
-rank k v = ((k * 256 + keyed k v 0) * 256 + keyed k v 1) * 256 + keyed k v 2
+unfoldable pub placeInOrder : ℕ → List ℕ → ℕ
+placeInOrder k v = ((k * 256 + keyed k v 0) * 256 + keyed k v 1) * 256 + keyed k v 2
 
 -- "Records in this order, each kind rising strictly": the first line is RIG, and each other one comes after the line before it; B lines are free
 unfoldable pub follows : ℕ → ℕ → ℕ → Bool

@@ -6,7 +6,7 @@ use lib.Dec.{leb, ltb, eqb}
 use lib.ListN.{length}
 use Rattle.decimal.specs.Decimal.{cap, number}
 use Rattle.text.specs.Split.{split}
-use Rattle.rig_lines.specs.Kinds.{countOf, within, timed, kindOf, rank, follows}
+use Rattle.rig_lines.specs.Kinds.{countOf, within, timed, kindOf, placeInOrder, follows}
 
 -- a kind and its numbers
 pub record Line : Type 0 where
@@ -44,7 +44,7 @@ sized r = fits (r .kind) 0 (r .nums) && timed (r .kind) (r .nums)
 
 -- a line's place in the order
 unfoldable pub placed : Line → ℕ
-placed r = rank (r .kind) (r .nums)
+placed r = placeInOrder (r .kind) (r .nums)
 
 -- in order after a line of place p, 0 for none
 unfoldable pub ordered : ℕ → Line → Bool

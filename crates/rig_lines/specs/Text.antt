@@ -7,10 +7,10 @@ use Rattle.rig_lines.specs.Kinds.{nameOf}
 use Rattle.rig_lines.specs.Line.{Line}
 
 -- "fields are parted by one tab"
-unfoldable pub bytesOf : Line → List ℕ
-bytesOf r = nameOf (r .kind) ++ led 9 (map dec (r .nums))
+unfoldable pub lineBytes : Line → List ℕ
+lineBytes r = nameOf (r .kind) ++ led 9 (map dec (r .nums))
 
 -- "Lines end in LF"
 unfoldable pub text : List Line → List ℕ
 text [] = []
-text (r ∷ rs) = bytesOf r ++ (10 ∷ text rs)
+text (r ∷ rs) = lineBytes r ++ (10 ∷ text rs)

@@ -4,7 +4,7 @@ ghost use mathlib.Core.Bool.{_&&_};
 ghost use Prim.Native.Nat.{ℕ, _+_, _≤_, _<_};
 ghost use lib.ListN.{getD, take};
 ghost use Rattle.decimal.specs.Decimal.{cap};
-ghost use Rattle.rig_lines.specs.Kinds.{kindOf, countOf, keysOf, lowOf, highOf, sortOf, timed, listed, keyed, rank, follows, letterOf};
+ghost use Rattle.rig_lines.specs.Kinds.{kindOf, countOf, keysOf, lowOf, highOf, sortOf, timed, periodListed, keyed, placeInOrder, follows, kindOfLetter};
 ghost use Rattle.rig_lines.specs.Line.{fits};
 
 // The kinds, in the order of their records: RIG, T, C, A, M and B lines.
@@ -93,7 +93,7 @@ pub fn sorts(k: usize) -> [u8; 9]
 
 // The kind of a one-letter name, 0 for none.
 fn letter(a: u8) -> usize
-    ensures { λ r. ⌜ (r ≡ letterOf a) × (r < 7) ⌝ }
+    ensures { λ r. ⌜ (r ≡ kindOfLetter a) × (r < 7) ⌝ }
 {
     match a {
         b'T' => TASK,
@@ -126,7 +126,7 @@ pub fn kind_in(f: &[u8]) -> usize
 }
 
 fn is_period(p: u64) -> bool
-    ensures { λ r. ⌜ r ≡ listed p ⌝ }
+    ensures { λ r. ⌜ r ≡ periodListed p ⌝ }
 {
     match p {
         1 => true,
@@ -183,7 +183,7 @@ fn key(k: usize, v: [u64; 9], j: usize) -> u64
 // A line's place in the order.
 pub fn place_of(k: usize, v: [u64; 9]) -> u64
     requires { ⌜ (k < 7) × ((i : ℕ) → getD v i 0 ≤ cap) ⌝ }
-    ensures { λ r. ⌜ r ≡ rank k v ⌝ }
+    ensures { λ r. ⌜ r ≡ placeInOrder k v ⌝ }
 {
     let a = key(k, v, 0);
     let b = key(k, v, 1);

@@ -20,7 +20,7 @@ use Rattle.laws.specs.Laws.Tables.{zeros-at}
 use Rattle.decimal.specs.Decimal.{cap, number}
 use Rattle.text.specs.Split.{split, part, rest}
 use Rattle.text.specs.Laws.Parts.{Found, rest-none, part-none, part-all}
-use Rattle.rig_lines.specs.Kinds.{kindRIG, countOf, counts, timed, kindOf, rank, follows}
+use Rattle.rig_lines.specs.Kinds.{kindRIG, countOf, counts, timed, kindOf, placeInOrder, follows}
 use Rattle.rig_lines.specs.Line.{Line, decimals, shaped, fits, sized, placed, ordered, judge}
 use Rattle.rig_lines.specs.File.{Fault, fault, firstFault, faultOf, linesIn, linesOf}
 use Rattle.rig_lines.specs.Laws.Judged.{Faultless, judged-one, judged-two, judged-three, sound-judged, shaped-if, fits-small}
@@ -303,10 +303,10 @@ module _ (s h : List ℕ) (n count prev at e q k m : ℕ) (v : List ℕ) (w : Sh
     pub bytes : (i : ℕ) → getD v i 0 ≤ 255
     bytes i = rw (w .same i) (fits-small k 0 (nums s q e) (rw (w .numbers) at (and-true (fits k 0 (take m v)) (timed k v) (sym size) .0)) i)
 
-    module _ (r : ℕ) (i : r ≡ rank k v) where
+    module _ (r : ℕ) (i : r ≡ placeInOrder k v) where
       here : r ≡ placed (said s at q e)
       unfolding placed
-      here = i ∙ (rank-same k v (nums s q e) (w .same) ∙ ap (λ (a : ℕ). rank a (nums s q e)) (w .of .kind))
+      here = i ∙ (rank-same k v (nums s q e) (w .same) ∙ ap (λ (a : ℕ). placeInOrder a (nums s q e)) (w .of .kind))
 
       order : (t : Bool) → t ≡ follows prev k r → ordered prev (said s at q e) ≡ t
       unfolding ordered

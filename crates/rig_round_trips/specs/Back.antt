@@ -14,7 +14,7 @@ use Rattle.rig.specs.declared.Rig.{Rig}
 use Rattle.rig_lines.specs.Line.{Line}
 use Rattle.rig_round_trips.specs.Built.{Marks, Built}
 use Rattle.rig_write.specs.Kept.{kept}
-use Rattle.rig_write.specs.File.{rigLine, taskLine, isCondition, conditionLine, isLine, flagLine, flagAt, isFlag, cycleLine, isRow, rowLine}
+use Rattle.rig_write.specs.File.{rigLine, taskLine, isCondition, conditionLine, isLine, flagLine, tableFlagAt, isFlag, cycleLine, isRow, rowLine}
 use Rattle.rig_round_trips.specs.Kept.{kept-none}
 
 -- a task that has a T line so far
@@ -119,9 +119,9 @@ module _ (p : ℕ) (b : Built) (u : Upto p b) where
   pub no-flags : p < 83886080 → kept 960 (isFlag (b .table)) (cycleLine (b .table)) ≡ []
   no-flags h =
       kept-none 960 (isFlag (b .table)) (cycleLine (b .table))
-      (λ i l. by (eqb (flagAt (b .table) i) 0)
+      (λ i l. by (eqb (tableFlagAt (b .table) i) 0)
       (λ e. rw e)
-      (λ e. absurd (omega (arith, u .flags (i / 15) (i % 15) (omega arith) (omega arith) (eqb-false (flagAt (b .table) i) 0 e)))))
+      (λ e. absurd (omega (arith, u .flags (i / 15) (i % 15) (omega arith) (omega arith) (eqb-false (tableFlagAt (b .table) i) 0 e)))))
 
   pub no-rows : p < 100663296 → kept 64 (isRow (b .rig)) (rowLine (b .rig)) ≡ []
   no-rows h = kept-none 64 (isRow (b .rig)) (rowLine (b .rig)) (λ i _. le-ltb i (b .rig .rows) (omega (arith, u .rows h)))

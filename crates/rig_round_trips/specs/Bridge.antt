@@ -23,7 +23,7 @@ use Rattle.rig_lines.specs.Whole.{numberOf, isKind, isFlagLine, howMany, tasksO
 use Rattle.rig_lines.specs.Laws.Judged.{Faultless, judged-sound, shaped-known}
 use Rattle.rig_lines.specs.Laws.Order.{first-rig}
 use Rattle.rig_lines.specs.Laws.Whole.{many-snoc, line-rules}
-use Rattle.rig_fill.specs.OfLines.{zeros, stored, listed, taskTable, conditionTable, lineTable, one, rowOf, rigFrom, flagsFrom, places, tableFrom}
+use Rattle.rig_fill.specs.OfLines.{zeros, stored, listed, taskTable, conditionTable, lineTable, one, rowSaid, rigFrom, flagsFrom, places, tableFrom}
 use Rattle.rig_fill.specs.Laws.Snoc.{stored-snoc, listed-snoc, places-length, places-at}
 use Rattle.rig_round_trips.specs.Built as model
 use Rattle.rig_round_trips.specs.Built.{Marks, Built, built, numbers, noMarks, noTable, nothing, aboveAfter, withAbove, withCounts, withTask, withCondition, withLine, withRow, hasLine, oneFlag, putFlag, byKind, store, build}
@@ -64,7 +64,7 @@ module _ (q : Line) (rs : List Line) (r : Line) where
         lineTask = cond (isKind 4 r) (set (lineTable 0 (q ∷ rs)) (0 + howMany (isKind 4) (q ∷ rs)) (numberOf 0 r)) (lineTable 0 (q ∷ rs));
         linePos = cond (isKind 4 r) (set (lineTable 1 (q ∷ rs)) (0 + howMany (isKind 4) (q ∷ rs)) (numberOf 1 r)) (lineTable 1 (q ∷ rs));
         lineFlag = cond (isKind 4 r) (set (lineTable 2 (q ∷ rs)) (0 + howMany (isKind 4) (q ∷ rs)) (numberOf 2 r)) (lineTable 2 (q ∷ rs));
-        row = cond (isKind 6 r) (set (listed (isKind 6) rowOf 0 (replicate 64 noRow) (q ∷ rs)) (0 + howMany (isKind 6) (q ∷ rs)) (rowOf r)) (listed (isKind 6) rowOf 0 (replicate 64 noRow) (q ∷ rs));
+        row = cond (isKind 6 r) (set (listed (isKind 6) rowSaid 0 (replicate 64 noRow) (q ∷ rs)) (0 + howMany (isKind 6) (q ∷ rs)) (rowSaid r)) (listed (isKind 6) rowSaid 0 (replicate 64 noRow) (q ∷ rs));
       }
 
   rig-snoc : rigFrom ((q ∷ rs) ++ (r ∷ [])) ≡ after
@@ -86,7 +86,7 @@ module _ (q : Line) (rs : List Line) (r : Line) where
         listed-snoc (isKind 4) (numberOf 0) 0 (zeros 1024) (q ∷ rs) r,
         listed-snoc (isKind 4) (numberOf 1) 0 (zeros 1024) (q ∷ rs) r,
         listed-snoc (isKind 4) (numberOf 2) 0 (zeros 1024) (q ∷ rs) r,
-        listed-snoc (isKind 6) rowOf 0 (replicate 64 noRow) (q ∷ rs) r,
+        listed-snoc (isKind 6) rowSaid 0 (replicate 64 noRow) (q ∷ rs) r,
       )
 
   rig-task : r .kind ≡ 2 → withTask (rigFrom (q ∷ rs)) (getD (r .nums) 0 0) (numbers (r .nums)) ≡ rigFrom ((q ∷ rs) ++ (r ∷ []))
@@ -106,7 +106,7 @@ module _ (q : Line) (rs : List Line) (r : Line) where
   rig-flag d = sym (rig-snoc ∙ rw d)
 
   rig-row : r .kind ≡ 6 → withRow (rigFrom (q ∷ rs)) (howMany (isKind 6) (q ∷ rs)) (model.rowOf (numbers (r .nums))) ≡ rigFrom ((q ∷ rs) ++ (r ∷ []))
-  unfolding rigFrom after rowOf model.rowOf
+  unfolding rigFrom after rowSaid model.rowOf
   rig-row d = let z : 0 + howMany (isKind 6) (q ∷ rs) ≡ howMany (isKind 6) (q ∷ rs) = omega arith in sym (rig-snoc ∙ rw (d, z))
 
 -- ---- the cycles of one line more

@@ -18,7 +18,7 @@ use Rattle.rig_lines.specs.File.{Fault, fault, faultOf}
 use Rattle.rig_lines.specs.Words.{NoneFaulty}
 use Rattle.rig_lines.specs.Laws.FirstFaulty.{none-faulty}
 use Rattle.rig_build.specs.declared.Answer.{Answer}
-use Rattle.rig_build.specs.Read.{accepted, readOf}
+use Rattle.rig_build.specs.Read.{fileAccepted, readOf}
 use Rattle.rig_build.specs.Laws.Exactly.{Way, long, line, whole, right, way, whole-broken, all-right, accepted-right, number-four}
 use Rattle.rig_write.specs.File.{fileOf}
 use Rattle.rig_round_trips.specs.Read.{read-written}
@@ -28,10 +28,10 @@ use Rattle.rig_round_trips.specs.Same.{same-bytes}
 abbrev pub FileOfRight : List ℕ → Rig → List Cycle → Type 0
 FileOfRight s g cycles = Right g cycles × (s ≡ fileOf g (tableOf cycles))
 
-pub accepted-exactly : (s : List ℕ) (g : Rig) (cycles : List Cycle) → (readOf s ≡ accepted g cycles) ↔ FileOfRight s g cycles
+pub accepted-exactly : (s : List ℕ) (g : Rig) (cycles : List Cycle) → (readOf s ≡ fileAccepted g cycles) ↔ FileOfRight s g cycles
 accepted-exactly s g cycles = (there, λ w. ap readOf (w .1) ∙ read-written g cycles (w .0))
   where
-    there : readOf s ≡ accepted g cycles → FileOfRight s g cycles
+    there : readOf s ≡ fileAccepted g cycles → FileOfRight s g cycles
     there e =
         let n : readOf s .no ≡ 0 = ap (λ (a : Answer). a .no) e in (
           subst (λ (a : Answer). Right (a .rig) (a .cycles)) e (accepted-right s n),

@@ -18,7 +18,7 @@ use Rattle.rig.specs.declared.Rig.{Rig}
 use Rattle.rig.specs.Rules.{noRow, noCycle, Right}
 use Rattle.rig_tables.specs.Tests.{place}
 use Rattle.rig_whole.specs.Laws.Tree.{controllers-low}
-use Rattle.rig.specs.Forms.{flagsOf, tableOf}
+use Rattle.rig.specs.Forms.{cycleFlags, tableOf}
 use Rattle.rig_lines.specs.Kinds.{counts, countOf, sorts, sortOf, under}
 use Rattle.rig_lines.specs.Line.{Line}
 use Rattle.rig_fill.specs.OfLines.{zeros}
@@ -26,7 +26,7 @@ use Rattle.rig_round_trips.specs.Built.{Built, built, numbers, noMarks, 
 use Rattle.laws.specs.Laws.Tables.{zeros-at}
 use Rattle.rig_round_trips.specs.Marked.{begun}
 use Rattle.rig_write.specs.Kept.{kept}
-use Rattle.rig_write.specs.File.{rigLine, isTask, taskLine, isCondition, conditionLine, isLine, flagLine, flagAt, isFlag, cycleLine, isRow, rowLine}
+use Rattle.rig_write.specs.File.{rigLine, isTask, taskLine, isCondition, conditionLine, isLine, flagLine, tableFlagAt, isFlag, cycleLine, isRow, rowLine}
 use Rattle.rig_write.specs.Laws.Sized.{mapped-at}
 use Rattle.rig_round_trips.specs.Back.{cell}
 use Rattle.rig_round_trips.specs.Steps.{cell-here, cell-else, cell-long}
@@ -105,7 +105,7 @@ module _ (g : Rig) (cycles : List Cycle) (r : Right g cycles) where
   -- flags so far, and how many each cycle has
   unfoldable pub tabled : ℕ → List (List ℕ)
   tabled zero = noTable
-  tabled (suc i) = cond (isFlag (tableOf cycles) i) (putFlag (tabled i) (i / 15) (i % 15) (flagAt (tableOf cycles) i)) (tabled i)
+  tabled (suc i) = cond (isFlag (tableOf cycles) i) (putFlag (tabled i) (i / 15) (i % 15) (tableFlagAt (tableOf cycles) i)) (tabled i)
 
   unfoldable pub inside : ℕ → List ℕ
   inside zero = zeros 64
@@ -242,7 +242,7 @@ module _ (g : Rig) (cycles : List Cycle) (r : Right g cycles) where
       let n : suc i % 15 ≡ i % 15 + 1 = omega arith in
       let f : cell (tableOf cycles) (i / 15) (i % 15 + 1) ≢ 0 = λ y. false≢true (sym (ap (λ (x : ℕ). not (eqb x 0)) (ap₂ (λ (a b : ℕ). cell (tableOf cycles) a b) c n ∙ y)) ∙ e) in
       let b = flag-before g cycles r (i / 15) (i % 15) (omega arith) (omega arith) f in
-      let t : isFlag (tableOf cycles) i ≡ true = rw (ne-eqb (flagAt (tableOf cycles) i) 0 (b .0)) in
+      let t : isFlag (tableOf cycles) i ≡ true = rw (ne-eqb (tableFlagAt (tableOf cycles) i) 0 (b .0)) in
       let l = inside-long i in
       rw (t, c, n) (getD-set-same (inside i) (i / 15) (i % 15 + 1) 0 (omega arith)))
 
@@ -251,7 +251,7 @@ module _ (g : Rig) (cycles : List Cycle) (r : Right g cycles) where
       let a = flag-is g cycles r (i / 15) (i % 15) (omega arith) in
       let b = r .cycle-numbers (i / 15) (omega arith) (i % 15) (omega arith) in
       clean 5 (countOf 5) (g .tasks) (g .flags) (numbers (cycleLine (tableOf cycles) i .nums))
-      (unfold all countOf counts under sortOf sorts in rw (le-leb (flagAt (tableOf cycles) i) (g .flags) (omega arith)))
+      (unfold all countOf counts under sortOf sorts in rw (le-leb (tableFlagAt (tableOf cycles) i) (g .flags) (omega arith)))
 
   cycles-stage : build (stage 65 1040 1024 0 0) (kept 960 (isFlag (tableOf cycles)) (cycleLine (tableOf cycles))) ≡ stage 65 1040 1024 960 0
   unfolding stage store byKind marked tabled inside rowOf
@@ -290,7 +290,7 @@ module _ (g : Rig) (cycles : List Cycle) (r : Right g cycles) where
       let a = w .0 in
       let b = w .1 (i / 15) (omega arith) in
       by (isFlag (tableOf cycles) i)
-      (λ e. rw e (simp length-set (w .0), λ c k. cell-long (tabled i) (i / 15) (i % 15) (flagAt (tableOf cycles) i) (omega arith) (omega arith) c ∙ w .1 c k))
+      (λ e. rw e (simp length-set (w .0), λ c k. cell-long (tabled i) (i / 15) (i % 15) (tableFlagAt (tableOf cycles) i) (omega arith) (omega arith) c ∙ w .1 c k))
       (λ e. rw e w)
 
   tabled-none : (c n : ℕ) → c < 64 → cell (tabled 0) c n ≡ 0
@@ -310,16 +310,16 @@ module _ (g : Rig) (cycles : List Cycle) (r : Right g cycles) where
       let d : i / 15 ≡ c = omega arith in
       let m : i % 15 ≡ n = omega arith in
       let t : ltb (15 * c + n) (suc i) ≡ true = lt-ltb (15 * c + n) (suc i) (omega arith) in
-      let f : flagAt (tableOf cycles) i ≡ cell (tableOf cycles) c n = ap₂ (λ (u v : ℕ). cell (tableOf cycles) u v) d m in
+      let f : tableFlagAt (tableOf cycles) i ≡ cell (tableOf cycles) c n = ap₂ (λ (u v : ℕ). cell (tableOf cycles) u v) d m in
       by (isFlag (tableOf cycles) i)
-      (λ e. rw (e, t) (ap₂ (λ (u v : ℕ). cell (putFlag (tabled i) (i / 15) (i % 15) (flagAt (tableOf cycles) i)) u v) (sym d) (sym m) ∙ (cell-here (tabled i) (i / 15) (i % 15) (flagAt (tableOf cycles) i) (omega arith) (omega arith) ∙ f)))
-      (λ e. let y : flagAt (tableOf cycles) i ≡ 0 = none (flagAt (tableOf cycles) i) e in
+      (λ e. rw (e, t) (ap₂ (λ (u v : ℕ). cell (putFlag (tabled i) (i / 15) (i % 15) (tableFlagAt (tableOf cycles) i)) u v) (sym d) (sym m) ∙ (cell-here (tabled i) (i / 15) (i % 15) (tableFlagAt (tableOf cycles) i) (omega arith) (omega arith) ∙ f)))
+      (λ e. let y : tableFlagAt (tableOf cycles) i ≡ 0 = none (tableFlagAt (tableOf cycles) i) e in
       let v : ltb (15 * c + n) i ≡ false = le-ltb (15 * c + n) i (omega arith) in
       rw (e, t) (x ∙ (rw v (sym y ∙ f)))))
       (λ q. let z = eqb-false (15 * c + n) i q in
       let t : ltb (15 * c + n) i ≡ ltb (15 * c + n) (suc i) = same-test (15 * c + n) i z in
       by (isFlag (tableOf cycles) i)
-      (λ e. rw (e, ← t) (cell-else (tabled i) (i / 15) (i % 15) (flagAt (tableOf cycles) i) (omega arith) (omega arith) c n (λ v. let v0 = v .0 in let v1 = v .1 in omega arith) ∙ x))
+      (λ e. rw (e, ← t) (cell-else (tabled i) (i / 15) (i % 15) (tableFlagAt (tableOf cycles) i) (omega arith) (omega arith) c n (λ v. let v0 = v .0 in let v1 = v .1 in omega arith) ∙ x))
       (λ e. rw (e, ← t) x))
     where
       none : (f : ℕ) → not (eqb f 0) ≡ false → f ≡ 0
@@ -332,7 +332,7 @@ module _ (g : Rig) (cycles : List Cycle) (r : Right g cycles) where
   unfolding tableOf
   table-whole =
       let s = r .shaped .sixty-four in
-      (length-map cycles flagsOf ∙ s, λ c h. ap length (mapped-at flagsOf cycles c [] noCycle (omega arith)) ∙ r .shaped .fifteen c h)
+      (length-map cycles cycleFlags ∙ s, λ c h. ap length (mapped-at cycleFlags cycles c [] noCycle (omega arith)) ∙ r .shaped .fifteen c h)
 
   tabled-all : tabled 960 ≡ tableOf cycles
   tabled-all =

@@ -16,7 +16,7 @@ use Rattle.laws.specs.All.{all}
 use Rattle.laws.specs.Laws.All.{all-all, all-not, all-same}
 use Rattle.laws.specs.Laws.Tables.{getD-set, zeros-at}
 use Rattle.rig.specs.Forms.{noRig}
-use Rattle.rig_lines.specs.Kinds.{countOf, counts, keysOf, keys, highOf, highs, sorts, sortOf, under, keyed, rank, follows}
+use Rattle.rig_lines.specs.Kinds.{countOf, counts, keysOf, keys, highOf, highs, sorts, sortOf, under, keyed, placeInOrder, follows}
 use Rattle.rig_lines.specs.Laws.Kinds.{within-is}
 use Rattle.rig_lines.specs.Line.{Line, placed, ordered, judge}
 use Rattle.rig_lines.specs.Laws.Judged.{Faultless, judged-sound, shaped-known, shaped-count, sized-fits, fits-at}
@@ -45,11 +45,11 @@ tasks-most p r e d = number-most p r e 1 1 d (omega arith)
 
 -- no line but the first is RIG
 pub place-low : (r : Line) → r .kind * 16777216 ≤ placed r
-unfolding placed rank
+unfolding placed placeInOrder
 place-low r = omega arith
 
 pub rig-place : (r : Line) → r .kind ≡ 1 → placed r ≡ 16777216
-unfolding placed rank keyed keysOf keys
+unfolding placed placeInOrder keyed keysOf keys
 rig-place r e = rw e
 
 follows-on : (p k x : ℕ) → 0 < p → k ≡ 1 → follows p k x ≡ true → p < x

@@ -14,12 +14,12 @@ use Rattle.laws.specs.Laws.All.{and-right}
 use Rattle.rig.specs.declared.Cycle.{Cycle}
 use Rattle.rig.specs.declared.Rig.{Rig}
 use Rattle.rig.specs.Rules.{noCycle, Right, Rises}
-use Rattle.rig.specs.Forms.{flagsOf, tableOf}
-use Rattle.rig_lines.specs.Kinds.{keys, keysOf, keyed, rank, follows}
+use Rattle.rig.specs.Forms.{cycleFlags, tableOf}
+use Rattle.rig_lines.specs.Kinds.{keys, keysOf, keyed, placeInOrder, follows}
 use Rattle.rig_lines.specs.Line.{Line, placed, ordered, judge}
 use Rattle.rig_lines.specs.Laws.Judged.{Faultless, sound-judged}
 use Rattle.rig_write.specs.Kept.{kept}
-use Rattle.rig_write.specs.File.{rigLine, isTask, taskLine, isCondition, conditionLine, isLine, flagLine, flagAt, isFlag, cycleLine, isRow, rowLine, linesFrom}
+use Rattle.rig_write.specs.File.{rigLine, isTask, taskLine, isCondition, conditionLine, isLine, flagLine, tableFlagAt, isFlag, cycleLine, isRow, rowLine, linesFrom}
 use Rattle.rig_write.specs.Laws.Sized.{Good, rig-good, task-good, condition-good, line-good, cycle-good, row-good, mapped-at}
 
 -- the place of the last line, p where there is none
@@ -100,27 +100,27 @@ rise-on K n h i (suc d) l =
 -- ---- the places of each kind's lines
 
 rig-placed : (g : Rig) → placed (rigLine g) ≡ 16777216
-unfolding placed rank keyed keysOf keys
+unfolding placed placeInOrder keyed keysOf keys
 rig-placed g = refl
 
 task-placed : (g : Rig) (t : ℕ) → placed (taskLine g t) ≡ 33554432 + t * 65536
-unfolding placed rank keyed keysOf keys
+unfolding placed placeInOrder keyed keysOf keys
 task-placed g t = omega arith
 
 condition-placed : (g : Rig) (i : ℕ) → placed (conditionLine g i) ≡ 50331648 + (i / 16) * 65536 + (i % 16) * 256
-unfolding placed rank keyed keysOf keys
+unfolding placed placeInOrder keyed keysOf keys
 condition-placed g i = omega arith
 
 line-placed : (g : Rig) (i : ℕ) → placed (flagLine g i) ≡ 67108864 + getD (g .lineTask) i 0 * 65536 + getD (g .linePos) i 0 * 256 + getD (g .lineFlag) i 0
-unfolding placed rank keyed keysOf keys
+unfolding placed placeInOrder keyed keysOf keys
 line-placed g i = omega arith
 
-cycle-placed : (t : List (List ℕ)) (i : ℕ) → placed (cycleLine t i) ≡ 83886080 + (i / 15) * 65536 + flagAt t i * 256
-unfolding placed rank keyed keysOf keys
+cycle-placed : (t : List (List ℕ)) (i : ℕ) → placed (cycleLine t i) ≡ 83886080 + (i / 15) * 65536 + tableFlagAt t i * 256
+unfolding placed placeInOrder keyed keysOf keys
 cycle-placed t i = omega arith
 
 row-placed : (g : Rig) (i : ℕ) → placed (rowLine g i) ≡ 100663296
-unfolding placed rank keyed keysOf keys
+unfolding placed placeInOrder keyed keysOf keys
 row-placed g i = refl
 
 module _ (g : Rig) (cycles : List Cycle) (r : Right g cycles) where
@@ -182,7 +182,7 @@ module _ (g : Rig) (cycles : List Cycle) (r : Right g cycles) where
   -- the flags of a cycle, from the table
   pub flag-is : (c n : ℕ) → c < 64 → getD (getD (tableOf cycles) c []) n 0 ≡ getD (getD cycles c noCycle .flags) n 0
   unfolding tableOf
-  flag-is c n h = let s = r .shaped .sixty-four in ap (λ (l : List ℕ). getD l n 0) (mapped-at flagsOf cycles c [] noCycle (omega arith))
+  flag-is c n h = let s = r .shaped .sixty-four in ap (λ (l : List ℕ). getD l n 0) (mapped-at cycleFlags cycles c [] noCycle (omega arith))
 
   -- before a flag in a cycle stand lower ones
   pub flag-before : (c n : ℕ) → c < 64 → n < 14 → getD (getD (tableOf cycles) c []) (n + 1) 0 ≢ 0 →
@@ -204,10 +204,10 @@ module _ (g : Rig) (cycles : List Cycle) (r : Right g cycles) where
       let i = flag-rise c h d n (omega arith) (w .0) in
       rw z (omega (arith, w .1))
 
-  flag-some : (i : ℕ) → isFlag (tableOf cycles) i ≡ true → flagAt (tableOf cycles) i ≢ 0
+  flag-some : (i : ℕ) → isFlag (tableOf cycles) i ≡ true → tableFlagAt (tableOf cycles) i ≢ 0
   flag-some i e q = false≢true (sym (ap (λ (x : ℕ). not (eqb x 0)) q) ∙ e)
 
-  flag-most : (i : ℕ) → i < 960 → flagAt (tableOf cycles) i ≤ 128
+  flag-most : (i : ℕ) → i < 960 → tableFlagAt (tableOf cycles) i ≤ 128
   flag-most i h =
       let f = r .flag-count in
       let a = flag-is (i / 15) (i % 15) (omega arith) in
@@ -225,9 +225,9 @@ module _ (g : Rig) (cycles : List Cycle) (r : Right g cycles) where
             (λ q. let e = eqb-true (i / 15) (j / 15) q in
             let d : suc (i % 15 + (j % 15 - suc (i % 15))) ≡ j % 15 = omega arith in
             let n = flag-some j b in
-            let v : getD (getD (tableOf cycles) (j / 15) []) (i % 15) 0 < flagAt (tableOf cycles) j =
+            let v : getD (getD (tableOf cycles) (j / 15) []) (i % 15) 0 < tableFlagAt (tableOf cycles) j =
             rw d at (flag-rise (j / 15) (omega arith) (j % 15 - suc (i % 15)) (i % 15) (omega arith) (rw d n)) in
-            let w : flagAt (tableOf cycles) i < flagAt (tableOf cycles) j = rw e v in
+            let w : tableFlagAt (tableOf cycles) i < tableFlagAt (tableOf cycles) j = rw e v in
             omega (arith, cycle-placed (tableOf cycles) i, cycle-placed (tableOf cycles) j))
             (λ q. let e = eqb-false (i / 15) (j / 15) q in
             omega (arith, cycle-placed (tableOf cycles) i, cycle-placed (tableOf cycles) j, flag-most i (omega arith)));

@@ -22,7 +22,7 @@ use Rattle.rig.specs.declared.Rig.{Rig}
 use Rattle.rig.specs.Rules.{noRow}
 use Rattle.rig_tables.specs.Tests.{place}
 use Rattle.rig.specs.Forms.{cyclesOf, tableOf}
-use Rattle.rig_lines.specs.Kinds.{counts, countOf, keys, keysOf, lows, lowOf, highs, highOf, keyed, rank}
+use Rattle.rig_lines.specs.Kinds.{counts, countOf, keys, keysOf, lows, lowOf, highs, highOf, keyed, placeInOrder}
 use Rattle.rig_lines.specs.Line.{Line, placed, judge}
 use Rattle.rig_lines.specs.Laws.Judged.{Faultless, judged-sound, shaped-known}
 use Rattle.rig_lines.specs.Text.{text}
@@ -55,7 +55,7 @@ above-kept old k n v tasks flags e =
 
 module _ (p : ℕ) (b : Built) (ns : List ℕ) (u : Upto p b) where
   Result : ℕ → Built → Type 0
-  Result k x = x .marks .lines ≡ 0 → x .marks .rows ≡ 0 → x .marks .crowded ≡ 0 → (linesBuilt x ≡ linesBuilt b ++ (line k ns ∷ [])) × Upto (rank k ns) x
+  Result k x = x .marks .lines ≡ 0 → x .marks .rows ≡ 0 → x .marks .crowded ≡ 0 → (linesBuilt x ≡ linesBuilt b ++ (line k ns ∷ [])) × Upto (placeInOrder k ns) x
 
   mark : ℕ → ℕ
   mark k = aboveAfter (b .marks .above) k (countOf k) (numbers ns) (b .rig .tasks) (b .rig .flags)
@@ -172,7 +172,7 @@ lines-back (r ∷ rs) p b u w c =
     let x = store b (r .kind) (numbers (r .nums)) in
     let d = clean-before rs (store b (r .kind) (numbers (r .nums))) c in
     let s = step p b (r .nums) u (r .kind) n k f (d .lines) (d .rows) (d .crowded) in
-    let i = lines-back rs (rank (r .kind) (r .nums)) (store b (r .kind) (numbers (r .nums))) (s .1) (w .2) c in
+    let i = lines-back rs (placeInOrder (r .kind) (r .nums)) (store b (r .kind) (numbers (r .nums))) (s .1) (w .2) c in
     (i .0 ∙ (ap (λ (l : List Line). l ++ rs) (s .0) ∙ append-assoc (linesBuilt b) (r ∷ []) rs), i .1, i .2)
 
 -- ---- the first line
@@ -283,7 +283,7 @@ module _ (r : Line) (rs : List Line) (f : Faultless 0 (r ∷ rs)) (none : firstF
   from = ap (λ (b : Built). build b rs) (after-rig (r .kind) (numbers (r .nums)) kind)
 
   first-place : placed r ≡ 16777216
-  unfolding placed rank keyed keysOf keys
+  unfolding placed placeInOrder keyed keysOf keys
   first-place = rw kind
 
   pub lines-kept : linesFrom (build nothing (r ∷ rs) .rig) (build nothing (r ∷ rs) .table) ≡ r ∷ rs

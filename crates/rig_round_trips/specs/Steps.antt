@@ -16,13 +16,13 @@ use Rattle.rig.specs.declared.Row.{Row}
 use Rattle.rig.specs.declared.Rig.{Rig}
 use Rattle.rig.specs.Rules.{noRow}
 use Rattle.rig_tables.specs.Tests.{place}
-use Rattle.rig_lines.specs.Kinds.{counts, countOf, keys, keysOf, lows, lowOf, highs, highOf, sorts, sortOf, under, keyed, rank, follows}
+use Rattle.rig_lines.specs.Kinds.{counts, countOf, keys, keysOf, lows, lowOf, highs, highOf, sorts, sortOf, under, keyed, placeInOrder, follows}
 use Rattle.rig_lines.specs.Laws.Kinds.{within-is}
 use Rattle.rig_lines.specs.Line.{Line, placed, ordered, judge}
 use Rattle.rig_lines.specs.Laws.Judged.{judged-sound, shaped-count, sized-fits, fits-at}
 use Rattle.rig_round_trips.specs.Built.{Marks, Built, built, numbers, underOne, aboveAfter, withAbove, withTask, withCondition, withLine, rowOf, withRow, hasLine, oneFlag, putFlag}
 use Rattle.rig_write.specs.Kept.{kept}
-use Rattle.rig_write.specs.File.{line, rigLine, taskLine, isCondition, conditionLine, isLine, flagLine, flagAt, isFlag, cycleLine, isRow, rowLine, busNumbers}
+use Rattle.rig_write.specs.File.{line, rigLine, taskLine, isCondition, conditionLine, isLine, flagLine, tableFlagAt, isFlag, cycleLine, isRow, rowLine, busNumbers}
 use Rattle.rig_round_trips.specs.Kept.{kept-more}
 use Rattle.rig_round_trips.specs.Back.{hasT, partT, partC, partA, partM, partB, linesBuilt, snoc-1, snoc-2, snoc-3, snoc-4, snoc-5, cell, Upto, no-conditions, no-lines, no-flags, no-rows}
 
@@ -56,7 +56,7 @@ pub record Fine (p k : ℕ) (ns : List ℕ) : Type 0 where
   pub count : length ns ≡ countOf k
   pub low : (i : ℕ) → i < countOf k → lowOf k i ≤ getD ns i 0
   pub high : (i : ℕ) → i < countOf k → getD ns i 0 ≤ highOf k i
-  pub order : follows p k (rank k ns) ≡ true
+  pub order : follows p k (placeInOrder k ns) ≡ true
 
 pub fine : (p : ℕ) (r : Line) → r .kind < 7 → judge p r ≡ 0 → Fine p (r .kind) (r .nums)
 unfolding ordered placed
@@ -80,8 +80,8 @@ later-row p k x h n e = leb-true p x (rw (ne-eqb p 0 (omega arith), n) at e)
 
 module _ (p : ℕ) (g : Rig) (t : List (List ℕ)) (m : Marks) (ns : List ℕ) (a : ℕ) (u : Upto p (built g t m)) (w : Fine p 2 ns)
     (mark : a ≡ aboveAfter (m .above) 2 (countOf 2) (numbers ns) (g .tasks) (g .flags)) where
-  task-place : rank 2 ns ≡ 33554432 + getD ns 0 0 * 65536
-  unfolding rank keyed keysOf keys
+  task-place : placeInOrder 2 ns ≡ 33554432 + getD ns 0 0 * 65536
+  unfolding placeInOrder keyed keysOf keys
   task-place = omega arith
 
   task-size : (1 ≤ getD ns 0 0) × (getD ns 0 0 ≤ 64)
@@ -91,8 +91,8 @@ module _ (p : ℕ) (g : Rig) (t : List (List ℕ)) (m : Marks) (ns : List ℕ) (
   abbrev tasked : Built
   tasked = built (withTask g (getD ns 0 0) (numbers ns)) t (hasLine (withAbove m a) (getD ns 0 0))
 
-  task-after : p < rank 2 ns
-  task-after = let b = u .begun in later p 2 (rank 2 ns) (omega arith) (omega arith) (w .order)
+  task-after : p < placeInOrder 2 ns
+  task-after = let b = u .begun in later p 2 (placeInOrder 2 ns) (omega arith) (omega arith) (w .order)
 
   -- a number above the RIG line's would be marked
   task-under : a ≡ 0 → (m .above ≡ 0) × (getD ns 0 0 ≤ g .tasks)
@@ -128,7 +128,7 @@ module _ (p : ℕ) (g : Rig) (t : List (List ℕ)) (m : Marks) (ns : List ℕ) (
       (ap (line 2) (five ns (w .count)))) in
       snoc-1 (line 2 ns) (rigLine g) (partT g m) (partC g) (partA g) (partM t) (partB g) (partT (tasked .rig) (tasked .marks)) (no-conditions p (built g t m) u (omega arith)) (no-lines p (built g t m) u (omega arith)) (no-flags p (built g t m) u (omega arith)) (no-rows p (built g t m) u (omega arith)) more
 
-  pub task-upto : Upto (rank 2 ns) tasked
+  pub task-upto : Upto (placeInOrder 2 ns) tasked
   task-upto =
       let s = task-size in
       let q = task-place in
@@ -170,8 +170,8 @@ module _ (p : ℕ) (g : Rig) (t : List (List ℕ)) (m : Marks) (ns : List ℕ) (
 -- ---- C
 
 module _ (p : ℕ) (g : Rig) (t : List (List ℕ)) (m : Marks) (ns : List ℕ) (a : ℕ) (u : Upto p (built g t m)) (w : Fine p 3 ns) (kept-mark : a ≡ 0 → m .above ≡ 0) where
-  condition-rank : rank 3 ns ≡ 50331648 + getD ns 0 0 * 65536 + getD ns 1 0 * 256
-  unfolding rank keyed keysOf keys
+  condition-rank : placeInOrder 3 ns ≡ 50331648 + getD ns 0 0 * 65536 + getD ns 1 0 * 256
+  unfolding placeInOrder keyed keysOf keys
   condition-rank = omega arith
 
   condition-size : (1 ≤ getD ns 0 0) × (getD ns 0 0 ≤ 64) × (getD ns 1 0 ≤ 15)
@@ -184,8 +184,8 @@ module _ (p : ℕ) (g : Rig) (t : List (List ℕ)) (m : Marks) (ns : List ℕ) (
   abbrev conditioned : Built
   conditioned = built (withCondition g at (numbers ns)) t (withAbove m a)
 
-  condition-after : p < rank 3 ns
-  condition-after = let b = u .begun in later p 3 (rank 3 ns) (omega arith) (omega arith) (w .order)
+  condition-after : p < placeInOrder 3 ns
+  condition-after = let b = u .begun in later p 3 (placeInOrder 3 ns) (omega arith) (omega arith) (w .order)
 
   condition-marks : (i : ℕ) → i ≢ at → isCondition g i ≡ isCondition (conditioned .rig) i
   condition-marks i n = ap (λ (x : ℕ). eqb x 1) (sym (getD-set-other (g .present) at i 1 0 n))
@@ -215,7 +215,7 @@ module _ (p : ℕ) (g : Rig) (t : List (List ℕ)) (m : Marks) (ns : List ℕ) (
       (rw (d, e, getD-set-same (g .latched) at (getD ns 2 0) 0 (omega arith), getD-set-same (g .desired) at (getD ns 3 0) 0 (omega arith)) (ap (line 3) (four ns (w .count)))) in
       snoc-2 (line 3 ns) (rigLine g) (partT g m) (partC g) (partA g) (partM t) (partB g) (partC (conditioned .rig)) (no-lines p (built g t m) u (omega arith)) (no-flags p (built g t m) u (omega arith)) (no-rows p (built g t m) u (omega arith)) more
 
-  pub condition-upto : Upto (rank 3 ns) conditioned
+  pub condition-upto : Upto (placeInOrder 3 ns) conditioned
   condition-upto =
       let s = condition-size in
       let q = condition-rank in
@@ -258,15 +258,15 @@ module _ (p : ℕ) (g : Rig) (t : List (List ℕ)) (m : Marks) (ns : List ℕ) (
   unfolding highOf highs countOf counts
   line-size = (w .high 0 (omega arith), w .high 1 (omega arith), w .high 2 (omega arith))
 
-  line-rank : (67108864 ≤ rank 4 ns) × (rank 4 ns < 83886080)
-  unfolding rank keyed keysOf keys
+  line-rank : (67108864 ≤ placeInOrder 4 ns) × (placeInOrder 4 ns < 83886080)
+  unfolding placeInOrder keyed keysOf keys
   line-rank = let s = line-size in (omega arith, omega arith)
 
   abbrev lined : Built
   lined = built (withLine g (g .lines) (numbers ns)) t (withAbove m a)
 
-  line-after : p < rank 4 ns
-  line-after = let b = u .begun in later p 4 (rank 4 ns) (omega arith) (omega arith) (w .order)
+  line-after : p < placeInOrder 4 ns
+  line-after = let b = u .begun in later p 4 (placeInOrder 4 ns) (omega arith) (omega arith) (w .order)
 
   pub line-lines : linesBuilt lined ≡ linesBuilt (built g t m) ++ (line 4 ns ∷ [])
   unfolding linesBuilt countOf counts
@@ -286,7 +286,7 @@ module _ (p : ℕ) (g : Rig) (t : List (List ℕ)) (m : Marks) (ns : List ℕ) (
       (rw (getD-set-same (g .lineTask) (g .lines) (getD ns 0 0) 0 (omega arith), getD-set-same (g .linePos) (g .lines) (getD ns 1 0) 0 (omega arith), getD-set-same (g .lineFlag) (g .lines) (getD ns 2 0) 0 (omega arith)) (ap (line 4) (three ns (w .count)))) in
       snoc-3 (line 4 ns) (rigLine g) (partT g m) (partC g) (partA g) (partM t) (partB g) (partA (lined .rig)) (no-flags p (built g t m) u (omega arith)) (no-rows p (built g t m) u (omega arith)) more
 
-  pub line-upto : Upto (rank 4 ns) lined
+  pub line-upto : Upto (placeInOrder 4 ns) lined
   line-upto =
       let q = line-rank in
       let l = line-after in
@@ -322,15 +322,15 @@ module _ (p : ℕ) (g : Rig) (t : List (List ℕ)) (m : Marks) (ns : List ℕ) (
 -- ---- B
 
 module _ (p : ℕ) (g : Rig) (t : List (List ℕ)) (m : Marks) (ns : List ℕ) (a : ℕ) (u : Upto p (built g t m)) (w : Fine p 6 ns) (kept-mark : a ≡ 0 → m .above ≡ 0) (room : g .rows < 64) where
-  row-rank : rank 6 ns ≡ 100663296
-  unfolding rank keyed keysOf keys
+  row-rank : placeInOrder 6 ns ≡ 100663296
+  unfolding placeInOrder keyed keysOf keys
   row-rank = refl
 
   abbrev rowed : Built
   rowed = built (withRow g (g .rows) (rowOf (numbers ns))) t (withAbove m a)
 
-  row-after : p ≤ rank 6 ns
-  row-after = let b = u .begun in later-row p 6 (rank 6 ns) (omega arith) refl (w .order)
+  row-after : p ≤ placeInOrder 6 ns
+  row-after = let b = u .begun in later-row p 6 (placeInOrder 6 ns) (omega arith) refl (w .order)
 
   pub row-lines : linesBuilt rowed ≡ linesBuilt (built g t m) ++ (line 6 ns ∷ [])
   unfolding linesBuilt countOf counts rowOf
@@ -348,7 +348,7 @@ module _ (p : ℕ) (g : Rig) (t : List (List ℕ)) (m : Marks) (ns : List ℕ) (
       (ap (λ (b : Row). line 6 (busNumbers b)) (getD-set-same (g .row) (g .rows) (rowOf (numbers ns)) noRow (omega arith)) ∙ ap (line 6) (seven ns (w .count))) in
       snoc-5 (line 6 ns) (rigLine g) (partT g m) (partC g) (partA g) (partM t) (partB g) (partB (rowed .rig)) more
 
-  pub row-upto : Upto (rank 6 ns) rowed
+  pub row-upto : Upto (placeInOrder 6 ns) rowed
   row-upto =
       let q = row-rank in
       let l = row-after in
@@ -408,8 +408,8 @@ module _ (p : ℕ) (g : Rig) (t : List (List ℕ)) (m : Marks) (ns : List ℕ) (
   unfolding lowOf highOf lows highs countOf counts
   flag-size = (w .high 0 (omega arith), w .low 1 (omega arith), w .high 1 (omega arith))
 
-  flag-rank : rank 5 ns ≡ 83886080 + getD ns 0 0 * 65536 + getD ns 1 0 * 256
-  unfolding rank keyed keysOf keys
+  flag-rank : placeInOrder 5 ns ≡ 83886080 + getD ns 0 0 * 65536 + getD ns 1 0 * 256
+  unfolding placeInOrder keyed keysOf keys
   flag-rank = omega arith
 
   abbrev c : ℕ
@@ -424,8 +424,8 @@ module _ (p : ℕ) (g : Rig) (t : List (List ℕ)) (m : Marks) (ns : List ℕ) (
   abbrev flagged : Built
   flagged = built g (putFlag t c n (getD ns 1 0)) (oneFlag (withAbove m a) c n)
 
-  flag-after : p < rank 5 ns
-  flag-after = let b = u .begun in later p 5 (rank 5 ns) (omega arith) (omega arith) (w .order)
+  flag-after : p < placeInOrder 5 ns
+  flag-after = let b = u .begun in later p 5 (placeInOrder 5 ns) (omega arith) (omega arith) (w .order)
 
   in-table : c < length t
   in-table = let o = u .whole .table in let s = flag-size in omega arith
@@ -434,20 +434,20 @@ module _ (p : ℕ) (g : Rig) (t : List (List ℕ)) (m : Marks) (ns : List ℕ) (
   in-cycle = let s = flag-size in let o = u .whole .cells c (omega arith) in omega arith
 
   -- from that place on there was none
-  none-from : (i : ℕ) → j ≤ i → i < 960 → flagAt t i ≡ 0
+  none-from : (i : ℕ) → j ≤ i → i < 960 → tableFlagAt t i ≡ 0
   none-from i h k =
       let s = flag-size in let q = flag-rank in let l = flag-after in
       by (eqb (i / 15) c)
       (λ e. u .inside (i / 15) (i % 15) (omega arith) (omega arith) (let z = eqb-true (i / 15) c e in rw z (omega arith)))
       (λ e. let z = eqb-false (i / 15) c e in
-      by (eqb (flagAt t i) 0)
-      (λ y. eqb-true (flagAt t i) 0 y)
-      (λ y. absurd (let x = u .flags (i / 15) (i % 15) (omega arith) (omega arith) (eqb-false (flagAt t i) 0 y) in omega arith)))
+      by (eqb (tableFlagAt t i) 0)
+      (λ y. eqb-true (tableFlagAt t i) 0 y)
+      (λ y. absurd (let x = u .flags (i / 15) (i % 15) (omega arith) (omega arith) (eqb-false (tableFlagAt t i) 0 y) in omega arith)))
 
-  elsewhere : (i : ℕ) → i ≢ j → flagAt (flagged .table) i ≡ flagAt t i
+  elsewhere : (i : ℕ) → i ≢ j → tableFlagAt (flagged .table) i ≡ tableFlagAt t i
   elsewhere i h = cell-else t c n (getD ns 1 0) in-table in-cycle (i / 15) (i % 15) (λ z. h (let x = z .0 in let y = z .1 in omega arith))
 
-  here : flagAt (flagged .table) j ≡ getD ns 1 0
+  here : tableFlagAt (flagged .table) j ≡ getD ns 1 0
   here =
       let d : j / 15 ≡ c = omega arith in
       let e : j % 15 ≡ n = omega arith in
@@ -471,7 +471,7 @@ module _ (p : ℕ) (g : Rig) (t : List (List ℕ)) (m : Marks) (ns : List ℕ) (
       (ap₂ (λ (x y : ℕ). line 5 (x ∷ y ∷ [])) d here ∙ ap (line 5) (two ns (w .count))) in
       snoc-4 (line 5 ns) (rigLine g) (partT g m) (partC g) (partA g) (partM t) (partB g) (partM (flagged .table)) (no-rows p (built g t m) u (omega arith)) more
 
-  pub flag-upto : Upto (rank 5 ns) flagged
+  pub flag-upto : Upto (placeInOrder 5 ns) flagged
   flag-upto =
       let s = flag-size in
       let q = flag-rank in

@@ -6,63 +6,63 @@ use mathlib.Core.Bool.{cond}
 use mathlib.Core.List.{List}
 use lib.Dec.{eqb}
 use borrow.Author.Tests.{ne-eqb}
-use Rattle.put_text.specs.Text.{bytesOf}
+use Rattle.put_text.specs.Text.{ascii}
 use Rattle.rig_shapes.specs.Shape.{emptyFile, noLineEnd, byteOrderMark, carriageReturn, emptyLine, space, unknownKind, tooFewFields, tooManyFields, spareZero}
 
 -- ---- around the sentences
 
 abbrev pub refusedByText : List ℕ
-refusedByText = bytesOf "refused by "
+refusedByText = ascii "refused by "
 
 abbrev pub atLineText : List ℕ
-atLineText = bytesOf " at line "
+atLineText = ascii " at line "
 
 abbrev pub colonText : List ℕ
-colonText = bytesOf ": "
+colonText = ascii ": "
 
 abbrev pub culpritLineText : List ℕ
-culpritLineText = bytesOf ": line "
+culpritLineText = ascii ": line "
 
 abbrev pub culpritTaskText : List ℕ
-culpritTaskText = bytesOf ": task "
+culpritTaskText = ascii ": task "
 
 abbrev pub endText : List ℕ
-endText = bytesOf ".\n"
+endText = ascii ".\n"
 
 -- ---- refusal 1: why the line has the wrong shape
 
 abbrev pub emptyFileText : List ℕ
-emptyFileText = bytesOf "the file is empty"
+emptyFileText = ascii "the file is empty"
 
 abbrev pub noLineEndText : List ℕ
-noLineEndText = bytesOf "the last line has no line end (LF)"
+noLineEndText = ascii "the last line has no line end (LF)"
 
 abbrev pub byteOrderMarkText : List ℕ
-byteOrderMarkText = bytesOf "the file begins with a byte-order mark: save it without one"
+byteOrderMarkText = ascii "the file begins with a byte-order mark: save it without one"
 
 abbrev pub carriageReturnText : List ℕ
-carriageReturnText = bytesOf "the line has a carriage return (CR): lines end in LF alone"
+carriageReturnText = ascii "the line has a carriage return (CR): lines end in LF alone"
 
 abbrev pub emptyLineText : List ℕ
-emptyLineText = bytesOf "the line is empty"
+emptyLineText = ascii "the line is empty"
 
 abbrev pub spaceText : List ℕ
-spaceText = bytesOf "the line has a space: fields are parted by one tab"
+spaceText = ascii "the line has a space: fields are parted by one tab"
 
 abbrev pub unknownKindText : List ℕ
-unknownKindText = bytesOf "the line begins with no known kind: RIG, T, C, A, M or B"
+unknownKindText = ascii "the line begins with no known kind: RIG, T, C, A, M or B"
 
 abbrev pub tooFewFieldsText : List ℕ
-tooFewFieldsText = bytesOf "the line has too few fields for its kind"
+tooFewFieldsText = ascii "the line has too few fields for its kind"
 
 abbrev pub tooManyFieldsText : List ℕ
-tooManyFieldsText = bytesOf "the line has too many fields for its kind"
+tooManyFieldsText = ascii "the line has too many fields for its kind"
 
 abbrev pub spareZeroText : List ℕ
-spareZeroText = bytesOf "a number has a spare zero in front"
+spareZeroText = ascii "a number has a spare zero in front"
 
 abbrev pub noDecimalText : List ℕ
-noDecimalText = bytesOf "a field is no decimal number"
+noDecimalText = ascii "a field is no decimal number"
 
 -- by the reason (rig_shapes/Shape)
 unfoldable pub shapeSentence : ℕ → List ℕ
@@ -81,13 +81,13 @@ shapeSentence reason =
 -- ---- refusals 2 and 3
 
 abbrev pub tooLongText : List ℕ
-tooLongText = bytesOf "the file is longer than 40,960 bytes"
+tooLongText = ascii "the file is longer than 40,960 bytes"
 
 abbrev pub outsideSizeText : List ℕ
-outsideSizeText = bytesOf "a number is outside its size"
+outsideSizeText = ascii "a number is outside its size"
 
 abbrev pub outOfOrderText : List ℕ
-outOfOrderText = bytesOf "the record is out of order or repeated"
+outOfOrderText = ascii "the record is out of order or repeated"
 
 unfoldable pub lineSentence : ℕ → ℕ → List ℕ
 lineSentence number line = cond (eqb line 0) tooLongText (cond (eqb number 2) outsideSizeText outOfOrderText)
@@ -95,43 +95,43 @@ lineSentence number line = cond (eqb line 0) tooLongText (cond (eqb number 2) ou
 -- ---- refusal 4: the rules over the whole file
 
 abbrev pub aboveText : List ℕ
-aboveText = bytesOf "a task or flag number is above the RIG line's"
+aboveText = ascii "a task or flag number is above the RIG line's"
 
 abbrev pub manyAText : List ℕ
-manyAText = bytesOf "there are more than 1,024 A lines"
+manyAText = ascii "there are more than 1,024 A lines"
 
 abbrev pub manyBText : List ℕ
-manyBText = bytesOf "there are more than 64 B lines"
+manyBText = ascii "there are more than 64 B lines"
 
 abbrev pub noTLineText : List ℕ
-noTLineText = bytesOf "a task has no T line"
+noTLineText = ascii "a task has no T line"
 
 abbrev pub crowdedText : List ℕ
-crowdedText = bytesOf "a cycle has more than fifteen flags"
+crowdedText = ascii "a cycle has more than fifteen flags"
 
 abbrev pub controllerText : List ℕ
-controllerText = bytesOf "task 1 has a controller, or another task's controller is neither the previous task nor one of its ancestors"
+controllerText = ascii "task 1 has a controller, or another task's controller is neither the previous task nor one of its ancestors"
 
 abbrev pub sharedText : List ℕ
-sharedText = bytesOf "an activation flag serves more than one task"
+sharedText = ascii "an activation flag serves more than one task"
 
 abbrev pub minorActivationText : List ℕ
-minorActivationText = bytesOf "an activation flag is a minor-cycle flag"
+minorActivationText = ascii "an activation flag is a minor-cycle flag"
 
 abbrev pub noCLineText : List ℕ
-noCLineText = bytesOf "an A line names a condition that has no C line"
+noCLineText = ascii "an A line names a condition that has no C line"
 
 abbrev pub noALineText : List ℕ
-noALineText = bytesOf "a condition has no A line"
+noALineText = ascii "a condition has no A line"
 
 abbrev pub minorConditionText : List ℕ
-minorConditionText = bytesOf "a condition with a minor-cycle flag has another flag, is latched or desires off"
+minorConditionText = ascii "a condition with a minor-cycle flag has another flag, is latched or desires off"
 
 abbrev pub sameAddressText : List ℕ
-sameAddressText = bytesOf "a bus row has the same sender and receiver"
+sameAddressText = ascii "a bus row has the same sender and receiver"
 
 abbrev pub otherRuleText : List ℕ
-otherRuleText = bytesOf "an entry of the rig breaks a rule"
+otherRuleText = ascii "an entry of the rig breaks a rule"
 
 -- by the number that the reader gives the rule: those of the lines (rig_build/Read), then those of the rig (rig/Tests), 5 behind. No line of a
 -- file leads to any other

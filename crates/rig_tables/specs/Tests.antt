@@ -6,16 +6,9 @@ use mathlib.Core.List.{List}
 use Prim.Native.Nat.{ℕ, _+_, _-_, _*_, zero, suc}
 use lib.Dec.{eqb, leb, ltb}
 use Rattle.laws.specs.All.{all}
-use lib.ListN.{length, getD}
+use lib.ListN.{length}
 use Rattle.laws.specs.Any.{any}
-
--- what a table holds at a number; 0 past its end
-abbrev pub at : List ℕ → ℕ → ℕ
-at l i = getD l i 0
-
--- "up to 16 conditions a task at positions 0 to 15": where a condition stands
-abbrev pub place : ℕ → ℕ → ℕ
-place task position = 16 * task + position
+pub use Rattle.rig_tables.specs.Places.{at, place}
 
 -- from low to high
 abbrev pub within : ℕ → ℕ → ℕ → Bool

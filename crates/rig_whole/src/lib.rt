@@ -17,7 +17,7 @@ ghost use mathlib.Core.Path.{_≡_};
 ghost use mathlib.Core.Bool.{true};
 ghost use Rattle.rig_tables.specs.Lines.{LinesFit, Together};
 ghost use Rattle.rig_conditions.specs.Tables.{Ends};
-ghost use Rattle.rig.specs.Forms.{rigOf};
+ghost use Rattle.rig.specs.Forms.{rigWith};
 ghost use Rattle.rig_cycles.specs.Tests.{cyclesRiseB};
 ghost use Rattle.rig_whole.specs.Tests.{shapedTests, countTests, sizeTests, orderTests, numberTests, taskTests, lineTests, restTests, firstBroken, rightB};
 
@@ -256,11 +256,11 @@ pub fn broken_in<'a>(
     row: [Row; ROWS],
     cycles: [Cycle; CYCLES],
 ) -> u8
-    requires { ⌜ allOf (shapedTests (rigOf tasks flags master lines rows (now controller) (now priority) (now privileged) (now activation) (now present) (now latched) (now desired) (now lineTask) (now linePos) (now lineFlag) row)) ≡ true ⌝ }
+    requires { ⌜ allOf (shapedTests (rigWith tasks flags master lines rows (now controller) (now priority) (now privileged) (now activation) (now present) (now latched) (now desired) (now lineTask) (now linePos) (now lineFlag) row)) ≡ true ⌝ }
     ensures { λ r.
         ⌜
         r
-        ≡ firstBroken (rigOf tasks flags master lines rows (now (controller .entry)) (now (priority .entry)) (now (privileged .entry)) (now (activation .entry)) (now (present .entry)) (now (latched .entry)) (now (desired .entry)) (now (lineTask .entry)) (now (linePos .entry)) (now (lineFlag .entry)) row) cycles
+        ≡ firstBroken (rigWith tasks flags master lines rows (now (controller .entry)) (now (priority .entry)) (now (privileged .entry)) (now (activation .entry)) (now (present .entry)) (now (latched .entry)) (now (desired .entry)) (now (lineTask .entry)) (now (linePos .entry)) (now (lineFlag .entry)) row) cycles
         ⌝ }
 {
     let a = counts(tasks, flags, master, lines, rows);

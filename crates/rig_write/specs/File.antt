@@ -41,14 +41,14 @@ abbrev pub flagLine : Rig → ℕ → Line
 flagLine g i = line kindA (getD (g .lineTask) i 0 ∷ getD (g .linePos) i 0 ∷ getD (g .lineFlag) i 0 ∷ [])
 
 -- M, cycle, flag: the flag at place i is number i % 15 of cycle i / 15
-abbrev pub flagAt : List (List ℕ) → ℕ → ℕ
-flagAt table i = getD (getD table (i / 15) []) (i % 15) 0
+abbrev pub tableFlagAt : List (List ℕ) → ℕ → ℕ
+tableFlagAt table i = getD (getD table (i / 15) []) (i % 15) 0
 
 abbrev pub isFlag : List (List ℕ) → ℕ → Bool
-isFlag table i = not (eqb (flagAt table i) 0)
+isFlag table i = not (eqb (tableFlagAt table i) 0)
 
 abbrev pub cycleLine : List (List ℕ) → ℕ → Line
-cycleLine table i = line kindM (i / 15 ∷ flagAt table i ∷ [])
+cycleLine table i = line kindM (i / 15 ∷ tableFlagAt table i ∷ [])
 
 -- B, sender, its sub-address, receiver, its sub-address, words, period, phase
 abbrev pub isRow : Rig → ℕ → Bool

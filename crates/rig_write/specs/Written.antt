@@ -14,26 +14,26 @@ use Rattle.rig_write.specs.declared.Written.{Written}
 use Rattle.rig_write.specs.declared.Written.the-variants.{Done, Refused}
 
 -- number: 0 written, else the refusal's number; values: what is answered with it, the file's length, or nothing
-pub record Report : Type 0 where
+pub record WriteReport : Type 0 where
   pub number : ℕ
   pub values : List ℕ
 
-abbrev pub finished : ℕ → Report
-finished size = record { number = 0; values = size ∷ [] }
+abbrev pub fileWritten : ℕ → WriteReport
+fileWritten size = record { number = 0; values = size ∷ [] }
 
-abbrev pub refused : ℕ → Report
-refused number = record { number = number; values = [] }
+abbrev pub writeRefused : ℕ → WriteReport
+writeRefused number = record { number = number; values = [] }
 
 -- the paper's number and values for each case of what `write` answers
-abbrev pub writtenReport : Written → Report
-writtenReport (Done size) = finished size
-writtenReport (Refused number) = refused number
+abbrev pub writtenReport : Written → WriteReport
+writtenReport (Done size) = fileWritten size
+writtenReport (Refused number) = writeRefused number
 
 -- "4: .. an entry that takes a rig (start, writer) is given one that breaks any rule", then "10: a lent buffer has not the length that this
 -- paper states for it": "The writer's buffer holds at least the file"
-unfoldable pub writtenOf : Rig → List Cycle → ℕ → Report
+unfoldable pub writtenOf : Rig → List Cycle → ℕ → WriteReport
 writtenOf g cycles room =
-    cond (rightB g cycles) (cond (ltb room (length (fileOf g (tableOf cycles)))) (refused 10) (finished (length (fileOf g (tableOf cycles))))) (refused 4)
+    cond (rightB g cycles) (cond (ltb room (length (fileOf g (tableOf cycles)))) (writeRefused 10) (fileWritten (length (fileOf g (tableOf cycles))))) (writeRefused 4)
 
 -- a refused write writes nothing; else the file stands at the start, and "bytes past it stay"
 unfoldable pub bufferOf : Rig → List Cycle → List ℕ → List ℕ

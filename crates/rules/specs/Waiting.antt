@@ -6,7 +6,7 @@ use lib.Dec.{eqb}
 use lib.ListN.{getD, set}
 use Rattle.laws.specs.Functions.{upd}
 use Rattle.laws.specs.Members.{without, keep}
-use Rattle.laws.specs.Order.{place}
+use Rattle.laws.specs.Order.{insertBy}
 use Rattle.rules.specs.State.{State, withChains, withWakes, withRunning, timeChain, chainOf, waiting}
 use Rattle.rules.specs.Serving.{rouse}
 
@@ -22,7 +22,7 @@ waitOn s f v = waits s (chainOf f v) (s .chains (chainOf f v) ++ s .running ∷ 
 unfoldable pub waitUntilCount : State → ℕ → State
 waitUntilCount s t =
     let wakes = set (s .wakes) (s .running) t in
-    waits (withWakes s wakes) timeChain (place (λ (a : ℕ). getD wakes a 0) (s .running) (s .chains timeChain))
+    waits (withWakes s wakes) timeChain (insertBy (λ (a : ℕ). getD wakes a 0) (s .running) (s .chains timeChain))
 
 -- "taken out of any chain"
 unfoldable pub leave : ℕ → (ℕ → List ℕ) → ℕ → List ℕ

@@ -16,7 +16,7 @@ use Rattle.laws.specs.Laws.Functions.{upd-same, upd-other, on-upd}
 use Rattle.laws.specs.Laws.Tables.{in-range}
 use Rattle.laws.specs.Members.{In, keep}
 use Rattle.laws.specs.Laws.Members.{in-cases, in-without, in-keep}
-use Rattle.laws.specs.Order.{place}
+use Rattle.laws.specs.Order.{insertBy}
 use Rattle.laws.specs.Laws.Order.{in-place}
 use Rattle.laws.specs.Ordered.{Ordered}
 use Rattle.laws.specs.Laws.Ordered.{ordered-map, ordered-keep, ordered-without, ordered-end, ordered-same}
@@ -96,7 +96,7 @@ module _ (h : History) (X : ℕ → List ℕ) (t : ℕ) (x : Wait) (out : Somewh
 
 -- put in place by its count, behind all who began before
 place-order : (h : History) (W : ℕ → ℕ) (t : ℕ) (xs : List ℕ) → h t .count ≡ W t → ((a : ℕ) → In a xs → (h a .count ≡ W a) × (h a .call < h t .call))
-    → Ordered (Sooner h) xs → Ordered (Sooner h) (place W t xs)
+    → Ordered (Sooner h) xs → Ordered (Sooner h) (insertBy W t xs)
 place-order h W t [] e f o = ((λ a i. absurd i), tt)
 place-order h W t (y ∷ ys) e f o =
     by (leb (W y) (W t))
@@ -167,9 +167,9 @@ module _ (h : History) (n : ℕ) (w : List ℕ) (X : ℕ → List ℕ) (t : ℕ)
   -- for a count: at its place in the time chain
   told-time : (d : ℕ) → t < length w
       → Told (upd h t (record { call = n; chain = timeChain; count = d })) (suc n) (set w t d)
-      (upd X timeChain (place (λ (a : ℕ). getD (set w t d) a 0) t (X timeChain)))
+      (upd X timeChain (insertBy (λ (a : ℕ). getD (set w t d) a 0) t (X timeChain)))
   told-time d b =
-      joined timeChain x (place W t (X timeChain)) (set w t d) refl refl (λ e. sym (getD-set-same w t d 0 b)) (λ e. absurd (e refl))
+      joined timeChain x (insertBy W t (X timeChain)) (set w t d) refl refl (λ e. sym (getD-set-same w t d 0 b)) (λ e. absurd (e refl))
       (λ u e. getD-set-other w t u d 0 e) (λ u i. in-place W t u (X timeChain) i)
       (place-order (upd h t x) W t (X timeChain) (ap (λ (p : Wait). p .count) (upd-same h t x) ∙ sym (getD-set-same w t d 0 b)) (λ a i. (same a i, before a i))
       (order-other h X t x out timeChain (k .order timeChain)))

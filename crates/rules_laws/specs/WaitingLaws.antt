@@ -15,7 +15,7 @@ use Rattle.laws.specs.Functions.{upd}
 use Rattle.laws.specs.Laws.Functions.{upd-same, upd-other, on-upd}
 use Rattle.laws.specs.Members.{In, Distinct, keep}
 use Rattle.laws.specs.Laws.Members.{in-left, in-right, in-cases, dec-in, in-without, without-in, distinct-without, in-keep, keep-in, keep-test, distinct-keep, distinct-end}
-use Rattle.laws.specs.Order.{Sorted, place}
+use Rattle.laws.specs.Order.{Sorted, insertBy}
 use Rattle.laws.specs.Laws.Order.{in-place, place-new, place-old, place-sorted, place-distinct, sorted-same, keep-sorted, without-sorted}
 use Rattle.rules.specs.State.{timeChain}
 use Rattle.rules.specs.Serving.{rouse}
@@ -173,7 +173,7 @@ module _ (n : ℕ) (w : List ℕ) (X : ℕ → List ℕ) (l : List ℕ) (t : ℕ
 
   -- for a count k: at its place in the time chain
   pub chains-time : (k : ℕ) → n < k → t < length w
-      → Chains n (set w t k) (upd X timeChain (place (λ (a : ℕ). getD (set w t k) a 0) t (X timeChain))) (set l t 2)
+      → Chains n (set w t k) (upd X timeChain (insertBy (λ (a : ℕ). getD (set w t k) a 0) t (X timeChain))) (set l t 2)
   chains-time k a b =
       chains-join X timeChain t ys l out (place-new W t (X timeChain)) (λ u i. place-old W t u (X timeChain) i) (λ u i. in-place W t u (X timeChain) i)
       n w (set w t k) h (in-range l t 2 up) (place-distinct W t (X timeChain) (λ i. out (timeChain, i)) (h .once timeChain)) (omega arith, omega arith)
@@ -187,7 +187,7 @@ module _ (n : ℕ) (w : List ℕ) (X : ℕ → List ℕ) (l : List ℕ) (t : ℕ
       W a = getD (set w t k) a 0
 
       ys : List ℕ
-      ys = place W t (X timeChain)
+      ys = insertBy W t (X timeChain)
 
       other : (u : ℕ) → In u (X timeChain) → W u ≡ getD w u 0
       other u i = getD-set-other w t u k 0 (λ q. out (timeChain, subst (λ (m : ℕ). In m (X timeChain)) q i))

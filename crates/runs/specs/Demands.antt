@@ -14,7 +14,7 @@ use Rattle.rules.specs.Sizes.{tickWords}
 use Rattle.rules.specs.State.{timeChain, lastChain, waiting, dispatchable, on}
 use Rattle.rules.specs.Calls.{tick, run, start}
 use Rattle.rules.specs.History.{Earlier, Sooner}
-use Rattle.exec.specs.Sound.{rigIn, view, Sound}
+use Rattle.exec.specs.Sound.{rigIn, view, SoundRecord}
 use Rattle.runs.specs.Runs.{Made, MadeOn, callsOf, codeOf, servedOf, historyIn}
 use Rattle.exec.specs.declared.Exec.{Exec}
 
@@ -37,7 +37,7 @@ Anchor c = (timeChain ≤ c) × (c ≤ lastChain)
 
 -- every record of a run: "A fresh record is sound and every call keeps it so: 12 never follows from an accepted start."
 pub record Stands (x : Exec) (ms : List Made) (y : Exec) : Type 0 where
-  pub sound : Sound y
+  pub sound : SoundRecord y
   pub never-12 : (m : Made) → MadeOn y m → codeOf (m .step) ≢ 12
   -- the rig and its cycles are those of the start, and the record shows what the rules give after the same calls
   pub rig : y .rig ≡ x .rig

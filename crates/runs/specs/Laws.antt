@@ -32,7 +32,7 @@ use Rattle.rules_laws.specs.Waking as W
 use Rattle.rules_laws.specs.WakingLaws as WL
 use Rattle.rules_laws.specs.Activation.{BySchedule, ByService, activated-by}
 use Rattle.exec_state.specs.View.{rigOf}
-use Rattle.exec.specs.Sound.{rigIn, view, Sound}
+use Rattle.exec.specs.Sound.{rigIn, view, SoundRecord}
 use Rattle.exec.specs.Call.{Follows, Meets, Refuses, answerOf}
 use Rattle.exec.specs.Laws.Unique.{record-same}
 use Rattle.exec_sound.specs.Laws.RightRig.{rig-ok}
@@ -59,7 +59,7 @@ refused-same x k r after m n =
 -- ---- a record that shows the state s of the rules' rig r, and is sound
 
 record Shows (r : G.Rig) (s : S.State) (x : Exec) : Type 0 where
-  sound : Sound x
+  sound : SoundRecord x
   rig : rigIn x ≡ r
   state : view x ≡ s
 
@@ -133,7 +133,7 @@ ran-split x (m ∷ ms) ns z p = let k = ran-split (m .step .exec) ms ns z (p .1)
 
 -- ---- what a sound record says, one sentence each
 
-module _ (y : Exec) (h : Sound y) where
+module _ (y : Exec) (h : SoundRecord y) where
   ok : RigOk (rigIn y)
   ok = rig-ok (y .rig) (y .cycles) (h .rig)
 
@@ -188,7 +188,7 @@ module _ (g : Rig) (table : List (List ℕ)) (x : Exec) (s : AcceptedStart g tab
   shown =
       let e : rigOf g (cyclesOf table) ≡ rigIn x = λ i. rigOf (sym (started-rig .0) i) (sym (started-rig .1) i) in
       record {
-        sound = subst Sound (s .gave) (begun .1 .sound);
+        sound = subst SoundRecord (s .gave) (begun .1 .sound);
         rig = refl;
         state = ap view (sym (s .gave)) ∙ begun .1 .next ∙ ap R.start e;
       }

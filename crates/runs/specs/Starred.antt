@@ -10,7 +10,7 @@ use Rattle.laws.specs.Iter.{iter}
 use Rattle.laws.specs.All.{all}
 use Rattle.laws.specs.Any.{any}
 use Rattle.laws.specs.Tables.{total, over}
-use Rattle.words.specs.Answers.{WordReport, accepted, refused}
+use Rattle.words.specs.Answers.{WordReport, wordAnswered, wordRefused}
 use Rattle.words.specs.Laws.Cases.{Case, case, AsTold, right-more, wordCases, words-right}
 use Rattle.rules.specs.Rig.{Rig}
 use Rattle.rules.specs.State.{blank}
@@ -30,20 +30,20 @@ lone = rig 1 2 1 (T 1 0 10 0 0 ∷ []) [] [] [] (B 1 5 7 2 2 1 0 ∷ [])
 unfoldable pub answers : Call → WordReport ℕ
 answers k =
     let s = step lone (start lone) k in
-    cond (eqb (s .answer .code) 0) (accepted (s .next .running)) (refused (s .answer .code))
+    cond (eqb (s .answer .code) 0) (wordAnswered (s .next .running)) (wordRefused (s .answer .code))
 
 unfoldable pub callCases : List Case
 callCases =
     -- "Wait until the present count: no wait."
-    case (answers (waitUntil 0)) (accepted 1)
+    case (answers (waitUntil 0)) (wordAnswered 1)
     -- "Waking count 2,147,483,647 accepted."
-    ∷ case (answers (waitUntil 2147483647)) (accepted 0)
+    ∷ case (answers (waitUntil 2147483647)) (wordAnswered 0)
     -- "One more: refused 9."
-    ∷ case (answers (waitUntil 2147483648)) (refused 9)
+    ∷ case (answers (waitUntil 2147483648)) (wordRefused 9)
     -- "Area one word short: refused 10."
-    ∷ case (answers (readBlock 1 (replicate 32 0) (replicate 2 0))) (refused 10)
+    ∷ case (answers (readBlock 1 (replicate 32 0) (replicate 2 0))) (wordRefused 10)
     -- "Task 1 names itself to cancel: refused 7."
-    ∷ case (answers (cancel 1)) (refused 7)
+    ∷ case (answers (cancel 1)) (wordRefused 7)
     ∷ []
 
 calls-right : AsTold callCases

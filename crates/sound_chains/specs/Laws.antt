@@ -16,7 +16,7 @@ use Rattle.laws.specs.Laws.All.{all-at}
 use Rattle.laws.specs.Faults.{or-zero, xor-zero}
 use Rattle.chains.specs.Ops.{walk}
 use Rattle.chains.specs.Laws.Check.{stepb, step-out, ringb, marked, rings-start, rings-next, taskb, ring-end, ring-out, ring-bad, ring-next, walk-end, walk-next, tasks-accepted, accepted-tasks, equivalence}
-use Rattle.chains.specs.Held.{at, Sound}
+use Rattle.chains.specs.Held.{at, HoldsChains}
 use Rattle.chains.specs.Laws.Held.{at-set}
 use Rattle.chains.specs.declared.Links.{Links}
 use Rattle.sound_chains.specs.declared.Ring.{Ring}
@@ -194,10 +194,10 @@ module _ (l : Links) where
   all-over r s m seen e k w = record { yes = λ q. subst (RingsTo l (r .seen)) e (w .yes q k); no = w .no }
 
   -- the whole check's two ways out
-  pub not-sound : (r : Ring) → AllWalked l r → r .ok ≡ false → (false ≡ true) ↔ Sound l
+  pub not-sound : (r : Ring) → AllWalked l r → r .ok ≡ false → (false ≡ true) ↔ HoldsChains l
   not-sound r w o = ((λ q. absurd (false≢true q)), (λ h. absurd (w .no o (equivalence 64 322 (at (l .next)) (at (l .prev)) (at (l .on)) .1 h))))
 
-  pub tested-sound : (r : Ring) (b : Bool) → AllWalked l r → r .ok ≡ true → TasksTested l (r .seen) b → (b ≡ true) ↔ Sound l
+  pub tested-sound : (r : Ring) (b : Bool) → AllWalked l r → r .ok ≡ true → TasksTested l (r .seen) b → (b ≡ true) ↔ HoldsChains l
   tested-sound r b w o k =
       let q = equivalence 64 322 (at (l .next)) (at (l .prev)) (at (l .on)) in (
         (λ e. q .0 (tasks-accepted 64 322 (at (l .next)) (at (l .prev)) (at (l .on)) (at (r .seen)) (w .yes o) (k .yes e))),

@@ -7,7 +7,7 @@ ghost use mathlib.Core.Logic.{_↔_};
 ghost use mathlib.Core.Bool.{true, false, not, cond, _&&_};
 ghost use Prim.Native.Nat.{ℕ, _+_, _≤_, _<_};
 ghost use lib.ListN.{length};
-ghost use Rattle.chains.specs.Held.{at, Held, Sound};
+ghost use Rattle.chains.specs.Held.{at, Held, HoldsChains};
 ghost use lib.Dec.{eqb};
 ghost use Rattle.chains.specs.Laws.Check.{stepb};
 ghost use mathlib.Core.List.{List};
@@ -186,7 +186,7 @@ pub fn tasks_ok<'a>(
 
 // The links hold chains.
 pub fn sound<'a>(next: &'a [u16; NODES], prev: &'a [u16; NODES], on: &'a [u16; PLACES]) -> bool
-    ensures { λ r. ⌜ (r ≡ true) ↔ Sound (linksOf (now (next .entry)) (now (prev .entry)) (now (on .entry))) ⌝ }
+    ensures { λ r. ⌜ (r ≡ true) ↔ HoldsChains (linksOf (now (next .entry)) (now (prev .entry)) (now (on .entry))) ⌝ }
 {
     let k = walk_all(next, prev, on);
     if !k.ok {
@@ -204,7 +204,7 @@ pub fn in_order<'a>(
     s: usize,
     lo: u32,
 ) -> bool
-    requires { ⌜ Sound (linksOf (now next) (now prev) (now on)) ⌝ }
+    requires { ⌜ HoldsChains (linksOf (now next) (now prev) (now on)) ⌝ }
     requires { ⌜ (64 < s) × (s < 322) ⌝ }
     ensures { λ r. ⌜ ((X : ℕ → List ℕ) → Held (linksOf (now (next .entry)) (now (prev .entry)) (now (on .entry))) X → r ≡ risingb (at (now (wake .entry))) lo (X s)) ⌝ }
 {

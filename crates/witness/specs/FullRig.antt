@@ -7,7 +7,7 @@ use native.Mathlib.Omega.{arith}
 use lib.Dec.{eqb, ltb}
 use borrow.Author.Tests.{lt-leb, le-ltb, ne-eqb}
 use Rattle.rig.specs.Forms.{tableOf}
-use Rattle.rig_build.specs.Read.{readOf, accepted}
+use Rattle.rig_build.specs.Read.{readOf, fileAccepted}
 use Rattle.rig_write.specs.File.{fileOf}
 use Rattle.rig_round_trips.specs.Read.{read-written}
 use Rattle.rules_full.specs.Full.{full}
@@ -50,5 +50,5 @@ pub full-rig : rigOf fullRig (codeCycles full) ≡ full
 full-rig = code-rig full full-ends
 
 -- and its file is accepted
-pub full-read : readOf (fileOf fullRig (tableOf (codeCycles full))) ≡ accepted fullRig (codeCycles full)
+pub full-read : readOf (fileOf fullRig (tableOf (codeCycles full))) ≡ fileAccepted fullRig (codeCycles full)
 full-read = read-written fullRig (codeCycles full) full-right

@@ -17,7 +17,7 @@ use Rattle.rig.specs.Forms.{cycleOf, cyclesOf, tableOf}
 use Rattle.rig.specs.declared.Cycle.{Cycle}
 use Rattle.rig.specs.declared.Rig.{Rig}
 use Rattle.rig.specs.declared.Row.{Row}
-use Rattle.rig_build.specs.Read.{readOf, accepted}
+use Rattle.rig_build.specs.Read.{readOf, fileAccepted}
 use Rattle.rig_write.specs.File.{fileOf}
 use Rattle.rig_round_trips.specs.Read.{read-written}
 use Rattle.rules.specs.Rig as G
@@ -276,5 +276,5 @@ largest-right =
     }
 
 -- and its file is accepted: so 40,960 bytes are enough
-pub largest-read : readOf (fileOf largestRig (tableOf (codeCycles largest))) ≡ accepted largestRig (codeCycles largest)
+pub largest-read : readOf (fileOf largestRig (tableOf (codeCycles largest))) ≡ fileAccepted largestRig (codeCycles largest)
 largest-read = read-written largestRig (codeCycles largest) largest-right

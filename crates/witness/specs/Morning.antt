@@ -12,8 +12,8 @@ use Rattle.text.specs.Split.{led}
 use Rattle.decimal.specs.Decimal.{decBy, dec}
 use Rattle.rig.specs.Laws.Forms.{table-of-cycles}
 use Rattle.rig_lines.specs.Kinds.{nameOf}
-use Rattle.rig_lines.specs.Text.{bytesOf, text}
-use Rattle.rig_build.specs.Read.{readOf, accepted}
+use Rattle.rig_lines.specs.Text.{lineBytes, text}
+use Rattle.rig_build.specs.Read.{readOf, fileAccepted}
 use Rattle.rig_write.specs.Kept.{kept}
 use Rattle.rig_write.specs.File.{linesFrom, fileOf}
 use Rattle.rig_round_trips.specs.Read.{read-written}
@@ -69,10 +69,10 @@ morning-rig = code-rig bench bench-ends
 
 -- what the writer writes of the rig is the file, byte for byte
 file-is : fileOf morningRig (codeTable bench) ≡ morningFile
-unfolding bytes morningFile bench rig ofTask ofCondition numbers ofLine ofCycle codeRig codeTable tableFrom fileOf linesFrom kept text bytesOf nameOf led dec decBy
+unfolding bytes morningFile bench rig ofTask ofCondition numbers ofLine ofCycle codeRig codeTable tableFrom fileOf linesFrom kept text lineBytes nameOf led dec decBy
 file-is = refl
 
-pub morning-read : readOf morningFile ≡ accepted morningRig (codeCycles bench)
+pub morning-read : readOf morningFile ≡ fileAccepted morningRig (codeCycles bench)
 morning-read =
     ap readOf (sym file-is ∙ ap (fileOf morningRig) (sym (table-of-cycles (codeTable bench))))
     ∙ read-written morningRig (codeCycles bench) morning-right

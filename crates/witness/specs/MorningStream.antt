@@ -24,7 +24,7 @@ use Rattle.rules.specs.Bus.{written, copied, rowWords, busWords}
 use Rattle.rules.specs.Calls as R
 use Rattle.rules.specs.Scripts.{bench, rig, ofTask, ofCondition, numbers, ofLine, ofCycle, tick₀, morningCalls}
 use Rattle.rig_build.specs.declared.Answer.{Answer}
-use Rattle.rig_build.specs.Read.{readOf, accepted}
+use Rattle.rig_build.specs.Read.{readOf, fileAccepted}
 use Rattle.bench_script.specs.Input.{rigEnd}
 use Rattle.bench_script.specs.Script as C
 use Rattle.bench_script.specs.Script.{saidOf}
@@ -47,10 +47,10 @@ abbrev told : G.Rig → List (List ℕ) → List ℕ
 told r pieces = lineText startName (0 ∷ R.start r .count ∷ R.start r .running ∷ []) ++ talkText r (R.start r) pieces
 
 computed : told bench (morningScript ++ [] ∷ []) ≡ morningOutput
-unfolding bytes morningScript morningOutput bench morningCalls rig ofTask ofCondition numbers ofLine ofCycle tick₀ iter all any total over put commandWord blank relax met drive names activate takes rouse wake ready offer offers serveFlag serving serve waitOn waitUntilCount leave wakeDue family cleared deserted offs best chosen dispatch written copied rowWords busWords R.scheduled R.finished R.terminated R.cancelled R.cycleQueue R.ticked R.effect R.decide R.noSuch R.inCycle R.isMinor R.isActivation R.lastCount R.wrongBlock R.refusals R.refusal R.wordsAt R.lent R.output R.accepted R.after R.step R.run R.started R.start saidOf C.fieldsSay C.verbOf C.alone C.withNumber C.withValue split onHead led D.step D.run D.decBy D.dec fieldsText lineText U.extra U.numbersOf U.textOf talkText lastText U.turnText U.turnNext U.askedText U.askedNext askedBy
+unfolding bytes morningScript morningOutput bench morningCalls rig ofTask ofCondition numbers ofLine ofCycle tick₀ iter all any total over put commandWord blank relax met drive names activate takes rouse wake ready offer offers serveFlag serving serve waitOn waitUntilCount leave wakeDue family cleared deserted offs best chosen dispatch written copied rowWords busWords R.scheduled R.finished R.terminated R.cancelled R.cycleQueue R.ticked R.effect R.decide R.noSuch R.inCycle R.isMinor R.isActivation R.lastCount R.wrongBlock R.refusals R.refusal R.wordsAt R.lent R.output R.accepted R.after R.step R.run R.started R.start saidOf C.fieldsSay C.verbOf C.alone C.withNumber C.withValue split onHead led D.readByte D.readOn D.decBy D.dec fieldsText lineText U.extra U.numbersOf U.textOf talkText lastText U.turnText U.turnNext U.askedText U.askedNext askedBy
 computed = refl
 
-accepted-text : (script : List ℕ) → wholeText (accepted morningRig (codeCycles bench)) script ≡ told (rigOf morningRig (codeCycles bench)) (split lf script)
+accepted-text : (script : List ℕ) → wholeText (fileAccepted morningRig (codeCycles bench)) script ≡ told (rigOf morningRig (codeCycles bench)) (split lf script)
 unfolding wholeText startText
 accepted-text script = refl
 

@@ -23,7 +23,7 @@ use Rattle.rules_laws.specs.Steps.{step-sound, start-sound}
 use Rattle.rules.specs.Calls as R
 use Rattle.exec_state.specs.View.{rigOf}
 use Rattle.exec_state.specs.declared.State.{State}
-use Rattle.exec.specs.Sound.{rigIn, view, Sound}
+use Rattle.exec.specs.Sound.{rigIn, view, SoundRecord}
 use Rattle.exec.specs.Call.{Follows, Meets, answerOf, refuse}
 use Rattle.exec.specs.Call as C
 use Rattle.exec_sound.specs.Laws.RightRig.{rig-ok}
@@ -122,7 +122,7 @@ module _ (g : Rig) (cycles : List Cycle) (right : Right g cycles) where
         running = s .running;
       }
 
-  pub record-sound : (s : S.State) → Rules.Sound (rigOf g cycles) s → Sound (recordOf g cycles s)
+  pub record-sound : (s : S.State) → Rules.Sound (rigOf g cycles) s → SoundRecord (recordOf g cycles s)
   record-sound s h =
       let k = linked (s .chains) (chainable (rigOf g cycles) (rig-ok g cycles right) s h) in
       record {
@@ -140,7 +140,7 @@ module _ (g : Rig) (cycles : List Cycle) (right : Right g cycles) where
 
   -- ---- a call
 
-  answer-proper : (n : ℕ) (p : R.Report) → C.Proper (answerBy n p)
+  answer-proper : (n : ℕ) (p : R.Report) → C.ProperAnswer (answerBy n p)
   answer-proper zero p = tt
   answer-proper (suc n) p = λ e. omega arith
 
@@ -195,19 +195,19 @@ start-any g table =
     (λ e. (refuse noExec brokenRig, record { is = inr ((λ h. true≢false (sym (right-is g (cyclesOf table) .1 h) ∙ e)), record { exec = refl; answer = refl }) }))
 
 -- a sound record is the one that shows what it shows
-sound-record : (x : Exec) → Sound x → recordOf (x .rig) (x .cycles) (view x) ≡ x
+sound-record : (x : Exec) → SoundRecord x → recordOf (x .rig) (x .cycles) (view x) ≡ x
 sound-record x h =
     record-same (recordOf (x .rig) (x .cycles) (view x)) x (record-sound (x .rig) (x .cycles) (h .rig) (view x) (h .state)) h refl refl
     (record-shows (x .rig) (x .cycles) (h .rig) (view x) (h .state))
 
 -- every call can be made on a sound record
-pub call-exists : (x : Exec) → Sound x → (k : R.Call) → Proper k → (m : Made) × (m .call ≡ k) × MadeOn x m
+pub call-exists : (x : Exec) → SoundRecord x → (k : R.Call) → Proper k → (m : Made) × (m .call ≡ k) × MadeOn x m
 call-exists x h k p =
     let m = madeOf (x .rig) (x .cycles) (view x) k in
     (m, refl, subst (λ (y : Exec). MadeOn y m) (sound-record x h) (made (x .rig) (x .cycles) (h .rig) (view x) (h .state) k p))
 
 -- and every run of calls
-pub run-exists : (x : Exec) → Sound x → (ks : List R.Call) → ProperRun ks → (ms : List Made) × (y : Exec) × (callsOf ms ≡ ks) × Ran x ms y
+pub run-exists : (x : Exec) → SoundRecord x → (ks : List R.Call) → ProperRun ks → (ms : List Made) × (y : Exec) × (callsOf ms ≡ ks) × Ran x ms y
 run-exists x h ks p =
     let ms = runOf (x .rig) (x .cycles) (view x) ks in
     let y = recordOf (x .rig) (x .cycles) (R.run (rigIn x) (view x) ks) in

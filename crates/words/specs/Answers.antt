@@ -13,25 +13,25 @@ pub record WordReport (A : Type 0) : Type 0 where
   pub number : ℕ
   pub values : List A
 
-abbrev pub accepted : {A : Type 0} → A → WordReport A
-accepted value = record { number = 0; values = value ∷ [] }
+abbrev pub wordAnswered : {A : Type 0} → A → WordReport A
+wordAnswered value = record { number = 0; values = value ∷ [] }
 
 -- "a refused word entry answers the number alone"
-abbrev pub refused : {A : Type 0} → ℕ → WordReport A
-refused number = record { number = number; values = [] }
+abbrev pub wordRefused : {A : Type 0} → ℕ → WordReport A
+wordRefused number = record { number = number; values = [] }
 
 -- the refusal's number
 abbrev pub outsideSize : ℕ
 outsideSize = 11
 
 -- 11, "Given exactly when": "a word's field, an expected address or a status image is outside its size"
-unfoldable pub sized : {A : Type 0} → Bool → A → WordReport A
-sized inSize value = cond inSize (accepted value) (refused outsideSize)
+unfoldable pub ifInSize : {A : Type 0} → Bool → A → WordReport A
+ifInSize inSize value = cond inSize (wordAnswered value) (wordRefused outsideSize)
 
 abbrev pub encodedReport : Encoded → WordReport ℕ
-encodedReport (encoded.Word w) = accepted w
-encodedReport encoded.OutsideSize = refused outsideSize
+encodedReport (encoded.Word w) = wordAnswered w
+encodedReport encoded.OutsideSize = wordRefused outsideSize
 
 abbrev pub judgedReport : Judged → WordReport Verdict
-judgedReport (judged.As v) = accepted v
-judgedReport judged.OutsideSize = refused outsideSize
+judgedReport (judged.As v) = wordAnswered v
+judgedReport judged.OutsideSize = wordRefused outsideSize

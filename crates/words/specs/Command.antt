@@ -7,7 +7,7 @@ use Rattle.laws.specs.All.{allOf}
 use Rattle.laws.specs.Bits.{bit, isOne}
 use Rattle.word_parts.specs.Packed.{lastOfFive, pastEleven, pastTen, pastFive, commandWord}
 use Rattle.words.specs.declared.command.Command.{Command}
-use Rattle.words.specs.Answers.{WordReport, sized}
+use Rattle.words.specs.Answers.{WordReport, ifInSize}
 
 abbrev pub wordOfCommand : Command → ℕ
 wordOfCommand c = commandWord (c .address) (bit (c .transmit)) (c .sub) (c .last)
@@ -32,7 +32,7 @@ commandInSize c = allOf (leb (c .address) lastOfFive ∷ leb (c .sub) lastOfFive
 
 -- What is answered to fields: their word, or 11 exactly when one is outside its size.
 unfoldable pub commandReport : Command → WordReport ℕ
-commandReport c = sized (commandInSize c) (wordOfCommand c)
+commandReport c = ifInSize (commandInSize c) (wordOfCommand c)
 
 -- What the five bits of the last field say: "32 is written as 0", and a mode number as itself.
 unfoldable pub lastOf : Bool → ℕ → ℕ

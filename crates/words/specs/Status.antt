@@ -8,7 +8,7 @@ use Rattle.laws.specs.Bits.{bit, isOne}
 use Rattle.words.specs.declared.status.Status.{Status}
 use Rattle.words.specs.declared.status.Verdict.{Verdict}
 use Rattle.words.specs.declared.status.Verdict.the-variants.{Error, Exception, Clean}
-use Rattle.words.specs.Answers.{WordReport, sized}
+use Rattle.words.specs.Answers.{WordReport, ifInSize}
 use Rattle.word_parts.specs.Packed.{lastOfFive, lastOfNine, lastOfSeventeen, pastEleven, pastTen, pastOne, statusWord}
 use Rattle.word_parts.specs.Parity.{parityBit}
 
@@ -21,7 +21,7 @@ statusInSize s = allOf (leb (s .address) lastOfFive ∷ leb (s .status) lastOfNi
 
 -- What is answered to fields: their word, or 11 exactly when one is outside its size.
 unfoldable pub statusReport : Status → WordReport ℕ
-statusReport s = sized (statusInSize s) (wordOfStatus s)
+statusReport s = ifInSize (statusInSize s) (wordOfStatus s)
 
 -- The fields of any word, cut out at the same places.
 unfoldable pub statusFields : ℕ → Status
@@ -59,4 +59,4 @@ verdictOf image address = cond (isError image address) Error (cond (isException 
 
 -- What is answered to an image and an expected address: the verdict, or 11 exactly when the image has more than 17 bits or the address more than 5.
 unfoldable pub judgedAs : ℕ → ℕ → WordReport Verdict
-judgedAs image address = sized (allOf (leb image lastOfSeventeen ∷ leb address lastOfFive ∷ [])) (verdictOf image address)
+judgedAs image address = ifInSize (allOf (leb image lastOfSeventeen ∷ leb address lastOfFive ∷ [])) (verdictOf image address)

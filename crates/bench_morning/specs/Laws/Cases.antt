@@ -2,7 +2,7 @@
 use mathlib.Core.Path.{_≡_, refl}
 use mathlib.Core.List.{[], _∷_}
 use Rattle.text.specs.Split.{onHead, split, led}
-use Rattle.decimal.specs.Decimal.{step, run, decBy, dec}
+use Rattle.decimal.specs.Decimal.{readByte, readOn, decBy, dec}
 use Rattle.rules.specs.Rig as G
 use Rattle.rules.specs.State as S
 use Rattle.rig_lines.specs.File.{firstFault, faultOf}
@@ -17,12 +17,12 @@ use Rattle.bench_morning.specs.Morning.{startText, talkText, wholeText, 
 
 -- "K " and LF, an empty line, and x with no LF: each "prints ? alone"
 pub wrong-lines : (r : G.Rig) (s : S.State) → talkText r s (split lf (75 ∷ 32 ∷ 10 ∷ 10 ∷ 120 ∷ [])) ≡ question ∷ lf ∷ question ∷ lf ∷ question ∷ lf ∷ []
-unfolding talkText split onHead turnText turnNext askedText askedNext askedBy saidOf fieldsSay verbOf alone withNumber withValue lastText step run
+unfolding talkText split onHead turnText turnNext askedText askedNext askedBy saidOf fieldsSay verbOf alone withNumber withValue lastText readByte readOn
 wrong-lines r s = refl
 
 -- a script that ends with its last line's LF, and one with no line at all
 pub ended-lines : (r : G.Rig) (s : S.State) → talkText r s (split lf (82 ∷ 85 ∷ 78 ∷ 10 ∷ [])) ≡ question ∷ lf ∷ []
-unfolding talkText split onHead turnText turnNext askedText askedNext askedBy saidOf fieldsSay verbOf alone withNumber withValue lastText step run
+unfolding talkText split onHead turnText turnNext askedText askedNext askedBy saidOf fieldsSay verbOf alone withNumber withValue lastText readByte readOn
 ended-lines r s = refl
 
 pub no-lines : (r : G.Rig) (s : S.State) → talkText r s (split lf []) ≡ []

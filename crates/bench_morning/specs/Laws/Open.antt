@@ -12,7 +12,7 @@ use Rattle.bench_script.specs.Laws.Wrote.{wrote-as, wrote-none}
 use Rattle.bench_input.specs.Opening.{full, Opening, still, whole, withByte, waits, opens, onward, scanned, Scans}
 use Rattle.bench_input.specs.declared.Kept.{Kept}
 use Rattle.bench_morning.specs.Morning.{startText}
-use Rattle.bench_morning.specs.Desk.{Desk, opening, started, opened, openedText, next, says, after, said}
+use Rattle.bench_morning.specs.Desk.{Desk, opening, deskStarted, opened, openedText, next, says, deskAfter, said}
 use Rattle.bench_morning.specs.Laws.Desk.{said-append}
 use Rattle.bench_morning.specs.Laws.Whole.{opening-waits, opening-opens}
 use Rattle.bench_morning.specs.Stream.{deskOf, deskBy, HoldsBy, HoldsIn}
@@ -27,7 +27,7 @@ use Rattle.bench_morning.specs.declared.Started as Line
 
 pub opens-none : (s : Stream) (keep piece out : List ℕ) (r : Fed) → (s .phase ≡ P.Opening → ⊥) → HoldsIn s (length keep)
     → r ≡ record { stream = s; took = 0; wrote = 0 } → Opens s keep piece out r keep out
-unfolding after said
+unfolding deskAfter said
 opens-none s keep piece out r n h e =
     subst (λ (x : Fed). Opens s keep piece out x keep out) (sym e)
     (record {
@@ -48,7 +48,7 @@ first-none (x ∷ a) b e = absurd (let z : _≡_ {A = ℕ} 0 1 = cc in omega (ar
 
 silent-before : (d : Desk) (piece : List ℕ) → said d piece ≡ [] → (k : ℕ) → said d (take k piece) ≡ []
 silent-before d piece e k =
-    first-none (said d (take k piece)) (said (after d (take k piece)) (drop k piece))
+    first-none (said d (take k piece)) (said (deskAfter d (take k piece)) (drop k piece))
     (sym (said-append d (take k piece) (drop k piece)) ∙ ap (said d) (take-append-drop k piece) ∙ e)
 
 -- ---- the bytes up to the rig's end
@@ -128,7 +128,7 @@ module _ (s : Stream) (keep piece out : List ℕ) (p : s .phase ≡ P.Opening) (
         record {
           desk =
               ap (λ (x : Stream). deskOf x kept) e ∙ ap (λ (x : Phase). deskBy x (record { phase = s .phase; at = c .at; from = c .from; line = s .line; held = s .held; exec = s .exec }) kept) p
-              ∙ sym (o .1) ∙ ap (λ (d : Desk). after d piece) (sym here) ∙ ap (after (deskOf s keep)) (sym all-of-it);
+              ∙ sym (o .1) ∙ ap (λ (d : Desk). deskAfter d piece) (sym here) ∙ ap (deskAfter (deskOf s keep)) (sym all-of-it);
           wrote =
               wrote-as out out [] (said (deskOf s keep) (take (c .took) piece)) 0 0
               (sym (ap (said (deskOf s keep)) all-of-it ∙ silent)) (wrote-none out 0);
@@ -149,7 +149,7 @@ module _ (s : Stream) (keep piece out : List ℕ) (p : s .phase ≡ P.Opening) (
 
     pub opens-whole : (o : Line.Started) (written : List ℕ) → Begins (take (c .from) kept) out o written
         → Opens s keep piece out (record { stream = o .stream; took = c .took; wrote = o .wrote }) kept written
-    unfolding after said
+    unfolding deskAfter said
     opens-whole o written b =
         let rig = take (c .from) kept in
         let t = take (s .at) keep in
@@ -157,7 +157,7 @@ module _ (s : Stream) (keep piece out : List ℕ) (p : s .phase ≡ P.Opening) (
         let y = opening-opens (take (c .took) piece) t (s .from) rig [] a in
         let text : said (deskOf s keep) (take (c .took) piece) ≡ startText (readOf rig) =
         ap (λ (d : Desk). said d (take (c .took) piece)) here ∙ y .0 ∙ append-nil (startText (readOf rig)) in
-        let place : after (deskOf s keep) (take (c .took) piece) ≡ started (readOf rig) = ap (λ (d : Desk). after d (take (c .took) piece)) here ∙ y .1 in
+        let place : deskAfter (deskOf s keep) (take (c .took) piece) ≡ deskStarted (readOf rig) = ap (λ (d : Desk). deskAfter d (take (c .took) piece)) here ∙ y .1 in
         record {
           desk = b .desk kept ∙ sym place;
           wrote = wrote-as out written (startText (readOf rig)) (said (deskOf s keep) (take (c .took) piece)) 0 (o .wrote) (sym text) (b .wrote);

@@ -15,7 +15,7 @@ use Rattle.rig.specs.declared.Cycle.{Cycle}
 use Rattle.rules.specs.State as S
 use Rattle.rules.specs.Calls as R
 use Rattle.exec_state.specs.View.{rigOf}
-use Rattle.exec.specs.Call.{answerOf, Proper}
+use Rattle.exec.specs.Call.{answerOf, ProperAnswer}
 use Rattle.exec.specs.Sound.{rigIn, view}
 use Rattle.exec.specs.Starting.{Starts, Started}
 use Rattle.exec.specs.declared.Step.{Step}
@@ -29,7 +29,7 @@ use Rattle.bench_script.specs.Laws.Wrote.{wrote-as}
 use Rattle.bench_script.specs.Laws.Written.{Begun}
 use Rattle.bench_input.specs.Line.{lineNumber}
 use Rattle.bench_morning.specs.Morning.{fileRig, startText}
-use Rattle.bench_morning.specs.Desk.{talking, over, started}
+use Rattle.bench_morning.specs.Desk.{talking, over, deskStarted}
 use Rattle.bench_morning.specs.Stream.{deskOf, HoldsIn, fresh, nothingMore}
 use Rattle.bench_morning.specs.Laws.Steps.{Begins}
 use Rattle.rig_build.specs.Laws.Exactly.{accepted-right}
@@ -42,9 +42,9 @@ use Rattle.bench_morning.specs.declared.Started as Line
 -- ---- the line START
 
 module _ (text out written : List ℕ) (a : Answer) (e : a ≡ readOf text) where
-  refused-started : a .no ≢ 0 → started (readOf text) ≡ over
-  unfolding started
-  refused-started n = ap started (sym e) ∙ if-no (talking (fileRig a) (R.start (fileRig a)) []) (ne-eqb (a .no) 0 n) refl
+  refused-started : a .no ≢ 0 → deskStarted (readOf text) ≡ over
+  unfolding deskStarted
+  refused-started n = ap deskStarted (sym e) ∙ if-no (talking (fileRig a) (R.start (fileRig a)) []) (ne-eqb (a .no) 0 n) refl
 
   refused-text : a .no ≢ 0 → lineText startName (a .no ∷ a .line ∷ []) ≡ startText (readOf text)
   unfolding startText
@@ -92,7 +92,7 @@ module _ (text out written : List ℕ) (a : Answer) (e : a ≡ readOf text) wher
     pub never-refused : (n : ℕ) → st .answer ≡ Refused n → ⊥
     never-refused n q =
         let f : n ≡ 0 = sym (ap (λ x. answerOf x .code) q) ∙ ap (λ (x : R.Answer). x .code) (its-start .answer) in
-        subst Proper q (its-start .proper) f
+        subst ProperAnswer q (its-start .proper) f
 
     its-rig : rigIn (st .exec) ≡ fileRig a
     its-rig = λ i. rigOf (its-start .rig i) ((its-start .cycles ∙ rows) i)
@@ -100,10 +100,10 @@ module _ (text out written : List ℕ) (a : Answer) (e : a ≡ readOf text) wher
     its-view : view (st .exec) ≡ R.start (fileRig a)
     its-view = its-start .next ∙ ap (λ (c : List Cycle). R.start (rigOf (a .rig) c)) rows
 
-    accepted-started : talking (rigIn (st .exec)) (view (st .exec)) [] ≡ started (readOf text)
-    unfolding started
+    accepted-started : talking (rigIn (st .exec)) (view (st .exec)) [] ≡ deskStarted (readOf text)
+    unfolding deskStarted
     accepted-started =
-        (λ i. talking (its-rig i) (its-view i) []) ∙ sym (if-yes over (eq-eqb (a .no) 0 z) refl) ∙ ap started e
+        (λ i. talking (its-rig i) (its-view i) []) ∙ sym (if-yes over (eq-eqb (a .no) 0 z) refl) ∙ ap deskStarted e
 
     accepted-text : lineText startName (0 ∷ st .exec .st .count ∷ st .exec .st .running ∷ []) ≡ startText (readOf text)
     unfolding startText

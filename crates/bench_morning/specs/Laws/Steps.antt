@@ -4,13 +4,13 @@ use mathlib.Core.Path.{_≡_}
 use mathlib.Core.Logic.{_⊎_}
 use mathlib.Core.List.{List, []}
 use lib.ListN.{length, take}
-use Rattle.exec.specs.Sound.{rigIn, view, Sound}
+use Rattle.exec.specs.Sound.{rigIn, view, SoundRecord}
 use Rattle.rig_build.specs.Read.{readOf}
 use Rattle.bench_script.specs.Output.{turnRoom}
 use Rattle.bench_script.specs.Wrote.{Wrote}
 use Rattle.bench_input.specs.Line.{lineRoom}
 use Rattle.bench_morning.specs.Morning.{startText}
-use Rattle.bench_morning.specs.Desk.{talking, started, after, said}
+use Rattle.bench_morning.specs.Desk.{talking, deskStarted, deskAfter, said}
 use Rattle.bench_morning.specs.Stream.{deskOf, HoldsIn}
 use Rattle.bench_morning.specs.declared.Stream.{Stream}
 use Rattle.bench_morning.specs.declared.Fed.{Fed}
@@ -20,13 +20,13 @@ use Rattle.bench_morning.specs.declared.Started.{Started}
 -- the rig's text is whole
 pub record Begins (text out : List ℕ) (r : Started) (written : List ℕ) : Type 0 where
   pub wrote : Wrote out 0 (startText (readOf text)) written (r .wrote)
-  pub desk : (keep : List ℕ) → deskOf (r .stream) keep ≡ started (readOf text)
+  pub desk : (keep : List ℕ) → deskOf (r .stream) keep ≡ deskStarted (readOf text)
   pub holds : (kept : ℕ) → HoldsIn (r .stream) kept
   pub later : r .stream .phase ≡ Opening → ⊥
 
 -- bytes of the rig's text are taken, up to its end or to the piece's; a stream behind it takes none here
 pub record Opens (s : Stream) (keep piece out : List ℕ) (r : Fed) (kept written : List ℕ) : Type 0 where
-  pub desk : deskOf (r .stream) kept ≡ after (deskOf s keep) (take (r .took) piece)
+  pub desk : deskOf (r .stream) kept ≡ deskAfter (deskOf s keep) (take (r .took) piece)
   pub wrote : Wrote out 0 (said (deskOf s keep) (take (r .took) piece)) written (r .wrote)
   pub took : r .took ≤ length piece
   pub quiet : (k : ℕ) → k < r .took → said (deskOf s keep) (take k piece) ≡ []

@@ -15,7 +15,7 @@ use Rattle.rules.specs.Rig as G
 use Rattle.rules.specs.State as S
 use Rattle.rules.specs.Calls as R
 use Rattle.rig_build.specs.declared.Answer.{Answer}
-use Rattle.rig_build.specs.Read.{refusal, readOf}
+use Rattle.rig_build.specs.Read.{fileRefused, readOf}
 use Rattle.rig_build.specs.Laws.Exactly.{too-long}
 use Rattle.bench_script.specs.Letters.{lf}
 use Rattle.bench_script.specs.Input.{rigEnd}
@@ -25,12 +25,12 @@ use Rattle.bench_input.specs.Laws.Line.{KeptOf, kept-more, kept-says}
 use Rattle.bench_input.specs.Laws.RigEnd.{Goes, goes-none, goes-all, Parts, scan-parts, scan-waits}
 use Rattle.bench_turn.specs.Turn.{letterOf, askedBy, askedText, askedNext, turnText, turnNext}
 use Rattle.bench_morning.specs.Morning.{fileRig, startText, talkText, wholeText, morningText}
-use Rattle.bench_morning.specs.Desk.{Desk, opening, talking, over, begun, started, opened, openedText, next, says, after, said, last}
+use Rattle.bench_morning.specs.Desk.{Desk, opening, talking, over, begun, deskStarted, opened, openedText, next, says, deskAfter, said, lastSaid}
 use Rattle.bench_morning.specs.Laws.Desk.{over-after, over-said}
 
 -- all that bytes, and then the end of the input, decide
 abbrev pub all : Desk → List ℕ → List ℕ
-all d bytes = said d bytes ++ last (after d bytes)
+all d bytes = said d bytes ++ lastSaid (deskAfter d bytes)
 
 -- ---- the script
 
@@ -73,17 +73,17 @@ front-more line b (p ∷ ps) = ap (λ (l : List ℕ). l ∷ ps) (sym (append-ass
 
 talks : (bytes : List ℕ) (r : G.Rig) (s : S.State) (line kept : List ℕ) → KeptOf line kept
     → all (talking r s kept) bytes ≡ talkText r s (inFront line (split lf bytes))
-unfolding after said next says last split inFront talkText
+unfolding deskAfter said next says lastSaid split inFront talkText
 talks [] r s line kept w = same-last line kept w ∙ ap lastText (sym (append-nil line))
 talks (b ∷ bytes) r s line kept w =
     by (eqb b lf)
     (λ t. let q = split-cons lf bytes in
-    let a : all (talking r s kept) (b ∷ bytes) ≡ (turnText r s kept ++ said (talking r (turnNext r s kept) []) bytes) ++ last (after (talking r (turnNext r s kept) []) bytes) =
+    let a : all (talking r s kept) (b ∷ bytes) ≡ (turnText r s kept ++ said (talking r (turnNext r s kept) []) bytes) ++ lastSaid (deskAfter (talking r (turnNext r s kept) []) bytes) =
     rw t in
     let i : all (talking r (turnNext r s kept) []) bytes ≡ talkText r (turnNext r s kept) (split lf bytes) =
     talks bytes r (turnNext r s kept) [] [] (inl refl) ∙ ap (talkText r (turnNext r s kept)) (front-none (split lf bytes) (q .0) (q .1) (q .2)) in
     a
-    ∙ append-assoc (turnText r s kept) (said (talking r (turnNext r s kept) []) bytes) (last (after (talking r (turnNext r s kept) []) bytes))
+    ∙ append-assoc (turnText r s kept) (said (talking r (turnNext r s kept) []) bytes) (lastSaid (deskAfter (talking r (turnNext r s kept) []) bytes))
     ∙ ap (λ (l : List ℕ). turnText r s kept ++ l) i
     ∙ (λ j. same-turn r s line kept w j ++ talkText r (same-next r s line kept w j) (split lf bytes))
     ∙ sym (talk-next r s line (split lf bytes) (q .0) (q .1) (q .2))
@@ -94,8 +94,8 @@ talks (b ∷ bytes) r s line kept w =
     ∙ ap (talkText r s) (sym (front-more line b (split lf bytes))) ∙ rw t)
 
 -- from the line START on
-started-all : (a : Answer) (script : List ℕ) → startText a ++ all (started a) script ≡ wholeText a script
-unfolding started wholeText last
+started-all : (a : Answer) (script : List ℕ) → startText a ++ all (deskStarted a) script ≡ wholeText a script
+unfolding deskStarted wholeText lastSaid
 started-all a script =
     by (eqb (a .no) 0)
     (λ t. let q = split-cons lf script in
@@ -104,49 +104,49 @@ started-all a script =
     (ap (λ (d : Desk). all d script) (if-yes over t refl) ∙ i ∙ sym (if-yes [] t refl)))
     (λ t. ap (λ (l : List ℕ). startText a ++ l)
     (ap (λ (d : Desk). all d script) (if-no (talking (fileRig a) (R.start (fileRig a)) []) t refl)
-    ∙ (λ j. over-said script j ++ last (over-after script j))
+    ∙ (λ j. over-said script j ++ lastSaid (over-after script j))
     ∙ sym (if-no (talkText (fileRig a) (R.start (fileRig a)) (split lf script)) t refl)))
 
 -- ---- the rig's text
 
 -- a piece within the rig's text
 pub opening-waits : (bytes text : List ℕ) (from : ℕ) (t : List ℕ) (f : ℕ) → scanned text from bytes ≡ waits t f
-    → (said (opening text from) bytes ≡ []) × (after (opening text from) bytes ≡ opening t f)
-unfolding scanned said after next says
+    → (said (opening text from) bytes ≡ []) × (deskAfter (opening text from) bytes ≡ opening t f)
+unfolding scanned said deskAfter next says
 opening-waits [] text from t f e =
     let x : text ≡ t = cc in
     let y : from ≡ f = cc in
     (refl, λ i. opening (x i) (y i))
 opening-waits (b ∷ bytes) text from t f e = go (λ u g q. opening-waits bytes u g t f q) (withByte text from b) e
   where
-    go : ((u : List ℕ) (g : ℕ) → scanned u g bytes ≡ waits t f → (said (opening u g) bytes ≡ []) × (after (opening u g) bytes ≡ opening t f))
+    go : ((u : List ℕ) (g : ℕ) → scanned u g bytes ≡ waits t f → (said (opening u g) bytes ≡ []) × (deskAfter (opening u g) bytes ≡ opening t f))
         → (o : Opening) → onward o (λ u g. scanned u g bytes) bytes ≡ waits t f
-        → (openedText o ++ said (opened o) bytes ≡ []) × (after (opened o) bytes ≡ opening t f)
+        → (openedText o ++ said (opened o) bytes ≡ []) × (deskAfter (opened o) bytes ≡ opening t f)
     go ih (still u g) e = ih u g e
     go ih (whole u) e = absurd (let z : _≡_ {A = ℕ} 0 1 = cc in omega (arith, z))
 
 -- a piece in which the rig's text ends
 pub opening-opens : (bytes text : List ℕ) (from : ℕ) (rig rest : List ℕ) → scanned text from bytes ≡ opens rig rest
-    → (said (opening text from) bytes ≡ startText (readOf rig) ++ said (started (readOf rig)) rest)
-    × (after (opening text from) bytes ≡ after (started (readOf rig)) rest)
-unfolding scanned said after next says
+    → (said (opening text from) bytes ≡ startText (readOf rig) ++ said (deskStarted (readOf rig)) rest)
+    × (deskAfter (opening text from) bytes ≡ deskAfter (deskStarted (readOf rig)) rest)
+unfolding scanned said deskAfter next says
 opening-opens [] text from rig rest e = absurd (let z : _≡_ {A = ℕ} 0 1 = cc in omega (arith, z))
 opening-opens (b ∷ bytes) text from rig rest e = go (λ u g q. opening-opens bytes u g rig rest q) (withByte text from b) e
   where
     go : ((u : List ℕ) (g : ℕ) → scanned u g bytes ≡ opens rig rest
-        → (said (opening u g) bytes ≡ startText (readOf rig) ++ said (started (readOf rig)) rest)
-        × (after (opening u g) bytes ≡ after (started (readOf rig)) rest))
+        → (said (opening u g) bytes ≡ startText (readOf rig) ++ said (deskStarted (readOf rig)) rest)
+        × (deskAfter (opening u g) bytes ≡ deskAfter (deskStarted (readOf rig)) rest))
         → (o : Opening) → onward o (λ u g. scanned u g bytes) bytes ≡ opens rig rest
-        → (openedText o ++ said (opened o) bytes ≡ startText (readOf rig) ++ said (started (readOf rig)) rest)
-        × (after (opened o) bytes ≡ after (started (readOf rig)) rest)
+        → (openedText o ++ said (opened o) bytes ≡ startText (readOf rig) ++ said (deskStarted (readOf rig)) rest)
+        × (deskAfter (opened o) bytes ≡ deskAfter (deskStarted (readOf rig)) rest)
     go ih (still u g) e = ih u g e
     go ih (whole u) e =
         let x : u ≡ rig = cc in
         let y : bytes ≡ rest = cc in
-        ((λ i. startText (readOf (x i)) ++ said (started (readOf (x i))) (y i)), λ i. after (started (readOf (x i))) (y i))
+        ((λ i. startText (readOf (x i)) ++ said (deskStarted (readOf (x i))) (y i)), λ i. deskAfter (deskStarted (readOf (x i))) (y i))
 
 -- the scan's parts of an input make its morning
-refused-whole : (script other : List ℕ) → wholeText (refusal 2 0 0) script ≡ wholeText (refusal 2 0 0) other
+refused-whole : (script other : List ℕ) → wholeText (fileRefused 2 0 0) script ≡ wholeText (fileRefused 2 0 0) other
 unfolding wholeText
 refused-whole script other = refl
 
@@ -173,21 +173,21 @@ rig-only input e =
     ∙ (λ i. wholeText (readOf (sym t i)) (sym d i))
 
 opening-all : (bytes text : List ℕ) (from : ℕ) → Goes text from → all (opening text from) bytes ≡ morningText (text ++ bytes)
-unfolding last
+unfolding lastSaid
 opening-all bytes text from g = go (scanned text from bytes) refl
   where
     go : (o : Scanned) → scanned text from bytes ≡ o → all (opening text from) bytes ≡ morningText (text ++ bytes)
     go (waits t f) e =
         let w = opening-waits bytes text from t f e in
         let v = scan-waits bytes text from g t f e in
-        (λ i. w .0 i ++ last (w .1 i)) ∙ rig-only t (goes-all t f (v .0)) ∙ ap morningText (v .1)
+        (λ i. w .0 i ++ lastSaid (w .1 i)) ∙ rig-only t (goes-all t f (v .0)) ∙ ap morningText (v .1)
     go (opens rig rest) e =
         let w = opening-opens bytes text from rig rest e in
         let p : Parts (text ++ (bytes ++ [])) rig (rest ++ []) = scan-parts bytes text from g rig rest e [] in
         let q : Parts (text ++ bytes) rig rest =
         subst (λ (l : List ℕ). Parts (text ++ bytes) rig l) (append-nil rest) (subst (λ (l : List ℕ). Parts (text ++ l) rig (rest ++ [])) (append-nil bytes) p) in
-        (λ i. w .0 i ++ last (w .1 i))
-        ∙ append-assoc (startText (readOf rig)) (said (started (readOf rig)) rest) (last (after (started (readOf rig)) rest))
+        (λ i. w .0 i ++ lastSaid (w .1 i))
+        ∙ append-assoc (startText (readOf rig)) (said (deskStarted (readOf rig)) rest) (lastSaid (deskAfter (deskStarted (readOf rig)) rest))
         ∙ started-all (readOf rig) rest ∙ parts-whole (text ++ bytes) rig rest q
 
 pub whole-morning : (input : List ℕ) → all begun input ≡ morningText input

@@ -16,7 +16,7 @@ use Rattle.bench_script.specs.Wrote.{Wrote}
 use Rattle.bench_script.specs.Laws.Wrote.{wrote-same}
 use Rattle.bench_input.specs.Opening.{full}
 use Rattle.bench_morning.specs.Morning.{morningText}
-use Rattle.bench_morning.specs.Desk.{Desk, begun, after, said, last}
+use Rattle.bench_morning.specs.Desk.{Desk, begun, deskAfter, said, lastSaid}
 use Rattle.bench_morning.specs.Laws.Desk.{after-append, said-append}
 use Rattle.bench_morning.specs.Laws.Whole.{whole-morning}
 use Rattle.bench_morning.specs.Stream.{deskOf, HoldsIn, beginning}
@@ -34,7 +34,7 @@ pub data Run : List ℕ → List ℕ → Stream → List ℕ → Type 0 where
 
 -- what holds of a stream after any run
 pub record Streams (read written : List ℕ) (s : Stream) (keep : List ℕ) : Type 0 where
-  pub desk : deskOf s keep ≡ after begun read
+  pub desk : deskOf s keep ≡ deskAfter begun read
   pub text : written ≡ said begun read
   pub holds : HoldsIn s (length keep)
 
@@ -46,7 +46,7 @@ wrote-front out t m n w =
     ap (take n) (w .text) ∙ take-at t _ n p
 
 streams-begin : (keep : List ℕ) → full ≤ length keep → Streams [] [] beginning keep
-unfolding after said
+unfolding deskAfter said
 streams-begin keep h = record { desk = refl; text = refl; holds = (h, omega arith, omega arith) }
 
 streams-feed : (read written : List ℕ) (s : Stream) (keep : List ℕ) → Streams read written s keep
@@ -57,7 +57,7 @@ streams-feed read written s keep w piece out r kept front f =
     (λ p. let m = p .1 in
     let t = take (r .took) piece in
     record {
-      desk = m .desk ∙ ap (λ (d : Desk). after d t) (w .desk) ∙ sym (after-append begun read t);
+      desk = m .desk ∙ ap (λ (d : Desk). deskAfter d t) (w .desk) ∙ sym (after-append begun read t);
       text =
           (λ i. w .text i ++ wrote-front out (said (deskOf s keep) t) front (r .wrote) (m .wrote) i)
           ∙ ap (λ (d : Desk). said begun read ++ said d t) (w .desk) ∙ sym (said-append begun read t);
@@ -85,20 +85,20 @@ pub ended-whole : (read written : List ℕ) (s : Stream) (keep : List ℕ) → R
 ended-whole read written s keep u out n front h e =
     let w = run-streams read written s keep u in
     ⊎-elim
-    (λ p. (λ i. w .text i ++ wrote-front out (last (deskOf s keep)) front n (p .1) i)
-    ∙ ap (λ (d : Desk). said begun read ++ last d) (w .desk) ∙ whole-morning read)
+    (λ p. (λ i. w .text i ++ wrote-front out (lastSaid (deskOf s keep)) front n (p .1) i)
+    ∙ ap (λ (d : Desk). said begun read ++ lastSaid d) (w .desk) ∙ whole-morning read)
     (λ p. absurd (p .0 (record { room = h; holds = w .holds })))
     (e .is)
 
 -- and before it: what was written begins the morning, however the input goes on
 pub so-far : (read written : List ℕ) (s : Stream) (keep : List ℕ) → Run read written s keep
-    → (rest : List ℕ) → morningText (read ++ rest) ≡ written ++ (said (deskOf s keep) rest ++ last (after (deskOf s keep) rest))
+    → (rest : List ℕ) → morningText (read ++ rest) ≡ written ++ (said (deskOf s keep) rest ++ lastSaid (deskAfter (deskOf s keep) rest))
 so-far read written s keep u rest =
     let w = run-streams read written s keep u in
     sym (whole-morning (read ++ rest))
-    ∙ (λ i. said-append begun read rest i ++ last (after-append begun read rest i))
-    ∙ append-assoc (said begun read) (said (after begun read) rest) (last (after (after begun read) rest))
-    ∙ (λ i. sym (w .text) i ++ (said (sym (w .desk) i) rest ++ last (after (sym (w .desk) i) rest)))
+    ∙ (λ i. said-append begun read rest i ++ lastSaid (after-append begun read rest i))
+    ∙ append-assoc (said begun read) (said (deskAfter begun read) rest) (lastSaid (deskAfter (deskAfter begun read) rest))
+    ∙ (λ i. sym (w .text) i ++ (said (sym (w .desk) i) rest ++ lastSaid (deskAfter (sym (w .desk) i) rest)))
 
 -- TWO WAYS OF CUTTING the same bytes write the same
 pub same-output : (read a b : List ℕ) (s t : Stream) (keep kept : List ℕ) → Run read a s keep → Run read b t kept → a ≡ b
@@ -152,7 +152,7 @@ feeds-same s keep piece out r q kept front other back f g =
       took = t;
       wrote = w .1;
       output = w .0;
-      desk = m .desk ∙ ap (λ (k : ℕ). after d (take k piece)) t ∙ sym (n .desk);
+      desk = m .desk ∙ ap (λ (k : ℕ). deskAfter d (take k piece)) t ∙ sym (n .desk);
     })
     (λ y. absurd (y .0 (x .0))) (g .is))
     (λ x. ⊎-elim
@@ -171,6 +171,6 @@ pub ends-same : (s : Stream) (keep out : List ℕ) (n m : ℕ) (front back : Lis
     → Ends s keep out n front → Ends s keep out m back → (n ≡ m) × (front ≡ back)
 ends-same s keep out n m front back f g =
     ⊎-elim
-    (λ x. ⊎-elim (λ y. let w = wrote-same out 0 (last (deskOf s keep)) front back n m (x .1) (y .1) in (w .1, w .0)) (λ y. absurd (y .0 (x .0))) (g .is))
+    (λ x. ⊎-elim (λ y. let w = wrote-same out 0 (lastSaid (deskOf s keep)) front back n m (x .1) (y .1) in (w .1, w .0)) (λ y. absurd (y .0 (x .0))) (g .is))
     (λ x. ⊎-elim (λ y. absurd (x .0 (y .0))) (λ y. (x .1 ∙ sym (y .1), x .2 ∙ sym (y .2))) (g .is))
     (f .is)

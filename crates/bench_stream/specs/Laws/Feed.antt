@@ -15,7 +15,7 @@ use Rattle.bench_script.specs.Laws.Wrote.{wrote-then, wrote-as, wrote-none, wro
 use Rattle.rig_build.specs.Read.{readOf}
 use Rattle.bench_input.specs.Line.{lastText}
 use Rattle.bench_morning.specs.Morning.{startText}
-use Rattle.bench_morning.specs.Desk.{Desk, over, after, said, last}
+use Rattle.bench_morning.specs.Desk.{Desk, over, deskAfter, said, lastSaid}
 use Rattle.bench_morning.specs.Laws.Desk.{after-append, said-append, over-after, over-said}
 use Rattle.bench_morning.specs.Stream.{deskBy, deskOf, HoldsBy}
 use Rattle.bench_stream.specs.Feeding.{Moves}
@@ -63,10 +63,10 @@ module _ (s : Stream) (keep piece out : List ℕ) (room : turnRoom ≤ length ou
   past : (n : ℕ) → take (o .took + n) piece ≡ take (o .took) piece ++ take n (drop (o .took) piece)
   past n = take-add (o .took) n piece
 
-  past-desk : (n : ℕ) → after (deskOf s keep) (take (o .took + n) piece) ≡ after (deskOf (o .stream) kept) (take n (drop (o .took) piece))
+  past-desk : (n : ℕ) → deskAfter (deskOf s keep) (take (o .took + n) piece) ≡ deskAfter (deskOf (o .stream) kept) (take n (drop (o .took) piece))
   past-desk n =
-      ap (after (deskOf s keep)) (past n) ∙ after-append (deskOf s keep) (take (o .took) piece) (take n (drop (o .took) piece))
-      ∙ ap (λ (d : Desk). after d (take n (drop (o .took) piece))) (sym (w .desk))
+      ap (deskAfter (deskOf s keep)) (past n) ∙ after-append (deskOf s keep) (take (o .took) piece) (take n (drop (o .took) piece))
+      ∙ ap (λ (d : Desk). deskAfter d (take n (drop (o .took) piece))) (sym (w .desk))
 
   past-text : (n : ℕ) → said (deskOf s keep) (take (o .took + n) piece)
       ≡ said (deskOf s keep) (take (o .took) piece) ++ said (deskOf (o .stream) kept) (take n (drop (o .took) piece))
@@ -119,7 +119,7 @@ module _ (s : Stream) (keep piece out : List ℕ) (room : turnRoom ≤ length ou
         let k = w .took in
         let l = u .took in
         record {
-          desk = line-there ∙ u .desk ∙ ap (λ (d : Desk). after d bytes) (sym line-here) ∙ sym (past-desk (t .took));
+          desk = line-there ∙ u .desk ∙ ap (λ (d : Desk). deskAfter d bytes) (sym line-here) ∙ sym (past-desk (t .took));
           wrote =
               wrote-as out written (said (deskOf s keep) (take (o .took) piece) ++ text) (said (deskOf s keep) (take (o .took + t .took) piece)) 0 (t .wrote)
               (sym (past-text (t .took)))
@@ -152,7 +152,7 @@ module _ (s : Stream) (keep piece out : List ℕ) (room : turnRoom ≤ length ou
         record {
           desk =
               over-here
-              ∙ sym (ap (λ (m : ℕ). after (deskOf s keep) (take m piece)) q ∙ past-desk n ∙ ap (λ (d : Desk). after d (take n (drop (o .took) piece))) over-here ∙ over-after (take n (drop (o .took) piece)));
+              ∙ sym (ap (λ (m : ℕ). deskAfter (deskOf s keep) (take m piece)) q ∙ past-desk n ∙ ap (λ (d : Desk). deskAfter d (take n (drop (o .took) piece))) over-here ∙ over-after (take n (drop (o .took) piece)));
           wrote =
               wrote-as out mid (said (deskOf s keep) (take (o .took) piece)) (said (deskOf s keep) (take (length piece) piece)) 0 (o .wrote)
               (sym (ap (λ (m : ℕ). said (deskOf s keep) (take m piece)) q ∙ past-text n
@@ -171,18 +171,18 @@ module _ (s : Stream) (keep piece out : List ℕ) (room : turnRoom ≤ length ou
 
 module _ (s : Stream) (keep out : List ℕ) where
   pub end-opening : s .phase ≡ P.Opening → (r : Line.Started) (written : List ℕ) → Begins (take (s .at) keep) out r written
-      → Wrote out 0 (last (deskOf s keep)) written (r .wrote)
-  unfolding last
+      → Wrote out 0 (lastSaid (deskOf s keep)) written (r .wrote)
+  unfolding lastSaid
   end-opening p r written w =
-      wrote-as out written (startText (readOf (take (s .at) keep))) (last (deskOf s keep)) 0 (r .wrote)
-      (sym (ap (λ (x : Phase). last (deskBy x s keep)) p)) (w .wrote)
+      wrote-as out written (startText (readOf (take (s .at) keep))) (lastSaid (deskOf s keep)) 0 (r .wrote)
+      (sym (ap (λ (x : Phase). lastSaid (deskBy x s keep)) p)) (w .wrote)
 
   pub end-talking : s .phase ≡ P.Talking → (n : ℕ) (written : List ℕ) → Wrote out 0 (lastText (take (s .held) (s .line))) written n
-      → Wrote out 0 (last (deskOf s keep)) written n
-  unfolding last
+      → Wrote out 0 (lastSaid (deskOf s keep)) written n
+  unfolding lastSaid
   end-talking p n written w =
-      wrote-as out written (lastText (take (s .held) (s .line))) (last (deskOf s keep)) 0 n (sym (ap (λ (x : Phase). last (deskBy x s keep)) p)) w
+      wrote-as out written (lastText (take (s .held) (s .line))) (lastSaid (deskOf s keep)) 0 n (sym (ap (λ (x : Phase). lastSaid (deskBy x s keep)) p)) w
 
-  pub end-over : s .phase ≡ P.Over → Wrote out 0 (last (deskOf s keep)) out 0
-  unfolding last
-  end-over p = wrote-as out out [] (last (deskOf s keep)) 0 0 (sym (ap (λ (x : Phase). last (deskBy x s keep)) p)) (wrote-none out 0)
+  pub end-over : s .phase ≡ P.Over → Wrote out 0 (lastSaid (deskOf s keep)) out 0
+  unfolding lastSaid
+  end-over p = wrote-as out out [] (lastSaid (deskOf s keep)) 0 0 (sym (ap (λ (x : Phase). lastSaid (deskBy x s keep)) p)) (wrote-none out 0)

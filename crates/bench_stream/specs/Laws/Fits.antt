@@ -11,7 +11,7 @@ use Rattle.laws.specs.Cases.{by}
 use Rattle.bench_script.specs.Output.{turnRoom}
 use Rattle.bench_script.specs.Wrote.{Wrote}
 use Rattle.bench_script.specs.Laws.Wrote.{wrote-fits}
-use Rattle.bench_morning.specs.Desk.{said, last}
+use Rattle.bench_morning.specs.Desk.{said, lastSaid}
 use Rattle.bench_morning.specs.Stream.{deskOf, HoldsIn}
 use Rattle.bench_stream.specs.Feeding.{Ready, Moves, Feeds, Ends}
 use Rattle.bench_morning.specs.declared.Stream.{Stream}
@@ -34,7 +34,7 @@ feeds-fit s keep piece out r kept written f =
 pub ends-fit : (s : Stream) (keep out : List ℕ) (n : ℕ) (written : List ℕ) → Ends s keep out n written → (n ≤ length out) × (length written ≡ length out)
 ends-fit s keep out n written f =
     ⊎-elim
-    (λ p. (front-fits out (last (deskOf s keep)) written n (p .1), p .1 .size))
+    (λ p. (front-fits out (lastSaid (deskOf s keep)) written n (p .1), p .1 .size))
     (λ p. (let e = p .1 in omega arith, ap length (p .2)))
     (f .is)
 

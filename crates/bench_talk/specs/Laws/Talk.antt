@@ -9,7 +9,7 @@ use borrow.Author.Tests.{eqb-true, eqb-false, eq-eqb, ne-eqb}
 use Rattle.laws.specs.Cases.{by, if-yes, if-no}
 use Rattle.rules.specs.Rig as G
 use Rattle.rules.specs.State as S
-use Rattle.exec.specs.Sound.{rigIn, view, Sound}
+use Rattle.exec.specs.Sound.{rigIn, view, SoundRecord}
 use Rattle.exec.specs.Call.{withState}
 use Rattle.exec.specs.declared.Exec.{Exec}
 use Rattle.bench_script.specs.Letters.{lf}
@@ -20,7 +20,7 @@ use Rattle.bench_input.specs.Line.{lineRoom, withMore, Holds}
 use Rattle.bench_turn.specs.Turn.{turnText, turnNext, Turns}
 use Rattle.bench_turn.specs.Laws.Ruled.{turn-ruled}
 use Rattle.bench_turn.specs.declared.Turn.{Turn}
-use Rattle.bench_morning.specs.Desk.{Desk, talking, next, says, after, said}
+use Rattle.bench_morning.specs.Desk.{Desk, talking, next, says, deskAfter, said}
 use Rattle.bench_morning.specs.Laws.Desk.{after-more, said-more}
 
 -- a record with a line so far
@@ -49,18 +49,18 @@ byte-says r s line b n = if-no (turnText r s line) (ne-eqb b lf n) refl
 
 -- d is where the piece began
 pub record Talking (d : Desk) (piece out : List ℕ) (place : ℕ) (now : List ℕ) (e : Exec) (line : List ℕ) (held at i : ℕ) : Type 0 where
-  pub desk : at-line e (take held line) ≡ after d (take i piece)
+  pub desk : at-line e (take held line) ≡ deskAfter d (take i piece)
   pub wrote : Wrote out place (said d (take i piece)) now at
   pub roomy : (k : ℕ) → k < i → place + length (said d (take k piece)) + turnRoom ≤ length out
   pub inside : i ≤ length piece
   pub high : held ≤ lineRoom
   pub size : length line ≡ lineRoom
-  pub sound : Sound e
+  pub sound : SoundRecord e
   pub room : place ≤ length out
 
-pub talking-start : (e : Exec) (line : List ℕ) (held : ℕ) (piece out : List ℕ) (place : ℕ) → held ≤ lineRoom → length line ≡ lineRoom → Sound e → place ≤ length out
+pub talking-start : (e : Exec) (line : List ℕ) (held : ℕ) (piece out : List ℕ) (place : ℕ) → held ≤ lineRoom → length line ≡ lineRoom → SoundRecord e → place ≤ length out
     → Talking (at-line e (take held line)) piece out place out e line held place 0
-unfolding after said
+unfolding deskAfter said
 talking-start e line held piece out place h k s p =
     record {
       desk = refl;
@@ -91,7 +91,7 @@ module _ (d : Desk) (piece out : List ℕ) (place : ℕ) (now : List ℕ) (e : E
         omega arith)
         (λ t. w .roomy k (let n = eqb-false k i t in omega arith))
 
-    desk-more : after d (take (i + 1) piece) ≡ next (at-line e (take held line)) (getD piece i 0)
+    desk-more : deskAfter d (take (i + 1) piece) ≡ next (at-line e (take held line)) (getD piece i 0)
     desk-more = after-more d piece i h ∙ ap (λ (x : Desk). next x (getD piece i 0)) (sym (w .desk))
 
     text-more : said d (take (i + 1) piece) ≡ said d (take i piece) ++ says (at-line e (take held line)) (getD piece i 0)

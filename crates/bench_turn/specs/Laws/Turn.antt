@@ -10,7 +10,7 @@ use lib.ListN.{length, take, replicate, length-take, set}
 use lib.Seq.{take-all}
 use borrow.Author.Tests.{eq-eqb, ne-eqb, leb-true, leb-false}
 use Rattle.laws.specs.Cases.{by, if-yes, if-no}
-use Rattle.exec.specs.Call.{bit, reportOf, answerOf, Proper, refuse, Meets}
+use Rattle.exec.specs.Call.{bit, reportOf, answerOf, ProperAnswer, refuse, Meets}
 use Rattle.exec.specs.Call.{withState}
 use Rattle.exec_refusals.specs.Numbers.{notSound}
 use Rattle.exec.specs.declared.Exec.{Exec}
@@ -25,7 +25,7 @@ use Rattle.bench_script.specs.Laws.Wrote.{wrote-then, wrote-as, wrote-none, byt
 use Rattle.bench_script.specs.Laws.Written.{fields-none, fields-append, fields-length}
 use Rattle.bench_script.specs.declared.Said.{Said}
 use Rattle.bench_script.specs.declared.Said.the-variants.{Schedule, Cancel, Terminate, Finish, Tick, Until, Cycles, Latched, Unlatched, Signal, Ask, Wrong}
-use Rattle.bench_turn.specs.Turn.{letterOf, tickWords, extraRoom, askedBy, extra, numbersOf, textOf, answerText, Answered, Takes}
+use Rattle.bench_turn.specs.Turn.{letterOf, wordsLent, extraRoom, askedBy, extra, numbersOf, textOf, answerText, Answered, Takes}
 use Rattle.rules.specs.Calls as R
 
 -- "any other script line is refused by 1"
@@ -86,14 +86,14 @@ module _ (e : Exec) (s : Step) (ws out : List ℕ) (at p : ℕ) (after : List �
             (text-other verb (answerOf (s .answer)) (s .exec .st .count) (s .exec .st .running) ws [] n) w;
       }
 
-  pub answered : (said : Said) → letterOf said ≢ question → Made e said (replicate tickWords 0) s ws → Wrote out at (answerText (letterOf said) s ws) after p
+  pub answered : (said : Said) → letterOf said ≢ question → Made e said (replicate wordsLent 0) s ws → Wrote out at (answerText (letterOf said) s ws) after p
       → Takes e (letterOf said) (askedBy said) out at (record { st = s .exec .st; at = p }) after
   unfolding askedBy
   answered (Schedule t) n m w = lending-none 83 (R.schedule t) (λ q. omega arith) m w
   answered (Cancel t) n m w = lending-none 88 (R.cancel t) (λ q. omega arith) m w
   answered (Terminate t) n m w = lending-none 90 (R.terminate t) (λ q. omega arith) m w
   answered Finish n m w = lending-none 70 R.finish (λ q. omega arith) m w
-  answered Tick n m w = record { step = s; words = ws; meets = m; exec = kept e (R.tick (replicate tickWords 0)) s ws m; wrote = w }
+  answered Tick n m w = record { step = s; words = ws; meets = m; exec = kept e (R.tick (replicate wordsLent 0)) s ws m; wrote = w }
   answered (Until t) n m w = lending-none 85 (R.waitUntil t) (λ q. omega arith) m w
   answered (Cycles k) n m w = lending-none 82 (R.waitFor k) (λ q. omega arith) m w
   answered (Latched f v) n m w = lending-none 76 (R.latched f (bit v)) (λ q. omega arith) m w
@@ -153,7 +153,7 @@ extra-nothing verb report ws l at n e =
     (sym (ap fieldsText (if-no _ (ne-eqb verb tickVerb n) (if-no _ (ne-eqb verb askVerb e) refl)) ∙ fields-none)) (wrote-none l at)
 
 -- how long an extra is
-pub extra-length : (verb : ℕ) (report : R.Report) (ws : List ℕ) → length ws ≤ tickWords → length (fieldsText (extra verb report ws)) ≤ extraRoom
+pub extra-length : (verb : ℕ) (report : R.Report) (ws : List ℕ) → length ws ≤ wordsLent → length (fieldsText (extra verb report ws)) ≤ extraRoom
 unfolding extra
 extra-length verb report ws h =
     by (eqb verb tickVerb)
@@ -164,24 +164,24 @@ extra-length verb report ws h =
     (λ d. rw d (let f : length (fieldsText []) ≡ 0 = ap length fields-none in omega arith))))
 
 -- the number of a refused answer is not that of an accepted one
-refused-code : (a : Answer) (k : ℕ) → a ≡ Refused k → Proper a → answerOf a .code ≢ 0
+refused-code : (a : Answer) (k : ℕ) → a ≡ Refused k → ProperAnswer a → answerOf a .code ≢ 0
 refused-code (Accepted p) k e z q = let y : _≡_ {A = ℕ} 0 1 = cc in absurd (omega (arith, y))
 refused-code (Refused n) k e z q = z q
 
 -- an answer of a refusal's number is proper
-number-proper : (a : Answer) (n : ℕ) → answerOf a .code ≡ n → n ≢ 0 → Proper a
+number-proper : (a : Answer) (n : ℕ) → answerOf a .code ≡ n → n ≢ 0 → ProperAnswer a
 number-proper (Accepted p) n e z = tt
 number-proper (Refused m) n e z = λ q. z (sym e ∙ q)
 
 -- what a call that was made answers is proper
-meets-proper : (e : Exec) (k : R.Call) (s : Step) (ws : List ℕ) → Meets e k s ws → Proper (s .answer)
+meets-proper : (e : Exec) (k : R.Call) (s : Step) (ws : List ℕ) → Meets e k s ws → ProperAnswer (s .answer)
 meets-proper e k s ws m =
     ⊎-elim
     (λ w. w .1 .proper)
     (λ w. number-proper (s .answer) notSound (ap (λ (a : R.Answer). a .code) (w .1 .answer)) (λ q. omega (arith, q)))
     (m .is)
 
-pub made-proper : (e : Exec) (said : Said) (ws : List ℕ) (s : Step) (vs : List ℕ) → Made e said ws s vs → Proper (s .answer)
+pub made-proper : (e : Exec) (said : Said) (ws : List ℕ) (s : Step) (vs : List ℕ) → Made e said ws s vs → ProperAnswer (s .answer)
 made-proper e (Schedule t) ws s vs m = meets-proper e (R.schedule t) s [] m
 made-proper e (Cancel t) ws s vs m = meets-proper e (R.cancel t) s [] m
 made-proper e (Terminate t) ws s vs m = meets-proper e (R.terminate t) s [] m
@@ -193,14 +193,14 @@ made-proper e (Latched f v) ws s vs m = meets-proper e (R.latched f (bit v)) s [
 made-proper e (Unlatched f v) ws s vs m = meets-proper e (R.unlatched f (bit v)) s [] m
 made-proper e (Signal f v) ws s vs m = meets-proper e (R.signal f (bit v)) s [] m
 made-proper e (Ask f) ws s vs m = meets-proper e (R.readFlag f) s [] m
-made-proper e Wrong ws s vs m = subst (λ (x : Step). Proper (x .answer)) (sym m) (λ q. omega (arith, q))
+made-proper e Wrong ws s vs m = subst (λ (x : Step). ProperAnswer (x .answer)) (sym m) (λ q. omega (arith, q))
 
 -- ---- an answer's line: the verb, three numbers, the extra, LF
 
 abbrev pub headOf : Answer → ℕ → ℕ → List ℕ
 headOf a count running = answerOf a .code ∷ count ∷ running ∷ []
 
-module _ (verb : ℕ) (a : Answer) (count running : ℕ) (ws out : List ℕ) (at : ℕ) (h : length ws ≤ tickWords) (room-left : at + turnRoom ≤ length out) where
+module _ (verb : ℕ) (a : Answer) (count running : ℕ) (ws out : List ℕ) (at : ℕ) (h : length ws ≤ wordsLent) (room-left : at + turnRoom ≤ length out) where
   head : List ℕ
   head = (verb ∷ []) ++ fieldsText (headOf a count running)
 
@@ -231,7 +231,7 @@ module _ (verb : ℕ) (a : Answer) (count running : ℕ) (ws out : List ℕ) (at
         ∙ sym (ap (λ (y : List ℕ). lineText (verb ∷ []) (answerOf a .code ∷ count ∷ running ∷ y)) e)
 
     -- refused
-    pub shown-refused : (k : ℕ) → a ≡ Refused k → Proper a → Wrote out at (textOf verb (answerOf a) count running ws) (set m p lf) (p + 1)
+    pub shown-refused : (k : ℕ) → a ≡ Refused k → ProperAnswer a → Wrote out at (textOf verb (answerOf a) count running ws) (set m p lf) (p + 1)
     unfolding head
     shown-refused k e z =
         let f = fields-length (headOf a count running) in

@@ -10,7 +10,7 @@ use Rattle.laws.specs.Members.{In, Distinct, without}
 use Rattle.laws.specs.Laws.Members.{in-left, in-right, in-cases, in-split, without-mid, in-mid, out-mid, apart-left, distinct-right, distinct-left, distinct-mid, distinct-apart}
 use Rattle.chains.specs.Link.{Linked, Chain, last, first, rest}
 use Rattle.chains.specs.Laws.Link.{in-last, linked-split, linked-join, seam-out, seam-in, distinct}
-use Rattle.chains.specs.Chains.{Chains}
+use Rattle.chains.specs.Chains.{LinkedChains}
 
 -- Stores that touch nothing of a linked stretch but its end's next, or its start's previous, leave it linked.
 module _ (N P N′ P′ : ℕ → ℕ) where
@@ -122,7 +122,7 @@ at-place N P s xs ys l =
     let q = seam-out N P (last s xs) ys s (h .1) in
     (q .0, q .1)
 
-module _ (T M : ℕ) (N P O : ℕ → ℕ) (X : ℕ → List ℕ) (ch : Chains T M N P O X) where
+module _ (T M : ℕ) (N P O : ℕ → ℕ) (X : ℕ → List ℕ) (ch : LinkedChains T M N P O X) where
   pub anchor-out : (s : ℕ) → T < s → s < M → In s (X s) → ⊥
   anchor-out s l h i = omega (arith, ch .own s l h s i .1)
 
@@ -200,7 +200,7 @@ module _ (T M : ℕ) (N P O : ℕ → ℕ) (X : ℕ → List ℕ) (ch : Chains T
   -- x, a task in no chain, is put between two parts of the chain of s
   module _ (s : ℕ) (ls : T < s) (hs : s < M) (x : ℕ) (x0 : 0 < x) (xT : x ≤ T) (xs ys : List ℕ) where
     pub insert : O x ≡ 0 → X s ≡ xs ++ ys
-        → Chains T M (upd (upd N (last s xs) x) x (first ys s)) (upd (upd P (first ys s) x) x (last s xs)) (upd O x s) (upd X s (xs ++ x ∷ ys))
+        → LinkedChains T M (upd (upd N (last s xs) x) x (first ys s)) (upd (upd P (first ys s) x) x (last s xs)) (upd O x s) (upd X s (xs ++ x ∷ ys))
     insert o e =
         record {
           link = λ d ld hd.
@@ -257,7 +257,7 @@ module _ (T M : ℕ) (N P O : ℕ → ℕ) (X : ℕ → List ℕ) (ch : Chains T
   -- x leaves its chain, whose anchor is O x, by its own links
   module _ (x : ℕ) (x0 : 0 < x) (xT : x ≤ T) (ls : T < O x) (hs : O x < M) (xs ys : List ℕ) where
     remove-split : X (O x) ≡ xs ++ x ∷ ys
-        → Chains T M (upd (upd N (last (O x) xs) (first ys (O x))) x 0) (upd (upd P (first ys (O x)) (last (O x) xs)) x 0) (upd O x 0) (upd X (O x) (xs ++ ys))
+        → LinkedChains T M (upd (upd N (last (O x) xs) (first ys (O x))) x 0) (upd (upd P (first ys (O x)) (last (O x) xs)) x 0) (upd O x 0) (upd X (O x) (xs ++ ys))
     remove-split e =
         record {
           link = λ d ld hd.
@@ -326,7 +326,7 @@ module _ (T M : ℕ) (N P O : ℕ → ℕ) (X : ℕ → List ℕ) (ch : Chains T
 
     -- the same with the links read at x
     remove-at : X (O x) ≡ xs ++ x ∷ ys
-        → Chains T M (upd (upd N (P x) (N x)) x 0) (upd (upd P (N x) (P x)) x 0) (upd O x 0) (upd X (O x) (without x (X (O x))))
+        → LinkedChains T M (upd (upd N (P x) (N x)) x 0) (upd (upd P (N x) (P x)) x 0) (upd O x 0) (upd X (O x) (without x (X (O x))))
     remove-at e =
         let l : Chain N P (O x) (xs ++ x ∷ ys) = rw e at (ch .link (O x) ls hs) in
         let d : Distinct (xs ++ x ∷ ys) = rw e at (nodes-distinct (O x) ls hs .1) in
@@ -337,7 +337,7 @@ module _ (T M : ℕ) (N P O : ℕ → ℕ) (X : ℕ → List ℕ) (ch : Chains T
 
   -- x, a task in a chain, leaves it: the code's stores, and the chain without x
   pub remove : (x : ℕ) → 0 < x → x ≤ T → O x ≢ 0
-      → Chains T M (upd (upd N (P x) (N x)) x 0) (upd (upd P (N x) (P x)) x 0) (upd O x 0) (upd X (O x) (without x (X (O x))))
+      → LinkedChains T M (upd (upd N (P x) (N x)) x 0) (upd (upd P (N x) (P x)) x 0) (upd O x 0) (upd X (O x) (without x (X (O x))))
   remove x x0 xT n =
       ⊎-elim (λ k. absurd (n (k .0)))
       (λ k. let h = in-split x (X (O x)) (k .2) in remove-at x x0 xT (k .0) (k .1) (h .0) (h .1) (h .2))

@@ -13,7 +13,7 @@ use Rattle.laws.specs.Functions.{upd}
 use Rattle.laws.specs.Laws.Functions.{upd-same, on-upd}
 use Rattle.laws.specs.Members.{In}
 use Rattle.chains.specs.Link.{Linked}
-use Rattle.chains.specs.Chains.{Chains}
+use Rattle.chains.specs.Chains.{LinkedChains}
 use Rattle.chains.specs.Ops.{walk}
 use Rattle.chains.specs.Laws.Ops.{short, forward}
 
@@ -109,7 +109,7 @@ module _ (T M : ℕ) (N P O : ℕ → ℕ) where
     pub ring : (s : ℕ) → T < s → s < M → ringb N P O T s T s ≡ true
     pub task : (a : ℕ) → a ≤ T → ((O a ≡ 0) × (N a ≡ 0) × (P a ≡ 0)) ⊎ ((s : ℕ) × (T < s) × (s < M) × In a (walk N T T s))
 
-  pub accepted-sound : Accepted → Chains T M N P O (walk N T T)
+  pub accepted-sound : Accepted → LinkedChains T M N P O (walk N T T)
   accepted-sound c =
       record {
         link = λ s ls hs. ring-sound N P O T s ls T s (c .ring s ls hs) .0;
@@ -122,7 +122,7 @@ module _ (T M : ℕ) (N P O : ℕ → ℕ) where
             (c .task a aT);
       }
 
-  pub sound-accepted : (X : ℕ → List ℕ) → Chains T M N P O X → Accepted
+  pub sound-accepted : (X : ℕ → List ℕ) → LinkedChains T M N P O X → Accepted
   sound-accepted X h =
       record {
         ring = λ s ls hs. ring-complete N P O T s ls T s (X s) (h .link s ls hs) (h .own s ls hs) (short T M N P O X h s ls hs);
@@ -130,7 +130,7 @@ module _ (T M : ℕ) (N P O : ℕ → ℕ) where
             ⊎-elim (λ k. inl k) (λ k. inr (O a, k .0, k .1, rw (forward T M N P O X h (O a) (k .0) (k .1)) (k .2))) (h .task a aT);
       }
 
-  pub equivalence : Accepted ↔ ((X : ℕ → List ℕ) × Chains T M N P O X)
+  pub equivalence : Accepted ↔ ((X : ℕ → List ℕ) × LinkedChains T M N P O X)
   equivalence = ((λ c. (walk N T T, accepted-sound c)), (λ h. sound-accepted (h .0) (h .1)))
 
 -- THE CHECK'S LOOPS. One step of a ring's walk:

@@ -14,11 +14,11 @@ use Rattle.laws.specs.Functions.{upd}
 use Rattle.laws.specs.Laws.Functions.{on-upd}
 use Rattle.laws.specs.Members.{In, without}
 use Rattle.laws.specs.Laws.Members.{in-left, in-right, in-cases}
-use Rattle.laws.specs.Order.{place}
+use Rattle.laws.specs.Order.{insertBy}
 use Rattle.laws.specs.Laws.Order.{place-split}
 use Rattle.chains.specs.Link.{Chain, last, first}
 use Rattle.chains.specs.Laws.Link.{in-last, linked-split}
-use Rattle.chains.specs.Chains.{Chains}
+use Rattle.chains.specs.Chains.{LinkedChains}
 use Rattle.chains.specs.Laws.Chains.{remove, task-below, anchor-below, insert, at-place, at-element}
 use Rattle.chains.specs.Ops.{walk}
 use Rattle.chains.specs.Laws.Ops.{walk-linked, short}
@@ -38,7 +38,7 @@ at-set2 l i v j w h k = at-set (set l i v) j w (rw length-set k) ∙ ap (λ (f :
 
 -- what the stores of `unlink` come to
 pub unlinked : (l : Links) → Sized l → (t : ℕ) → 0 < t → t ≤ 64 → (at (l .on) t ≡ 0 → ⊥) → (X : ℕ → List ℕ) → Held l X
-    → Chains 64 322
+    → LinkedChains 64 322
     (at (set (set (l .next) (at (l .prev) t) (at (l .next) t)) t 0))
     (at (set (set (l .prev) (at (l .next) t) (at (l .prev) t)) t 0))
     (at (set (l .on) t 0))
@@ -65,7 +65,7 @@ node-links l X h u u0 hu =
 -- what the stores of `link_after` come to
 pub linked-after : (l : Links) → Sized l → (s u t : ℕ) → Puts l s u t → (X : ℕ → List ℕ) → Held l X
     → (xs ys : List ℕ) → X s ≡ xs ++ ys → last s xs ≡ u
-    → Chains 64 322
+    → LinkedChains 64 322
     (at (set (set (l .next) u t) t (at (l .next) u)))
     (at (set (set (l .prev) (at (l .next) u) t) t u))
     (at (set (l .on) t s))
@@ -183,9 +183,9 @@ module _ (l : Links) (X : ℕ → List ℕ) (h : Held l X) (Q : ℕ → Type 0) 
 -- the place of t is found
 pub scan-done : (l : Links) (X : ℕ → List ℕ) (h : Held l X) (wake : List ℕ) (s t : ℕ) (ls : 64 < s) (hs : s < 322) (u v : ℕ)
     → (c : Scan (λ (a : ℕ). at wake a ≤ at wake t) s u v (X s)) → (v ≢ s → at wake t < at wake v)
-    → place (at wake) t (X s) ≡ c .front ++ t ∷ c .back
+    → insertBy (at wake) t (X s) ≡ c .front ++ t ∷ c .back
 scan-done l X h wake s t ls hs u v c w =
-    ap (place (at wake) t) (c .whole)
+    ap (insertBy (at wake) t) (c .whole)
     ∙ place-split (at wake) t (c .front) (c .back) (c .before)
     (λ y zs e.
     let f : y ≡ v = sym (ap (λ (q : List ℕ). first q s) e) ∙ c .then in

@@ -11,7 +11,7 @@ use Rattle.laws.specs.Members.{In}
 use Rattle.laws.specs.Laws.Members.{bound, in-reverse}
 use Rattle.chains.specs.Link.{Linked}
 use Rattle.chains.specs.Laws.Link.{backward}
-use Rattle.chains.specs.Chains.{Chains}
+use Rattle.chains.specs.Chains.{LinkedChains}
 use Rattle.chains.specs.Laws.Chains.{nodes-distinct}
 use Rattle.chains.specs.Ops.{walk}
 
@@ -27,7 +27,7 @@ walk-linked N P T s ls (suc n) u (x ∷ xs) own f l =
     (ap (λ (r : List ℕ). x ∷ r) (walk-linked N P T s ls n x xs (λ a i. own a (inr i)) (omega arith) (l .2)))
 
 -- THE READER'S STATEMENT: each chain, read forward from its anchor, is its list, and read backward is its list reversed
-module _ (T M : ℕ) (N P O : ℕ → ℕ) (X : ℕ → List ℕ) (ch : Chains T M N P O X) (s : ℕ) (ls : T < s) (hs : s < M) where
+module _ (T M : ℕ) (N P O : ℕ → ℕ) (X : ℕ → List ℕ) (ch : LinkedChains T M N P O X) (s : ℕ) (ls : T < s) (hs : s < M) where
   pub short : length (X s) ≤ T
   short = bound T (X s) (nodes-distinct T M N P O X ch s ls hs .1) (λ a i. let k = ch .own s ls hs a i in (k .0, k .1))
 

@@ -12,11 +12,11 @@ use Rattle.laws.specs.Functions.{upd}
 use Rattle.laws.specs.Laws.Functions.{upd-other}
 use Rattle.laws.specs.Members.{In, Distinct}
 use Rattle.chains.specs.Link.{Chain}
-use Rattle.chains.specs.Chains.{Chains}
+use Rattle.chains.specs.Chains.{LinkedChains}
 use Rattle.chains.specs.Laws.Chains.{nodes-distinct}
 use Rattle.chains.specs.Laws.Ops.{forward, reversed}
 use Rattle.chains.specs.Laws.Check.{accepted-sound, sound-accepted}
-use Rattle.chains.specs.Held.{at, Held, Sound}
+use Rattle.chains.specs.Held.{at, Held, HoldsChains}
 use Rattle.chains.specs.declared.Links.{Links}
 use Rattle.chains.specs.Read.{chainAt, backAt, chainsOf, inside, Only}
 
@@ -31,7 +31,7 @@ module _ (l : Links) (X : ℕ → List ℕ) (h : Held l X) (s : ℕ) (ls : 64 < 
   read-once = nodes-distinct 64 322 (at (l .next)) (at (l .prev)) (at (l .on)) X h s ls hs .1
 
 -- sound links hold the chains that one reads in them
-pub sound-held : (l : Links) → Sound l → Held l (chainAt l)
+pub sound-held : (l : Links) → HoldsChains l → Held l (chainAt l)
 sound-held l h =
     accepted-sound 64 322 (at (l .next)) (at (l .prev)) (at (l .on))
     (sound-accepted 64 322 (at (l .next)) (at (l .prev)) (at (l .on)) (h .0) (h .1))
@@ -65,7 +65,7 @@ held-chains l X h o =
     (λ e. rw e (sym (o s e)))
 
 -- chains that are the same at each anchor are held by the same links
-pub chains-ext : (T M : ℕ) (N P O : ℕ → ℕ) (X Y : ℕ → List ℕ) → Chains T M N P O X → ((s : ℕ) → T < s → s < M → X s ≡ Y s) → Chains T M N P O Y
+pub chains-ext : (T M : ℕ) (N P O : ℕ → ℕ) (X Y : ℕ → List ℕ) → LinkedChains T M N P O X → ((s : ℕ) → T < s → s < M → X s ≡ Y s) → LinkedChains T M N P O Y
 chains-ext T M N P O X Y h e =
     record {
       link = λ s a b. subst (λ (l : List ℕ). Chain N P s l) (e s a b) (h .link s a b);
@@ -78,10 +78,10 @@ unfolding chainsOf
 chains-at l s a b = rw (inside-is s a b)
 
 -- sound links hold the chains that they show
-pub sound-chains : (l : Links) → Sound l → Held l (chainsOf l)
+pub sound-chains : (l : Links) → HoldsChains l → Held l (chainsOf l)
 sound-chains l h =
     chains-ext 64 322 (at (l .next)) (at (l .prev)) (at (l .on)) (chainAt l) (chainsOf l) (sound-held l h) (λ s a b. sym (chains-at l s a b))
 
 -- a task that is in no chain names none
-pub idle-out : (l : Links) → Sound l → (t : ℕ) → t ≤ 64 → ((s : ℕ) → In t (chainsOf l s) → ⊥) → at (l .on) t ≡ 0
+pub idle-out : (l : Links) → HoldsChains l → (t : ℕ) → t ≤ 64 → ((s : ℕ) → In t (chainsOf l s) → ⊥) → at (l .on) t ≡ 0
 idle-out l h t b n = ⊎-elim (λ k. k .0) (λ k. absurd (n (at (l .on) t) (k .2))) (sound-chains l h .task t b)

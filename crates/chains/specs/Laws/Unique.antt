@@ -12,10 +12,10 @@ use Rattle.laws.specs.Laws.Members.{in-split}
 use Rattle.chains.specs.Link.{Chain}
 use Rattle.chains.specs.Held.{at, Held, Sized}
 use Rattle.chains.specs.declared.Links.{Links}
-use Rattle.chains.specs.Chains.{Chains}
+use Rattle.chains.specs.Chains.{LinkedChains}
 use Rattle.chains.specs.Laws.Chains.{at-place, at-element}
 
-module _ (T M : ℕ) (N P O N′ P′ O′ : ℕ → ℕ) (X : ℕ → List ℕ) (h : Chains T M N P O X) (h′ : Chains T M N′ P′ O′ X) where
+module _ (T M : ℕ) (N P O N′ P′ O′ : ℕ → ℕ) (X : ℕ → List ℕ) (h : LinkedChains T M N P O X) (h′ : LinkedChains T M N′ P′ O′ X) where
   pub anchors-same : (s : ℕ) → T < s → s < M → (N s ≡ N′ s) × (P s ≡ P′ s)
   anchors-same s ls hs =
       let l : Chain N P s (X s ++ []) = rw append-nil (h .link s ls hs) in

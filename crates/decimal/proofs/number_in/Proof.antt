@@ -4,13 +4,13 @@ use native.Mathlib.Omega.{arith}
 use mathlib.Core.Path.{_≡_, refl}
 use borrow.Author.Needs.{needs}
 use lib.ListN.{length, drop}
-use Rattle.decimal.specs.Decimal.{run, start}
+use Rattle.decimal.specs.Decimal.{readOn, unread}
 use Rattle.decimal.specs.Laws.{run-turn, run-ends}
 use Rattle.decimal.proofs.number_in.Statement.{statement}
 use Rattle.decimal.proofs.number_in.Tie as tie
 
 abbrev Inv-loop : tie.InvT-loop
-Inv-loop f m₀ i₀ m i = (i ≤ length f) × (run m (drop i f) ≡ run start f)
+Inv-loop f m₀ i₀ m i = (i ≤ length f) × (readOn m (drop i f) ≡ readOn unread f)
 
 abbrev μ-loop : tie.MeasureT-loop
 μ-loop f m₀ i₀ m i = length f - i

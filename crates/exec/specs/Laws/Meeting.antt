@@ -9,8 +9,8 @@ use Rattle.rules.specs.State as S
 use Rattle.rules.specs.Calls as R
 use Rattle.exec_outcome.specs.Outcome.{answerIn, refusedBy, Tells}
 use Rattle.exec_outcome.specs.declared.Outcome.{Outcome}
-use Rattle.exec.specs.Sound.{rigIn, view, Sound}
-use Rattle.exec.specs.Call.{Follows, Meets, Proper, answerOf, withState, refuse}
+use Rattle.exec.specs.Sound.{rigIn, view, SoundRecord}
+use Rattle.exec.specs.Call.{Follows, Meets, ProperAnswer, answerOf, withState, refuse}
 use Rattle.exec.specs.Laws.Made.{answerFrom, reportFrom, stepFrom}
 use Rattle.exec.specs.declared.Exec.{Exec}
 use Rattle.exec.specs.declared.Report.{Report}
@@ -44,7 +44,7 @@ answer-refused (suc n) p z = refl
 pub answer-accepted : (n : ℕ) (p : Report) → n ≡ 0 → Accepted p ≡ answerFrom n p
 answer-accepted n p z = sym (ap (λ (m : ℕ). answerFrom m p) z)
 
-pub proper-answer : (n : ℕ) (p : Report) → Proper (answerFrom n p)
+pub proper-answer : (n : ℕ) (p : Report) → ProperAnswer (answerFrom n p)
 proper-answer zero p = tt
 proper-answer (suc n) p = λ q. omega arith
 
@@ -79,7 +79,7 @@ module _ (x : Exec) (k : R.Call) where
       (t .is)
 
   -- a sound record that is refused by its table
-  pub refused : Sound x → (n : ℕ) → suc n ≡ R.refusal (rigIn x) (view x) k → Meets x k (refuse x (suc n)) (R.lent k)
+  pub refused : SoundRecord x → (n : ℕ) → suc n ≡ R.refusal (rigIn x) (view x) k → Meets x k (refuse x (suc n)) (R.lent k)
   unfolding R.step R.after
   refused h n e =
       record {

@@ -9,7 +9,7 @@ use Rattle.rules.specs.Rig as G
 use Rattle.rules.specs.State as S
 use Rattle.rules.specs.Calls as R
 use Rattle.rules_laws.specs.Refusals.{code-is}
-use Rattle.exec.specs.Sound.{rigIn, view, Sound}
+use Rattle.exec.specs.Sound.{rigIn, view, SoundRecord}
 use Rattle.exec.specs.Call.{Meets, answerOf, refuse}
 use Rattle.exec.specs.Laws.Unique.{meets-same}
 use Rattle.exec.specs.Laws.Meeting.{refused}
@@ -53,7 +53,7 @@ refusal-low r s k = decide-low (R.refusals r s k) (low r s k)
 
 module _ (x : Exec) (k : R.Call) (r : Step) (after : List ℕ) (m : Meets x k r after) where
   -- 12: "the record handed in is not sound", and for nothing else
-  pub twelve-exactly : (answerOf (r .answer) .code ≡ 12) ↔ (Sound x → ⊥)
+  pub twelve-exactly : (answerOf (r .answer) .code ≡ 12) ↔ (SoundRecord x → ⊥)
   twelve-exactly = (
     (λ e. ⊎-elim
         (λ p. absurd (omega (arith, e, ap (λ (a : R.Answer). a .code) (p .1 .answer), code-is (rigIn x) (view x) k, refusal-low (rigIn x) (view x) k)))
@@ -62,13 +62,13 @@ module _ (x : Exec) (k : R.Call) (r : Step) (after : List ℕ) (m : Meets x k r 
   )
 
   -- "A refused call returns the record unchanged and writes nothing"
-  pub refused-unchanged : Sound x → (n : ℕ) → R.refusal (rigIn x) (view x) k ≡ suc n → (r ≡ refuse x (suc n)) × (after ≡ R.lent k)
+  pub refused-unchanged : SoundRecord x → (n : ℕ) → R.refusal (rigIn x) (view x) k ≡ suc n → (r ≡ refuse x (suc n)) × (after ≡ R.lent k)
   refused-unchanged h n e =
       meets-same x k r (refuse x (suc n)) after (R.lent k) m
       (refused x k h n (sym e))
 
   -- "every call keeps it so"
-  pub stays-sound : Sound x → Sound (r .exec)
+  pub stays-sound : SoundRecord x → SoundRecord (r .exec)
   stays-sound h = ⊎-elim (λ p. p .1 .sound) (λ p. absurd (p .0 h)) (m .is)
 
   -- the rig and its cycles are what they were

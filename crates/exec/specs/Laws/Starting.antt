@@ -9,7 +9,7 @@ use Rattle.rig.specs.Forms.{cyclesOf}
 use Rattle.rig.specs.declared.Cycle.{Cycle}
 use Rattle.rig.specs.declared.Rig.{Rig}
 use Rattle.rules.specs.Calls as R
-use Rattle.exec.specs.Sound.{Sound}
+use Rattle.exec.specs.Sound.{SoundRecord}
 use Rattle.exec_refusals.specs.Numbers.{notSound}
 use Rattle.exec_outcome.specs.declared.Outcome.{Outcome}
 use Rattle.exec_tasks.specs.Laws.Starting.{Began, Begins}
@@ -39,7 +39,7 @@ starts-same g table r s a b =
     four w h = refuses-is noExec brokenRig (λ z. omega arith) w h
 
 -- "which every call refuses by 12"
-pub zeros-unsound : Sound noExec → ⊥
+pub zeros-unsound : SoundRecord noExec → ⊥
 zeros-unsound h = omega (arith, h .rig .task-count .0)
 
 pub zeros-refused : (k : R.Call) (r : Step) (after : List ℕ) → Meets noExec k r after → (r ≡ refuse noExec notSound) × (after ≡ R.lent k)

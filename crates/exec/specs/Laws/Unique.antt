@@ -15,8 +15,8 @@ use Rattle.rules.specs.Calls as R
 use Rattle.exec_state.specs.View.{viewOf}
 use Rattle.exec_state.specs.declared.State.{State}
 use Rattle.exec_refusals.specs.Numbers.{notSound}
-use Rattle.exec.specs.Sound.{view, Sound}
-use Rattle.exec.specs.Call.{Follows, Meets, Proper, Refuses, answerOf, refuse}
+use Rattle.exec.specs.Sound.{view, SoundRecord}
+use Rattle.exec.specs.Call.{Follows, Meets, ProperAnswer, Refuses, answerOf, refuse}
 use Rattle.exec.specs.declared.Exec.{Exec}
 use Rattle.exec.specs.declared.Report.{Report}
 use Rattle.exec.specs.declared.Step.{Step}
@@ -24,7 +24,7 @@ use Rattle.exec.specs.declared.Answer.{Answer}
 use Rattle.exec.specs.declared.Answer.the-variants.{Accepted, Refused}
 
 -- what a state shows fixes it
-pub state-same : (s t : State) → Sized (s .links) → Sized (t .links) → Links.Sound (s .links) → Links.Sound (t .links) → viewOf s ≡ viewOf t
+pub state-same : (s t : State) → Sized (s .links) → Sized (t .links) → Links.HoldsChains (s .links) → Links.HoldsChains (t .links) → viewOf s ≡ viewOf t
     → s ≡ t
 state-same s t y z a b e =
     let c : chainsOf (s .links) ≡ chainsOf (t .links) = ap (λ (v : S.State). v .chains) e in
@@ -42,7 +42,7 @@ state-same s t y z a b e =
     }
 
 -- so does what a sound record shows, with its rig and cycles
-pub record-same : (x y : Exec) → Sound x → Sound y → x .rig ≡ y .rig → x .cycles ≡ y .cycles → view x ≡ view y → x ≡ y
+pub record-same : (x y : Exec) → SoundRecord x → SoundRecord y → x .rig ≡ y .rig → x .cycles ≡ y .cycles → view x ≡ view y → x ≡ y
 record-same x y a b g c e =
     let s = state-same (x .st) (y .st) (a .sized) (b .sized) (a .links) (b .links) e in
     λ i. record { rig = g i; cycles = c i; st = s i }
@@ -52,7 +52,7 @@ report-same p q e =
     λ i. record { served = e i .report .served; words = e i .report .words; value = e i .report .value }
 
 -- an answer's number and values fix it
-pub answer-same : (a b : Answer) → Proper a → Proper b → answerOf a ≡ answerOf b → a ≡ b
+pub answer-same : (a b : Answer) → ProperAnswer a → ProperAnswer b → answerOf a ≡ answerOf b → a ≡ b
 answer-same (Accepted m) (Accepted n) p q e = ap Accepted (report-same m n e)
 answer-same (Accepted m) (Refused n) p q e = absurd (q (sym (ap (λ (r : R.Answer). r .code) e)))
 answer-same (Refused m) (Accepted n) p q e = absurd (p (ap (λ (r : R.Answer). r .code) e))
@@ -86,7 +86,7 @@ meets-same x k r s u v a b =
     twelve w h = refuses-is x notSound (λ z. omega arith) w h
 
 -- so does what `sound` answers: two answers to one question are equal
-pub sound-same : (x : Exec) (a b : Bool) → (a ≡ true) ↔ Sound x → (b ≡ true) ↔ Sound x → a ≡ b
+pub sound-same : (x : Exec) (a b : Bool) → (a ≡ true) ↔ SoundRecord x → (b ≡ true) ↔ SoundRecord x → a ≡ b
 sound-same x true true f g = refl
 sound-same x true false f g = sym (g .1 (f .0 refl))
 sound-same x false true f g = f .1 (g .0 refl)

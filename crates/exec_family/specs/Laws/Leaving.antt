@@ -1,7 +1,7 @@
 -- Tasks that leave their chains, one or all that are marked: what the links show.
 use mathlib.Core.Path.{_≡_, refl, sym, ap, _∙_}
 use Prim.Native.Nat.{_+_, _<_, ℕ}
-use Rattle.chains.specs.Held.{at, Sound, Held, Leaves}
+use Rattle.chains.specs.Held.{at, HoldsChains, Held, Leaves}
 use mathlib.Core.Logic.{_≢_}
 use mathlib.Core.List.{List}
 use lib.ListN.{getD}
@@ -34,7 +34,7 @@ left-of l r t h =
 elsewhere : (l : Links) (X : ℕ → List ℕ) → Held l X → (t s : ℕ) → 64 < s → s < 322 → s ≢ at (l .on) t → without t (X s) ≡ X s
 elsewhere l X h t s ls hs n = without-out t (X s) (λ i. n (sym (h .own s ls hs t i .2)))
 
-pub left-idle : (l : Links) → Sound l → (t : ℕ) → at (l .on) t ≡ 0 → Left l t l
+pub left-idle : (l : Links) → HoldsChains l → (t : ℕ) → at (l .on) t ≡ 0 → Left l t l
 unfolding leave
 left-idle l h t e =
     let X = chainsOf l in
@@ -43,7 +43,7 @@ left-idle l h t e =
     (chains-ext 64 322 (at (l .next)) (at (l .prev)) (at (l .on)) X (leave t X) k
     (λ s ls hs. sym (elsewhere l X k t s ls hs (λ q. omega arith))))
 
-pub left-unlinked : (l : Links) → Sound l → (t : ℕ) (r : Links) → Leaves l t r → Left l t r
+pub left-unlinked : (l : Links) → HoldsChains l → (t : ℕ) (r : Links) → Leaves l t r → Left l t r
 unfolding leave
 left-unlinked l h t r f =
     let X = chainsOf l in
@@ -59,10 +59,10 @@ left-unlinked l h t r f =
 
 pub record Turned (l : Links) (marks : List ℕ) (k : Links) (i : ℕ) : Type 0 where
   pub is : chainsOf k ≡ iter i (leaveOne marks) (chainsOf l)
-  pub sound : Sound k
+  pub sound : HoldsChains k
 
 module _ (l : Links) (marks : List ℕ) where
-  pub turned-start : Sound l → Turned l marks l 0
+  pub turned-start : HoldsChains l → Turned l marks l 0
   turned-start h = record { is = sym (iter-zero _ _); sound = h }
 
   module _ (k : Links) (i : ℕ) (h : Turned l marks k i) where

@@ -11,7 +11,8 @@ use Rattle.exec_outcome.specs.Laws.Meeting.{judged-sound, judged-none, judged-t
 use Rattle.exec_outcome.specs.Laws.Tables.{signal-table}
 use Rattle.exec_outcome.specs.Laws.Settling.{settles, settled-tells}
 use Rattle.rules_laws.specs.Acceptance.{flagged-is}
-use Rattle.exec_refusals.specs.Bits.{bit, bit-le}
+use Rattle.laws.specs.Bits.{bit}
+use Rattle.laws.specs.Laws.Bits.{bit-le}
 use Rattle.exec_flags.specs.Laws.Signal.{signal-work}
 use Rattle.exec_flags.proofs.signal.Statement.{statement}
 use Rattle.exec_flags.proofs.signal.Tie as tie

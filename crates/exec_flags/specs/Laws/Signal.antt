@@ -14,7 +14,7 @@ use Rattle.exec_queue.specs.declared.Queue.{Queue}
 use Rattle.exec_state.specs.View.{rigOf, viewOf, workOf}
 use Rattle.exec_state.specs.Laws.Effects.{pushed-one}
 use Rattle.exec_state.specs.declared.State.{State}
-use Rattle.exec_refusals.specs.Bits.{bit}
+use Rattle.laws.specs.Bits.{bit}
 
 -- the queue that the code makes
 pub signal-work : (g : Rig) (cycles : List Cycle) (s : State) (f : ℕ) (b : Bool) (none q : Queue) (v : ℕ) → entriesOf none ≡ [] → v ≡ bit b → Pushed none f v q

@@ -53,7 +53,7 @@ module _ (g : Rig) (cycles : List Cycle) (s : State) (k : R.Call) where
       → viewOf (o .st) ≡ R.accepted (rigOf g cycles) (viewOf s) k .next
       → tellingOf o ≡ R.accepted (rigOf g cycles) (viewOf s) k .answer .report
       → after ≡ R.accepted (rigOf g cycles) (viewOf s) k .lent
-      → L.Sound (o .st .links) → Sized (o .st .links)
+      → L.HoldsChains (o .st .links) → Sized (o .st .links)
       → Tells g cycles s k o after
   unfolding R.step R.after R.accepted
   accepted-tells h q z o after c e f v l y =

@@ -49,7 +49,7 @@ pub record Settled (g : Rig) (w : Work) (o : Outcome) : Type 0 where
   pub accepted : o .refusal ≡ 0
   pub words : o .words ≡ 0
   pub value : o .value ≡ 0
-  pub sound : L.Sound (o .st .links)
+  pub sound : L.HoldsChains (o .st .links)
   pub sized : Sized (o .st .links)
 
 -- who runs is not touched by the serving
@@ -66,7 +66,7 @@ settled-is g w d e s f =
       accepted = refl;
       words = refl;
       value = refl;
-      sound = subst L.Sound (sym (f .links)) (e .sound);
+      sound = subst L.HoldsChains (sym (f .links)) (e .sound);
       sized = f .sized;
     }
 
@@ -122,7 +122,7 @@ effect-low r s h (R.writeBlock k area buffer) = h
 
 module _ (g : Rig) (cycles : List Cycle) (s : State) (h : SoundParts g cycles s) (k : R.Call) (p : P.Proper k) (e : 0 ≡ R.refusal (rigOf g cycles) (viewOf s) k) (w : Work)
     (q : workOf (w .st) (w .queue) ≡ R.effect (rigOf g cycles) (viewOf s) k) where
-  pub settles : L.Sound (w .st .links) → Settles g w
+  pub settles : L.HoldsChains (w .st .links) → Settles g w
   settles l =
       record {
         begins =

@@ -2,7 +2,7 @@ use mathlib.Core.Path.{sym, _∙_}
 use mathlib.Core.Bool.{false≢true}
 use borrow.Author.Tests.{not-true, not-false}
 use native.Mathlib.Omega.{arith}
-use Rattle.chains.specs.Held.{Sound}
+use Rattle.chains.specs.Held.{HoldsChains}
 use Rattle.chains.specs.declared.Links.{Links}
 use Rattle.sound_chains.specs.Post.{linksOf}
 use Rattle.exec_sound.specs.Laws.Check.{order-facts, order-back}
@@ -13,7 +13,7 @@ use Rattle.exec_sound.proofs.chains_ok.Tie as tie
 abbrev tables : tie.Start → Links
 tables s = linksOf (s .args .next .now) (s .args .prev .now) (s .args .on .now)
 
-held : (c : tie.Else1) → Sound (tables (c .before .before))
+held : (c : tie.Else1) → HoldsChains (tables (c .before .before))
 held c = c .before .sound .ensures .0 (not-false (c .before .sound .result) (c .if1 .left))
 
 sound-requires : tie.Need-sound-requires

@@ -50,7 +50,7 @@ pub record Placed (tasks : ℕ) (controllers activations : List ℕ) : Type 0 wh
 -- the links hold chains, the time chain in order, all of it above the count
 pub record ChainsSound (count : ℕ) (wake : List ℕ) (l : Links) : Type 0 where
   pub sized : Sized l
-  pub links : L.Sound l
+  pub links : L.HoldsChains l
   pub order : risingb (at wake) (count + 1) (chainsOf l 65) ≡ true
 
 -- who runs by the rules
@@ -146,7 +146,7 @@ module _ (l : Links) (h : Held l (chainsOf l)) where
 
 -- ---- the time chain's test
 
-module _ (count : ℕ) (wake : List ℕ) (l : Links) (h : L.Sound l) (b : Bool) (e : (X : ℕ → List ℕ) → Held l X → b ≡ risingb (at wake) (count + 1) (X 65)) where
+module _ (count : ℕ) (wake : List ℕ) (l : Links) (h : L.HoldsChains l) (b : Bool) (e : (X : ℕ → List ℕ) → Held l X → b ≡ risingb (at wake) (count + 1) (X 65)) where
   is : b ≡ risingb (at wake) (count + 1) (chainsOf l 65)
   is = e (chainsOf l) (sound-chains l h)
 

@@ -13,7 +13,7 @@ use Rattle.laws.specs.Functions.{upd}
 use Rattle.laws.specs.Laws.Functions.{upd-same}
 use Rattle.laws.specs.Members.{In, keep}
 use Rattle.laws.specs.Order.{Sorted}
-use Rattle.chains.specs.Held.{at, Sound, Leaves}
+use Rattle.chains.specs.Held.{at, HoldsChains, Leaves}
 use Rattle.chains.specs.Link.{first}
 use Rattle.chains.specs.Laws.Front.{Leaving, leaving-start, leaving-step, left-start, left-step}
 use Rattle.chains.specs.Read.{chainsOf}
@@ -80,7 +80,7 @@ module _ (e : State) where
   W : List ℕ
   W = e .wake
 
-  pub waking-start : Sound (e .links) → Timed e → Waking e e (e .links) (at (e .links .next) 65)
+  pub waking-start : HoldsChains (e .links) → Timed e → Waking e e (e .links) (at (e .links .next) 65)
   unfolding X W
   waking-start h t =
       let l = sym (left-start 65 low high X (e .links) (sound-chains (e .links) h)) in

@@ -7,7 +7,7 @@ use native.Mathlib.Omega.{arith}
 use lib.Dec.{eqb}
 use lib.ListN.{length, getD, set}
 use Rattle.laws.specs.Laws.Iter.{iter-ind}
-use Rattle.chains.specs.Held.{at, Sound}
+use Rattle.chains.specs.Held.{at, HoldsChains}
 use Rattle.chains.specs.declared.Links.{Links}
 use Rattle.rig.specs.declared.Cycle.{Cycle}
 use Rattle.rig.specs.declared.Rig.{Rig}
@@ -51,7 +51,7 @@ module _ (s : State) (q : Queue) (g : Rig) (f v : ℕ) (c : List ℕ)
             o .is cycles
             ∙ ap (λ (x : S.State). offers (rigOf g cycles) f 64 (record { now = x; queue = entriesOf q }))
             (w .is ∙ ap (wake (64 + 2 * f + v)) (taken cycles));
-        sound = subst (λ (l : Links). Sound l) (sym (o .links)) (w .sound);
+        sound = subst (λ (l : Links). HoldsChains l) (sym (o .links)) (w .sound);
       }
 
 -- ---- what is queued stays flags and values
@@ -89,12 +89,12 @@ more k d = record { now = d .now; served = k + d .served }
 -- k entries are served
 pub record Turned (g : Rig) (s₀ : State) (q₀ : Queue) (s : State) (q : Queue) (k : ℕ) : Type 0 where
   pub is : (cycles : List Cycle) → serve (rigOf g cycles) (workOf s₀ q₀) ≡ more k (serve (rigOf g cycles) (workOf s q))
-  pub sound : Sound (s .links)
+  pub sound : HoldsChains (s .links)
   pub room : k + load (workOf s q) ≤ 79
   pub entries : Servable (entriesOf q)
 
 module _ (g : Rig) (s₀ : State) (q₀ : Queue) where
-  pub turned-start : Sound (s₀ .links) → load (workOf s₀ q₀) ≤ 79 → Servable (entriesOf q₀) → Turned g s₀ q₀ s₀ q₀ 0
+  pub turned-start : HoldsChains (s₀ .links) → load (workOf s₀ q₀) ≤ 79 → Servable (entriesOf q₀) → Turned g s₀ q₀ s₀ q₀ 0
   turned-start a b c =
       record {
         is = λ cycles.

@@ -6,7 +6,7 @@ use native.Mathlib.Omega.{arith}
 use lib.Dec.{lit<}
 use lib.ListN.{set}
 use Rattle.laws.specs.Functions.{upd}
-use Rattle.laws.specs.Order.{place}
+use Rattle.laws.specs.Order.{insertBy}
 use Rattle.chains.specs.Held.{at, Held, Puts, Joins, Places}
 use Rattle.chains.specs.Read.{chainsOf}
 use Rattle.chains.specs.Laws.Read.{sound-chains, held-chains, only-of, only-upd}
@@ -59,7 +59,7 @@ module _ (s : State) (m : MayWait s) where
   waits-until count l p =
       let X = chainsOf (s .links) in
       let w = set (s .wake) (s .running) count in
-      let ys = place (at w) (s .running) (X 65) in
+      let ys = insertBy (at w) (s .running) (X 65) in
       let h : Held l (upd X 65 ys) = p X (sound-chains (s .links) (m .sound)) in
       record {
         is = ap (λ (Y : ℕ → List ℕ). withRunning (withChains (withWakes (viewOf s) w) (set (s .state) (s .running) 2) Y) 0) (held-there l 65 ys (lit< tt) (lit< tt) h);

@@ -5,7 +5,7 @@ use mathlib.Core.List.{List, []}
 use Prim.Native.Nat.{ℕ, _<_}
 use lib.ListN.{set}
 use Rattle.laws.specs.Functions.{upd}
-use Rattle.chains.specs.Held.{at, Held, Sound, Leaves}
+use Rattle.chains.specs.Held.{at, Held, HoldsChains, Leaves}
 use Rattle.chains.specs.Laws.Front.{Leaving, leaving-start, leaving-step, leaving-none, left-start, left-step, left-none}
 use Rattle.chains.specs.Read.{chainsOf}
 use Rattle.chains.specs.Laws.Read.{sound-chains, held-chains, only-of, only-upd}
@@ -24,7 +24,7 @@ module _ (s : ℕ) (ls : 64 < s) (hs : s < 322) (l : Links) (a : List ℕ) where
   X : ℕ → List ℕ
   X = chainsOf l
 
-  pub waking-start : Sound l → Waking l a s a l (at (l .next) s)
+  pub waking-start : HoldsChains l → Waking l a s a l (at (l .next) s)
   unfolding X
   waking-start h =
       record {
@@ -56,5 +56,5 @@ module _ (s : ℕ) (ls : 64 < s) (hs : s < 322) (l : Links) (a : List ℕ) where
       }
 
   -- nobody waits
-  pub waking-none : Sound l → at (l .next) s ≡ s → Awoken l a s l a
+  pub waking-none : HoldsChains l → at (l .next) s ≡ s → Awoken l a s l a
   waking-none h d = waking-done a l (at (l .next) s) (waking-start h) d

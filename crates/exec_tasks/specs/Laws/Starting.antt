@@ -56,7 +56,7 @@ module _ (g : Rig) (cycles : List Cycle) (h : Right g cycles) (s : State) (b : B
             record {
               fits = fits g cycles h;
               room = subst (λ (y : S.Work). load y ≤ 79) (sym start-work) blank-load;
-              sound = subst L.Sound (sym (m .links)) (b .sound);
+              sound = subst L.HoldsChains (sym (m .links)) (b .sound);
               entries =
                   subst (λ (y : S.Work). Servable (y .queue)) (sym start-work)
                   (servable (rigOf g cycles) (h .flag-count .1) (R.scheduled (rigOf g cycles) S.blank 1 .queue) (started-ready (rigOf g cycles) (rig-ok g cycles h) .good .fine));

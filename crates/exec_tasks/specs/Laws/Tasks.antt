@@ -43,8 +43,8 @@ module _ (g : Rig) (cycles : List Cycle) (s : State) (h : SoundParts g cycles s)
     unfolding R.effect
     finished-work m = m .is cycles
 
-    pub finished-links : Finished s g w → L.Sound (w .st .links)
-    finished-links m = subst L.Sound (sym (m .links)) (h .links)
+    pub finished-links : Finished s g w → L.HoldsChains (w .st .links)
+    finished-links m = subst L.HoldsChains (sym (m .links)) (h .links)
 
     module _ (t : ℕ) where
       pub terminated-work : Terminated s g t w → workOf (w .st) (w .queue) ≡ R.effect (rigOf g cycles) (viewOf s) (R.terminate t)
@@ -59,5 +59,5 @@ module _ (g : Rig) (cycles : List Cycle) (s : State) (h : SoundParts g cycles s)
       unfolding R.effect
       scheduled-work m = m .is cycles
 
-      pub scheduled-links : Scheduled s g t w → L.Sound (w .st .links)
-      scheduled-links m = subst L.Sound (sym (m .links)) (h .links)
+      pub scheduled-links : Scheduled s g t w → L.HoldsChains (w .st .links)
+      scheduled-links m = subst L.HoldsChains (sym (m .links)) (h .links)

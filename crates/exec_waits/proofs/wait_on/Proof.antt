@@ -14,7 +14,7 @@ use Rattle.exec_outcome.specs.Laws.Settling.{settles, settled-tells}
 use mathlib.Core.Bool.{_&&_}
 use Rattle.rules.specs.Waiting.{waitOn}
 use Rattle.rules_laws.specs.Acceptance.{somebody-runs}
-use Rattle.exec_refusals.specs.Bits.{bit}
+use Rattle.laws.specs.Bits.{bit}
 use Rattle.exec_waits.specs.Laws.Waits.{flagWait, wait-silent, wait-proper, wait-table, may-wait, flag-ok, wait-work, wait-stays}
 use Rattle.exec_waits.proofs.wait_on.Statement.{statement}
 use Rattle.exec_waits.proofs.wait_on.Tie as tie

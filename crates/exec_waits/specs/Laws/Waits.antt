@@ -25,7 +25,8 @@ use Rattle.exec_state.specs.Post.{MayWait, FlagOk}
 use Rattle.exec_state.specs.declared.State.{State}
 use Rattle.exec_sound.specs.Sound.{SoundParts}
 use Rattle.exec_sound.specs.Laws.Check.{running-low, named}
-use Rattle.exec_refusals.specs.Bits.{bit, bit-le}
+use Rattle.laws.specs.Bits.{bit}
+use Rattle.laws.specs.Laws.Bits.{bit-le}
 use Rattle.exec_refusals.specs.Rows.{countRows, flagRows}
 use Rattle.exec_outcome.specs.Laws.Meeting.{Silent}
 use Rattle.exec_outcome.specs.Laws.Tables.{latched-table, unlatched-table}

@@ -12,7 +12,7 @@ use Rattle.rig_build.specs.declared.Answer.{Answer}
 use Rattle.rig_build.specs.Read.{readOf}
 use Rattle.exec.specs.Starting.{Started, Starts}
 use Rattle.exec.specs.declared.Step.{Step}
-use Rattle.host_replies.specs.Told.{coded, refusedFile, Begins, BeginsFrom}
+use Rattle.host_replies.specs.Told.{coded, refusedFile, StartReplies, StartRepliesFrom}
 use Rattle.rig_build.specs.Laws.Exactly.{accepted-right}
 use Rattle.rig_build.specs.Laws.LineNumbers.{line-small}
 use Rattle.host_replies.specs.declared.Coded.{Coded}
@@ -21,7 +21,7 @@ module _ (file : List ℕ) (a : Answer) (e : a ≡ readOf file) where
   pub line-fits : a .line ≤ 40962
   line-fits = subst (λ (x : Answer). x .line ≤ 40962) (sym e) (line-small file)
 
-  pub file-refused : a .no ≢ 0 → (r : Coded) → r ≡ refusedFile (a .no) (a .line) → BeginsFrom file r
+  pub file-refused : a .no ≢ 0 → (r : Coded) → r ≡ refusedFile (a .no) (a .line) → StartRepliesFrom file r
   file-refused n r k =
       record {
         is = inr ((λ z. n (ap (λ (x : Answer). x .no) e ∙ z)), k ∙ ap (λ (x : Answer). refusedFile (x .no) (x .line)) e);
@@ -37,7 +37,7 @@ module _ (file : List ℕ) (a : Answer) (e : a ≡ readOf file) where
       (w .is)
 
   pub file-started : a .no ≡ 0 → (table : List (List ℕ)) → table ≡ tableOf (a .cycles) → (s : Step) → Starts (a .rig) table s
-      → (r : Coded) → r ≡ coded s → BeginsFrom file r
+      → (r : Coded) → r ≡ coded s → StartRepliesFrom file r
   file-started z table t s w r k =
       let y : readOf file .no ≡ 0 = sym (ap (λ (x : Answer). x .no) e) ∙ z in
       let h : Right (a .rig) (a .cycles) = subst (λ (x : Answer). Right (x .rig) (x .cycles)) (sym e) (accepted-right file y) in

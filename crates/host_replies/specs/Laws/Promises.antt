@@ -6,14 +6,14 @@ use Prim.Native.Nat.{ℕ, zero, suc}
 use Rattle.rules.specs.Calls as R
 use Rattle.rules_laws.specs.Refusals.{code-is}
 use Rattle.rig_build.specs.Read.{readOf}
-use Rattle.exec.specs.Sound.{rigIn, view, Sound}
+use Rattle.exec.specs.Sound.{rigIn, view, SoundRecord}
 use Rattle.exec.specs.Call.{Meets, answerOf, refuse}
 use Rattle.exec.specs.Starting.{noExec}
 use Rattle.exec.specs.Laws.Starting.{zeros-refused}
 use Rattle.exec.specs.Laws.Promises.{twelve-exactly, refused-unchanged, stays-sound}
 use Rattle.exec.specs.declared.Exec.{Exec}
 use Rattle.exec.specs.declared.Step.{Step}
-use Rattle.host_replies.specs.Told.{coded, Replies, BeginsFrom}
+use Rattle.host_replies.specs.Told.{coded, Replies, StartRepliesFrom}
 use Rattle.host_replies.specs.declared.Reply.{Reply}
 use Rattle.host_replies.specs.declared.Coded.{Coded}
 
@@ -38,7 +38,7 @@ module _ (x : Exec) (k : R.Call) (r : Coded) (after : List ℕ) (p : Replies x k
   same-record = ap (λ (c : Coded). c .exec) (p .told)
 
   -- of a sound record, a host is told the numbers of the rules' step, and its buffer holds that step's words
-  pub told-rules : Sound x → (r .reply ≡ numbersOf (R.step (rigIn x) (view x) k)) × (after ≡ R.step (rigIn x) (view x) k .lent)
+  pub told-rules : SoundRecord x → (r .reply ≡ numbersOf (R.step (rigIn x) (view x) k)) × (after ≡ R.step (rigIn x) (view x) k .lent)
   told-rules h =
       ⊎-elim
       (λ m.
@@ -57,21 +57,21 @@ module _ (x : Exec) (k : R.Call) (r : Coded) (after : List ℕ) (p : Replies x k
       (λ m. (same-record ∙ m .1 .exec, m .2))
       (p .meets .is)
     where
-      of-sound : Sound x → (c : ℕ) → answerOf (p .step .answer) .code ≡ c → R.refusal (rigIn x) (view x) k ≡ c → (r .exec ≡ x) × (after ≡ R.lent k)
+      of-sound : SoundRecord x → (c : ℕ) → answerOf (p .step .answer) .code ≡ c → R.refusal (rigIn x) (view x) k ≡ c → (r .exec ≡ x) × (after ≡ R.lent k)
       of-sound h zero e f = absurd (n (number ∙ e))
       of-sound h (suc c) e f =
           let u = refused-unchanged x k (p .step) after (p .meets) h c f in
           (same-record ∙ ap (λ (s : Step). s .exec) (u .0), u .1)
 
   -- 12: "the record handed in is not sound", and for nothing else
-  pub twelve-told : (r .reply .refusal ≡ 12) ↔ (Sound x → ⊥)
+  pub twelve-told : (r .reply .refusal ≡ 12) ↔ (SoundRecord x → ⊥)
   twelve-told =
       let t = twelve-exactly x k (p .step) after (p .meets) in
       ((λ e. t .0 (sym number ∙ e)), (λ h. number ∙ t .1 h))
 
   -- "every call keeps it so"
-  pub keeps-sound : Sound x → Sound (r .exec)
-  keeps-sound h = subst Sound (sym same-record) (stays-sound x k (p .step) after (p .meets) h)
+  pub keeps-sound : SoundRecord x → SoundRecord (r .exec)
+  keeps-sound h = subst SoundRecord (sym same-record) (stays-sound x k (p .step) after (p .meets) h)
 
 -- "a record of all zeros, which every call refuses by 12"
 pub zeros-told : (k : R.Call) (r : Coded) (after : List ℕ) → Replies noExec k r after → (r ≡ coded (refuse noExec 12)) × (after ≡ R.lent k)
@@ -79,7 +79,7 @@ zeros-told k r after p =
     let z = zeros-refused k (p .step) after (p .meets) in
     (p .told ∙ ap coded (z .0), z .1)
 
-module _ (file : List ℕ) (r : Coded) (p : BeginsFrom file r) where
+module _ (file : List ℕ) (r : Coded) (p : StartRepliesFrom file r) where
   -- a start is accepted exactly when its file is: no accepted file is refused by 4 afterwards
   pub start-accepted : (r .reply .refusal ≡ 0) ↔ (readOf file .no ≡ 0)
   start-accepted = (
@@ -88,10 +88,10 @@ module _ (file : List ℕ) (r : Coded) (p : BeginsFrom file r) where
   )
 
   -- a fresh record is sound
-  pub start-sound : r .reply .refusal ≡ 0 → Sound (r .exec)
+  pub start-sound : r .reply .refusal ≡ 0 → SoundRecord (r .exec)
   start-sound e =
       ⊎-elim
-      (λ q. subst Sound (sym (ap (λ (c : Coded). c .exec) (q .1 .told))) (q .1 .started .sound))
+      (λ q. subst SoundRecord (sym (ap (λ (c : Coded). c .exec) (q .1 .told))) (q .1 .started .sound))
       (λ q. absurd (q .0 (start-accepted .0 e)))
       (p .is)
 

@@ -15,7 +15,7 @@ use Rattle.exec.specs.Starting.{Started, Starts}
 use Rattle.exec.specs.Laws.Starting.{starts-same}
 use Rattle.exec.specs.declared.Exec.{Exec}
 use Rattle.exec.specs.declared.Step.{Step}
-use Rattle.host_replies.specs.Told.{coded, Replies, Begins, BeginsFrom}
+use Rattle.host_replies.specs.Told.{coded, Replies, StartReplies, StartRepliesFrom}
 use Rattle.rig_build.specs.Laws.Exactly.{accepted-right}
 use Rattle.host_replies.specs.declared.Coded.{Coded}
 
@@ -29,13 +29,13 @@ starts-of g rows h r w =
     let e = sym (cycles-of-table rows) in
     record { is = inl (subst (Right g) e h, subst (λ (l : List Cycle). Started g l r) e w) }
 
-begins-same : (g : Rig) (rows : List Cycle) → Right g rows → (r s : Coded) → Begins g rows r → Begins g rows s → r ≡ s
+begins-same : (g : Rig) (rows : List Cycle) → Right g rows → (r s : Coded) → StartReplies g rows r → StartReplies g rows s → r ≡ s
 begins-same g rows h r s a b =
     let e =
     starts-same g (tableOf rows) (a .step) (b .step) (starts-of g rows h (a .step) (a .started)) (starts-of g rows h (b .step) (b .started)) in
     a .told ∙ (ap coded e ∙ sym (b .told))
 
-pub begins-from-same : (file : List ℕ) (r s : Coded) → BeginsFrom file r → BeginsFrom file s → r ≡ s
+pub begins-from-same : (file : List ℕ) (r s : Coded) → StartRepliesFrom file r → StartRepliesFrom file s → r ≡ s
 begins-from-same file r s a b =
     ⊎-elim
     (λ p. ⊎-elim (λ q. begins-same (readOf file .rig) (readOf file .cycles) (accepted-right file (p .0)) r s (p .1) (q .1)) (λ q. absurd (q .0 (p .0))) (b .is))

@@ -1,13 +1,17 @@
 -- Laws of the definitions of Bits.antt.
 use mathlib.Core.Path.{_≡_, refl}
 use mathlib.Core.Bool.{Bool, true, false}
-use Prim.Native.Nat.{ℕ, zero, suc, _<_}
+use Prim.Native.Nat.{ℕ, zero, suc, _≤_, _<_}
 use native.Mathlib.Omega.{arith}
 use Rattle.laws.specs.Bits.{bit, isOne}
 
 pub bit-below : (b : Bool) → bit b < 2
 bit-below true = omega arith
 bit-below false = omega arith
+
+pub bit-le : (b : Bool) → bit b ≤ 1
+bit-le true = omega arith
+bit-le false = omega arith
 
 pub isOne-bit : (b : Bool) → isOne (bit b) ≡ b
 isOne-bit true = refl

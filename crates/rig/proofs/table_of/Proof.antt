@@ -5,12 +5,12 @@ use native.Mathlib.Omega.{arith}
 use lib.ListN.{length, replicate}
 use Rattle.laws.specs.Mapped.{Mapped, mapped-none, mapped-turn, mapped-all}
 use Rattle.rig.specs.Rules.{noCycle}
-use Rattle.rig.specs.Forms.{flagsOf, tableOf}
+use Rattle.rig.specs.Forms.{cycleFlags, tableOf}
 use Rattle.rig.proofs.table_of.Statement.{statement}
 use Rattle.rig.proofs.table_of.Tie as tie
 
 abbrev Inv-loop : tie.InvT-loop
-Inv-loop cycles table₀ c₀ table c = Mapped flagsOf noCycle cycles c table × ((length cycles ≡ 64) × (c ≤ 64))
+Inv-loop cycles table₀ c₀ table c = Mapped cycleFlags noCycle cycles c table × ((length cycles ≡ 64) × (c ≤ 64))
 
 abbrev μ-loop : tie.MeasureT-loop
 μ-loop cycles table₀ c₀ table c = 64 - c
@@ -18,7 +18,7 @@ abbrev μ-loop : tie.MeasureT-loop
 loop-holds : tie.Need-loop-holds Inv-loop μ-loop
 loop-holds c =
     let z : length (c .args .t1) ≡ 64 = search needs in
-    (mapped-none flagsOf noCycle (c .args .t1) (replicate 64 (replicate 15 0)) (sym z), (z, search needs))
+    (mapped-none cycleFlags noCycle (c .args .t1) (replicate 64 (replicate 15 0)) (sym z), (z, search needs))
 
 mul-cycle : tie.Need-mul-cycle Inv-loop μ-loop
 mul-cycle c = search needs
@@ -39,11 +39,11 @@ loop-less : tie.Need-loop-less Inv-loop μ-loop
 loop-less c = search needs
 
 loop-again : tie.Need-loop-again Inv-loop μ-loop
-loop-again c = (mapped-turn flagsOf noCycle (c .before .before .before .before .args .t1) (c .before .before .before .loop .c) (c .before .before .before .loop .table) (omega arith) (c .before .before .before .loop .inv .0), search needs)
+loop-again c = (mapped-turn cycleFlags noCycle (c .before .before .before .before .args .t1) (c .before .before .before .loop .c) (c .before .before .before .loop .table) (omega arith) (c .before .before .before .loop .inv .0), search needs)
 
 returns : tie.Need-returns Inv-loop μ-loop
 unfolding tableOf
-returns c = mapped-all flagsOf noCycle (c .before .before .args .t1) (c .before .loop .c) (c .before .loop .table) (omega arith) (c .before .loop .inv .0)
+returns c = mapped-all cycleFlags noCycle (c .before .before .args .t1) (c .before .loop .c) (c .before .loop .table) (omega arith) (c .before .loop .inv .0)
 
 pub table-of-spec : {M : Type 1} → statement M
 table-of-spec =

@@ -6,7 +6,7 @@ use native.Mathlib.Omega.{arith}
 use lib.ListN.{getD, List·getD-map}
 use Rattle.rig.specs.declared.Cycle.{Cycle}
 use Rattle.rig.specs.Rules.{at, noCycle, flagAt, Right}
-use Rattle.rig.specs.Forms.{cycleOf, flagsOf, cyclesOf, tableOf, noRig}
+use Rattle.rig.specs.Forms.{cycleOf, cycleFlags, cyclesOf, tableOf, noRig}
 
 -- each form is had from the other, and nothing is lost
 pub table-of-cycles : (table : List (List ℕ)) → tableOf (cyclesOf table) ≡ table
@@ -22,7 +22,7 @@ cycles-of-table (c ∷ cs) = ap (λ (t : List Cycle). c ∷ t) (cycles-of-table 
 -- the flag of a cycle, read from either
 pub table-flag : (cycles : List Cycle) (c i : ℕ) → at (getD (tableOf cycles) c []) i ≡ flagAt cycles c i
 unfolding tableOf
-table-flag cycles c i = ap (λ (l : List ℕ). at l i) (List·getD-map flagsOf cycles c noCycle)
+table-flag cycles c i = ap (λ (l : List ℕ). at l i) (List·getD-map cycleFlags cycles c noCycle)
 
 pub cycles-flag : (table : List (List ℕ)) (c i : ℕ) → flagAt (cyclesOf table) c i ≡ at (getD table c []) i
 unfolding cyclesOf

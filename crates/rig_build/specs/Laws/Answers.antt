@@ -20,7 +20,7 @@ use Rattle.rig_lines.specs.File.{fault, faultOf, linesOf}
 use Rattle.rig_lines.specs.Whole.{isKind, howMany, lineTests}
 use Rattle.rig_lines.specs.Laws.Whole.{line-rules}
 use Rattle.rig_fill.specs.OfLines.{rigFrom, tableFrom}
-use Rattle.rig_build.specs.Read.{refusal, accepted, behind, brokenRule, judged, wholeFile, byLines, readOf}
+use Rattle.rig_build.specs.Read.{fileRefused, fileAccepted, behind, brokenRule, judged, wholeFile, byLines, readOf}
 
 pub behind-zero : (n : ℕ) → n ≡ 0 → 0 ≡ behind n
 unfolding behind
@@ -33,23 +33,23 @@ behind-more zero e = absurd (e refl)
 behind-more (suc n) e = refl
 
 -- the whole file's answer: a rule of the lines is broken, or one of the rig, or none
-pub judged-lines : (rule : ℕ) (g : Rig) (cycles : List Cycle) → (rule ≡ 0 → ⊥) → refusal 4 0 rule ≡ judged rule g cycles
+pub judged-lines : (rule : ℕ) (g : Rig) (cycles : List Cycle) → (rule ≡ 0 → ⊥) → fileRefused 4 0 rule ≡ judged rule g cycles
 unfolding judged brokenRule
 judged-lines rule g cycles n = rw (ne-eqb rule 0 n, ne-eqb rule 0 n)
 
-pub judged-rig : (rule : ℕ) (g : Rig) (cycles : List Cycle) (x y : ℕ) → rule ≡ 0 → x ≡ firstBroken g cycles → (x ≡ 0 → ⊥) → y ≡ behind x → refusal 4 0 y ≡ judged rule g cycles
+pub judged-rig : (rule : ℕ) (g : Rig) (cycles : List Cycle) (x y : ℕ) → rule ≡ 0 → x ≡ firstBroken g cycles → (x ≡ 0 → ⊥) → y ≡ behind x → fileRefused 4 0 y ≡ judged rule g cycles
 unfolding judged brokenRule
 judged-rig rule g cycles x y e f n h =
     let z : y ≡ 0 → ⊥ = λ q. let w = behind-more x n in omega arith in
     rw (e, ← f, ← h, ne-eqb y 0 z)
 
-pub judged-right : (rule : ℕ) (g : Rig) (cycles : List Cycle) (x : ℕ) → rule ≡ 0 → x ≡ firstBroken g cycles → x ≡ 0 → accepted g cycles ≡ judged rule g cycles
+pub judged-right : (rule : ℕ) (g : Rig) (cycles : List Cycle) (x : ℕ) → rule ≡ 0 → x ≡ firstBroken g cycles → x ≡ 0 → fileAccepted g cycles ≡ judged rule g cycles
 unfolding judged brokenRule behind
 judged-right rule g cycles x e f n = rw (e, ← f, n)
 
 -- the same of lines: `rule` is the first of their rules that is broken, g their rig and cycles its cycles
 module _ (rs : List Line) (rule : ℕ) (e : rule ≡ firstFalse 1 (lineTests rs)) where
-  pub whole-lines : (rule ≡ 0 → ⊥) → refusal 4 0 rule ≡ wholeFile rs
+  pub whole-lines : (rule ≡ 0 → ⊥) → fileRefused 4 0 rule ≡ wholeFile rs
   unfolding wholeFile
   whole-lines n = judged-lines rule (rigFrom rs) (cyclesOf (tableFrom rs)) n ∙ ap (λ (k : ℕ). judged k (rigFrom rs) (cyclesOf (tableFrom rs))) e
 
@@ -62,14 +62,14 @@ module _ (rs : List Line) (rule : ℕ) (e : rule ≡ firstFalse 1 (lineTests rs)
     unfolding wholeFile
     as-whole = rw (e, f, h, d)
 
-    pub whole-rig : (x ≡ 0 → ⊥) → (y : ℕ) → y ≡ behind x → refusal 4 0 y ≡ wholeFile rs
+    pub whole-rig : (x ≡ 0 → ⊥) → (y : ℕ) → y ≡ behind x → fileRefused 4 0 y ≡ wholeFile rs
     whole-rig n y q = judged-rig rule g cycles x y z b n q ∙ as-whole
 
-    pub whole-right : x ≡ 0 → accepted g cycles ≡ wholeFile rs
+    pub whole-right : x ≡ 0 → fileAccepted g cycles ≡ wholeFile rs
     whole-right q = judged-right rule g cycles x z b q ∙ as-whole
 
 -- a faulty line's answer, and that of a file without one
-pub by-fault : (s : List ℕ) (j line : ℕ) → faultOf s ≡ fault (suc j) line → refusal (suc j) line 0 ≡ byLines s
+pub by-fault : (s : List ℕ) (j line : ℕ) → faultOf s ≡ fault (suc j) line → fileRefused (suc j) line 0 ≡ byLines s
 unfolding byLines
 by-fault s j line e = rw (e, ne-eqb (suc j) 0 (omega arith))
 
@@ -77,7 +77,7 @@ pub by-whole : (s : List ℕ) → faultOf s ≡ fault 0 0 → wholeFile (linesOf
 unfolding byLines
 by-whole s e = rw e
 
-pub read-long : (s : List ℕ) → 40960 < length s → refusal 2 0 0 ≡ readOf s
+pub read-long : (s : List ℕ) → 40960 < length s → fileRefused 2 0 0 ≡ readOf s
 unfolding readOf
 read-long s h = rw (lt-ltb 40960 (length s) h)
 

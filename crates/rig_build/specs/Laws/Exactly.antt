@@ -34,13 +34,13 @@ use Rattle.rig_lines.specs.Laws.RoundTrip.{last-byte}
 use Rattle.rig_lines.specs.Whole.{lineTests}
 use Rattle.rig_fill.specs.OfLines.{rigFrom, tableFrom}
 use Rattle.rig_build.specs.declared.Answer.{Answer}
-use Rattle.rig_build.specs.Read.{refusal, accepted, behind, brokenRule, judged, wholeFile, byLines, readOf}
+use Rattle.rig_build.specs.Read.{fileRefused, fileAccepted, behind, brokenRule, judged, wholeFile, byLines, readOf}
 
 -- the whole-file rule that a file breaks, 0 for none
 abbrev pub ruleOf : List ℕ → ℕ
 ruleOf s = brokenRule (firstFalse 1 (lineTests (linesOf s))) (rigFrom (linesOf s)) (cyclesOf (tableFrom (linesOf s)))
 
-pub too-long : (s : List ℕ) → 40960 < length s → readOf s ≡ refusal 2 0 0
+pub too-long : (s : List ℕ) → 40960 < length s → readOf s ≡ fileRefused 2 0 0
 unfolding readOf
 too-long s h = rw (lt-ltb 40960 (length s) h)
 
@@ -49,7 +49,7 @@ module _ (s : List ℕ) (short : length s ≤ 40960) where
   unfolding readOf
   read-lines = rw (le-ltb 40960 (length s) short)
 
-  pub faulty : (j line : ℕ) → faultOf s ≡ fault (suc j) line → readOf s ≡ refusal (suc j) line 0
+  pub faulty : (j line : ℕ) → faultOf s ≡ fault (suc j) line → readOf s ≡ fileRefused (suc j) line 0
   unfolding byLines
   faulty j line e = read-lines ∙ rw (e, ne-eqb (suc j) 0 (omega arith))
 
@@ -58,11 +58,11 @@ module _ (s : List ℕ) (short : length s ≤ 40960) where
     unfolding byLines
     read-whole = read-lines ∙ rw clean
 
-    pub whole-broken : (k : ℕ) → ruleOf s ≡ suc k → readOf s ≡ refusal 4 0 (suc k)
+    pub whole-broken : (k : ℕ) → ruleOf s ≡ suc k → readOf s ≡ fileRefused 4 0 (suc k)
     unfolding wholeFile judged
     whole-broken k e = read-whole ∙ rw (e, ne-eqb (suc k) 0 (omega arith))
 
-    pub all-right : ruleOf s ≡ 0 → readOf s ≡ accepted (rigFrom (linesOf s)) (cyclesOf (tableFrom (linesOf s)))
+    pub all-right : ruleOf s ≡ 0 → readOf s ≡ fileAccepted (rigFrom (linesOf s)) (cyclesOf (tableFrom (linesOf s)))
     unfolding wholeFile judged
     all-right e = read-whole ∙ rw e
 
@@ -239,12 +239,12 @@ unfolding firstFault
 no-end n p l h = rw (ne-eqb (length l) 0 h)
 
 -- "1: .. empty file (line 1)"
-pub empty-file : readOf [] ≡ refusal 1 1 0
+pub empty-file : readOf [] ≡ fileRefused 1 1 0
 unfolding readOf byLines faultOf firstFault split
 empty-file = refl
 
 -- "1: a line .. has .. no LF": a file of one line that does not end in LF
-pub no-last-end : (s : List ℕ) → length s ≤ 40960 → length s ≢ 0 → Free 10 s → readOf s ≡ refusal 1 1 0
+pub no-last-end : (s : List ℕ) → length s ≤ 40960 → length s ≢ 0 → Free 10 s → readOf s ≡ fileRefused 1 1 0
 unfolding faultOf
 no-last-end s h n f = faulty s h 0 1 (ap (firstFault 1 0) (split-last 10 s f) ∙ no-end 1 0 s n)
 

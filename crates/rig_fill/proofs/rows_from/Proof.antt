@@ -9,13 +9,13 @@ use Rattle.rig.specs.Rules.{noRow}
 use Rattle.rig_lines.specs.Kinds.{kindB, countOf, counts}
 use Rattle.rig_lines.specs.Whole.{numberOf, isKind, howMany}
 use Rattle.rig_held.specs.Laws.Rules.{many-none, many-yes, many-no}
-use Rattle.rig_fill.specs.OfLines.{listed, rowOf, rigFrom}
+use Rattle.rig_fill.specs.OfLines.{listed, rowSaid, rigFrom}
 use Rattle.rig_fill.specs.Laws.Tables.{list-start, list-on, list-past, list-skip, row-says}
 use Rattle.rig_fill.proofs.rows_from.Statement.{statement}
 use Rattle.rig_fill.proofs.rows_from.Tie as tie
 
 abbrev Inv-loop : tie.InvT-loop
-Inv-loop lines n row₀ c₀ i₀ row c i = (i ≤ n) × ((c ≤ i) × ((c ≡ howMany (isKind kindB) (held lines i)) × ((length row ≡ 64) × (row ≡ listed (isKind kindB) rowOf 0 (replicate 64 noRow) (held lines i)))))
+Inv-loop lines n row₀ c₀ i₀ row c i = (i ≤ n) × ((c ≤ i) × ((c ≡ howMany (isKind kindB) (held lines i)) × ((length row ≡ 64) × (row ≡ listed (isKind kindB) rowSaid 0 (replicate 64 noRow) (held lines i)))))
 
 abbrev μ-loop : tie.MeasureT-loop
 μ-loop lines n row₀ c₀ i₀ row c i = n - i

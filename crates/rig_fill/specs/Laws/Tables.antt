@@ -11,14 +11,14 @@ use lib.Seq.{getD-set-same, getD-set-other, ext-getD}
 use borrow.Author.Tests.{eqb-true, eqb-false}
 use Rattle.laws.specs.Cases.{by}
 use Rattle.rig.specs.declared.Row.{Row}
-use Rattle.rig.specs.Forms.{rigOf}
+use Rattle.rig.specs.Forms.{rigWith}
 use Rattle.rig_lines.specs.Kinds.{kindA, kindM, kindB, countOf, counts}
 use Rattle.rig_lines.specs.Line.{Line}
 use Rattle.rig_lines.specs.Whole.{numberOf, isKind, isFlagLine, howMany, tasksOf, flagsOf, masterOf}
 use Rattle.rig_held.specs.Held.{heldLine, held}
 use Rattle.rig_held.specs.Laws.Lines.{held-at, held-none, held-more}
 use Rattle.rig_held.specs.Laws.Rules.{kind-yes, kind-no, first-is, first-not, many-yes, many-no, many-none, many-most}
-use Rattle.rig_fill.specs.OfLines.{zeros, stored, listed, taskTable, conditionTable, one, lineTable, rowOf, rigFrom, flagsFrom, places, tableFrom}
+use Rattle.rig_fill.specs.OfLines.{zeros, stored, listed, taskTable, conditionTable, one, lineTable, rowSaid, rigFrom, flagsFrom, places, tableFrom}
 use Rattle.rig_fill.specs.Laws.Snoc.{stored-none, stored-snoc, stored-length, listed-none, listed-snoc, listed-length, set-past, places-length, places-at}
 
 -- ---- a table by place: where it begins, a line that is meant, one whose place is behind the end, one that is not meant
@@ -79,8 +79,8 @@ pub row-says : (l : List ℕ) (i : ℕ) → getD l (10 * i) 0 ≡ kindB →
       words = getD l (10 * i + 5) 0;
       period = getD l (10 * i + 6) 0;
       phase = getD l (10 * i + 7) 0;
-    } ≡ rowOf (heldLine l i)
-unfolding rowOf countOf counts
+    } ≡ rowSaid (heldLine l i)
+unfolding rowSaid countOf counts
 row-says l i e =
     rw (
       says-at l i kindB 0 e (omega arith),
@@ -187,6 +187,6 @@ pub rig-is : (rs : List Line) (tasks flags master lines rows : ℕ) (controller 
     linePos ≡ lineTable 1 rs →
     lineFlag ≡ lineTable 2 rs →
     row ≡ rigFrom rs .row →
-    rigOf tasks flags master lines rows controller priority privileged activation present latched desired lineTask linePos lineFlag row ≡ rigFrom rs
+    rigWith tasks flags master lines rows controller priority privileged activation present latched desired lineTask linePos lineFlag row ≡ rigFrom rs
 unfolding rigFrom
 rig-is rs tasks flags master lines rows controller priority privileged activation present latched desired lineTask linePos lineFlag row e0 e1 e2 e3 e4 e5 e6 e7 e8 e9 e10 e11 e12 e13 e14 e15 = rw (e0, e1, e2, e3, e4, e5, e6, e7, e8, e9, e10, e11, e12, e13, e14, e15)

@@ -1,4 +1,4 @@
-use Rattle.rig_lines.specs.Kinds.{rank}
+use Rattle.rig_lines.specs.Kinds.{placeInOrder}
 use borrow.Author.Needs.{needs}
 use Rattle.rig_lines.proofs.place_of.Statement.{statement}
 use Rattle.rig_lines.proofs.place_of.Tie as tie
@@ -31,7 +31,7 @@ add-result-3 : tie.Need-add-result-3
 add-result-3 c = search needs
 
 returns : tie.Need-returns
-unfolding rank
+unfolding placeInOrder
 returns c = rw (← c .before .before .key .ensures .0, ← c .before .key2 .ensures .0, ← c .key3 .ensures .0)
 
 pub place-of-spec : {M : Type 1} → statement M

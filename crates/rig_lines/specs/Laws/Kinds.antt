@@ -14,7 +14,7 @@ use Rattle.laws.specs.Laws.Tables.{zeros-at}
 use Rattle.laws.specs.Cases.{by}
 use Rattle.laws.specs.Decides.{Is}
 use Rattle.laws.specs.Laws.All.{and-left, and-right}
-use Rattle.rig_lines.specs.Kinds.{counts, keys, lows, highs, sorts, countOf, keysOf, lowOf, highOf, sortOf, within, letterOf, kindOf}
+use Rattle.rig_lines.specs.Kinds.{counts, keys, lows, highs, sorts, countOf, keysOf, lowOf, highOf, sortOf, within, kindOfLetter, kindOf}
 
 pub within-low : (k f n : ℕ) → n < lowOf k f → false ≡ within k f n
 unfolding within
@@ -33,7 +33,7 @@ unfolding within
 within-is k f n e =
     (leb-true _ _ (and-left (leb (lowOf k f) n) (leb n (highOf k f)) e), leb-true _ _ (and-right (leb (lowOf k f) n) (leb n (highOf k f)) e))
 
-pub kind-one : (l : List ℕ) → length l ≡ 1 → kindOf l ≡ letterOf (getD l 0 0)
+pub kind-one : (l : List ℕ) → length l ≡ 1 → kindOf l ≡ kindOfLetter (getD l 0 0)
 unfolding kindOf
 kind-one [] h = absurd (omega arith)
 kind-one (a ∷ []) h = refl
@@ -81,8 +81,8 @@ high-small k f = entries-le 255 highs refl (k * 9 + f)
 pub within-small : (k f n : ℕ) → within k f n ≡ true → n ≤ 255
 within-small k f n e = omega (arith, within-is k f n e .1, high-small k f)
 
-pub letter-small : (a : ℕ) → letterOf a < 7
-unfolding letterOf
+pub letter-small : (a : ℕ) → kindOfLetter a < 7
+unfolding kindOfLetter
 letter-small a =
     by (eqb a 84)
     (λ e. rw e (omega arith))

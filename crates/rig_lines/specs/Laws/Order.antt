@@ -14,7 +14,7 @@ use lib.Dec.{leb, ltb, eqb}
 use lib.ListN.{length, getD, take, length-take}
 use borrow.Author.Tests.{ltb-true, ltb-false, eqb-true, eqb-false, lt-ltb, le-ltb, le-leb, eq-eqb, ne-eqb}
 use Rattle.laws.specs.Cases.{by}
-use Rattle.rig_lines.specs.Kinds.{keys, keysOf, countOf, keyed, rank, follows}
+use Rattle.rig_lines.specs.Kinds.{keys, keysOf, countOf, keyed, placeInOrder, follows}
 use Rattle.rig_lines.specs.Laws.Kinds.{entries, entries-le}
 use Rattle.rig_lines.specs.Line.{Line, shaped, sized, placed, ordered, judge}
 use Rattle.rig_lines.specs.Words.{leading, Below, Before, MayFollow}
@@ -105,7 +105,7 @@ taken (suc n) (x ∷ v) (suc j) = down ∙ taken n v j
         (λ e. let h = ltb-false j n e in rw (e, le-ltb (suc j) (suc n) (omega arith)))
 
 placed-low : (r : Line) → placed r ≡ r .kind * 16777216 + low (leading r)
-unfolding placed rank keyed leading
+unfolding placed placeInOrder keyed leading
 placed-low r =
     let a = taken (keysOf (r .kind)) (r .nums) 0 in
     let b = taken (keysOf (r .kind)) (r .nums) 1 in

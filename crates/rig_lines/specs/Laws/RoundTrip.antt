@@ -19,14 +19,14 @@ use Rattle.decimal.specs.Decimal.{number, dec, decBy}
 use Rattle.decimal.specs.Laws.{number-dec, dec-number}
 use Rattle.text.specs.Split.{split, join, led}
 use Rattle.text.specs.Laws.Split.{Free, Frees, split-cons, join-split, split-piece, split-join}
-use Rattle.rig_lines.specs.Kinds.{within, nameOf, letterOf, kindOf}
+use Rattle.rig_lines.specs.Kinds.{within, nameOf, kindOfLetter, kindOf}
 use Rattle.rig_lines.specs.Laws.Kinds.{kind-small, within-small}
 use Rattle.rig_lines.specs.Line.{Line, first, others, lineOf, fits, placed, judge}
 use Rattle.rig_lines.specs.Laws.Judged.{Faultless, judged-sound, shaped-known, sized-fits}
 use Rattle.rig_lines.specs.Laws.Order.{EachPassed, InOrder, file-order, order-file}
 use Rattle.rig_lines.specs.File.{Fault, fault, firstFault, faultOf, linesIn, linesOf}
 use Rattle.rig_lines.specs.Laws.Turns.{fault-next, lines-next}
-use Rattle.rig_lines.specs.Text.{bytesOf, text}
+use Rattle.rig_lines.specs.Text.{lineBytes, text}
 
 numbers-decs : (k f : ℕ) (ns : List ℕ) → fits k f ns ≡ true → map number (map dec ns) ≡ ns
 unfolding fits
@@ -44,8 +44,8 @@ decs-numbers k f (x ∷ xs) s =
     (decs-numbers k (f + 1) xs (and-right (within k f (number x)) (fits k (f + 1) (map number xs)) s))
 
 -- names
-letter-back : (a : ℕ) → 0 < letterOf a → a ∷ [] ≡ nameOf (letterOf a)
-unfolding letterOf nameOf
+letter-back : (a : ℕ) → 0 < kindOfLetter a → a ∷ [] ≡ nameOf (kindOfLetter a)
+unfolding kindOfLetter nameOf
 letter-back a h =
     by (eqb a 84)
     (λ e. rw (e, eqb-true a 84 e))
@@ -72,7 +72,7 @@ name-back (a ∷ b ∷ c ∷ []) h =
 name-back (a ∷ b ∷ c ∷ d ∷ l) h = absurd (omega arith)
 
 kind-name : (k : ℕ) → 0 < k → k < 7 → kindOf (nameOf k) ≡ k
-unfolding kindOf nameOf letterOf
+unfolding kindOf nameOf kindOfLetter
 kind-name zero h g = absurd (omega arith)
 kind-name (suc zero) h g = refl
 kind-name (suc (suc zero)) h g = refl
@@ -119,18 +119,18 @@ frees-decs : (c : ℕ) (ns : List ℕ) → c < 48 → Frees c (map dec ns)
 frees-decs c [] h = tt
 frees-decs c (n ∷ ns) h = (free-dec c n h, frees-decs c ns h)
 
-free-line : (r : Line) → Free 10 (bytesOf r)
-unfolding bytesOf
+free-line : (r : Line) → Free 10 (lineBytes r)
+unfolding lineBytes
 free-line r =
     free-append 10 (nameOf (r .kind)) (led 9 (map dec (r .nums))) (free-name 10 (r .kind) (omega arith))
     (free-led 10 (map dec (r .nums)) (omega arith) (frees-decs 10 (r .nums) (omega arith)))
 
-split-line : (r : Line) → split 9 (bytesOf r) ≡ nameOf (r .kind) ∷ map dec (r .nums)
-unfolding bytesOf
+split-line : (r : Line) → split 9 (lineBytes r) ≡ nameOf (r .kind) ∷ map dec (r .nums)
+unfolding lineBytes
 split-line r = split-join 9 (nameOf (r .kind)) (map dec (r .nums)) (free-name 9 (r .kind) (omega arith)) (frees-decs 9 (r .nums) (omega arith))
 
 -- a line's bytes say the line
-line-read : (p : ℕ) (r : Line) → r .kind < 7 → judge p r ≡ 0 → lineOf (bytesOf r) ≡ r
+line-read : (p : ℕ) (r : Line) → r .kind < 7 → judge p r ≡ 0 → lineOf (lineBytes r) ≡ r
 unfolding lineOf first others
 line-read p r h e =
     let w = judged-sound p r e in
@@ -140,27 +140,27 @@ text-lines : (rs : List Line) (p : ℕ) → Faultless p rs → linesIn (split 10
 unfolding text
 text-lines [] p w = unfold split linesIn in refl
 text-lines (r ∷ rs) p w =
-    rw (split-piece 10 (bytesOf r) (text rs) (free-line r), lines-next (bytesOf r) (text rs), line-read p r (w .0) (w .1), text-lines rs (placed r) (w .2))
+    rw (split-piece 10 (lineBytes r) (text rs) (free-line r), lines-next (lineBytes r) (text rs), line-read p r (w .0) (w .1), text-lines rs (placed r) (w .2))
 
 text-fault : (rs : List Line) (n p : ℕ) → 1 < n → Faultless p rs → firstFault n p (split 10 (text rs)) ≡ fault 0 0
 unfolding text
 text-fault [] n p h w = unfold split firstFault in rw (lt-ltb 1 n h)
 text-fault (r ∷ rs) n p h w =
     let e = line-read p r (w .0) (w .1) in
-    rw (split-piece 10 (bytesOf r) (text rs) (free-line r), fault-next (bytesOf r) (text rs) n p, e, w .1)
+    rw (split-piece 10 (lineBytes r) (text rs) (free-line r), fault-next (lineBytes r) (text rs) n p, e, w .1)
     (text-fault rs (n + 1) (placed r) (omega arith) (w .2))
 
 pub read-lines : (r : Line) (rs : List Line) → Faultless 0 (r ∷ rs) → (faultOf (text (r ∷ rs)) ≡ fault 0 0) × (linesOf (text (r ∷ rs)) ≡ r ∷ rs)
 unfolding faultOf linesOf
 read-lines r rs w =
     let e = line-read 0 r (w .0) (w .1) in (
-      (unfold text in rw (split-piece 10 (bytesOf r) (text rs) (free-line r), fault-next (bytesOf r) (text rs) 1 0, e, w .1) (text-fault rs (1 + 1) (placed r) (omega arith) (w .2))),
+      (unfold text in rw (split-piece 10 (lineBytes r) (text rs) (free-line r), fault-next (lineBytes r) (text rs) 1 0, e, w .1) (text-fault rs (1 + 1) (placed r) (omega arith) (w .2))),
       text-lines (r ∷ rs) 0 w,
     )
 
 -- a faultless line is its bytes
-line-written : (l : List ℕ) (p : ℕ) → judge p (lineOf l) ≡ 0 → (l ≡ bytesOf (lineOf l)) × (lineOf l .kind < 7)
-unfolding lineOf bytesOf first others join
+line-written : (l : List ℕ) (p : ℕ) → judge p (lineOf l) ≡ 0 → (l ≡ lineBytes (lineOf l)) × (lineOf l .kind < 7)
+unfolding lineOf lineBytes first others join
 line-written l p e =
     let s = split-cons 9 l in
     let w = judged-sound p (lineOf l) e in
@@ -228,8 +228,8 @@ last-behind (x ∷ xs) d y ys = last-behind xs x y ys
 
 text-last : (r : Line) (rs : List Line) (d : ℕ) → lastIn d (text (r ∷ rs)) ≡ 10
 unfolding text
-text-last r [] d = last-behind (bytesOf r) d 10 []
-text-last r (q ∷ rs) d = last-behind (bytesOf r) d 10 (text (q ∷ rs)) ∙ text-last q rs 10
+text-last r [] d = last-behind (lineBytes r) d 10 []
+text-last r (q ∷ rs) d = last-behind (lineBytes r) d 10 (text (q ∷ rs)) ∙ text-last q rs 10
 
 pub last-byte : (u : List ℕ) (b : ℕ) → faultOf (u ++ (b ∷ [])) .no ≡ 0 → b ≡ 10
 last-byte u b e =

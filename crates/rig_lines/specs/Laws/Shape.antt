@@ -19,7 +19,7 @@ use Rattle.laws.specs.Laws.Decides.{is-eqb, is-ltb, is-and, is-if, is-said}
 use Rattle.decimal.specs.Decimal.{cap, number}
 use Rattle.decimal.specs.Plain.{number-exact}
 use Rattle.text.specs.Split.{split}
-use Rattle.rig_lines.specs.Kinds.{lowOf, highOf, within, listed, timed, periods}
+use Rattle.rig_lines.specs.Kinds.{lowOf, highOf, within, periodListed, timed, periods}
 use Rattle.rig_lines.specs.Laws.Kinds.{within-is, within-fits, is-always}
 use Rattle.rig_lines.specs.Line.{Line, lineOf, others, decimals, shaped, fits, sized}
 use Rattle.rig_lines.specs.Words.{Decimals, Shape, Sizes}
@@ -51,8 +51,8 @@ shaped-exact l = (
 )
 
 -- "periods 1, 2, 4, 8, 16, 32, 64"
-listed-exact : (p : ℕ) → (listed p ≡ true) ↔ In p periods
-unfolding listed
+listed-exact : (p : ℕ) → (periodListed p ≡ true) ↔ In p periods
+unfolding periodListed
 listed-exact p =
     is-or′ (is-eqb p 1) (is-or′ (is-eqb p 2) (is-or′ (is-eqb p 4) (is-or′ (is-eqb p 8) (is-or′ (is-eqb p 16) (is-or′ (is-eqb p 32) (last p))))))
   where

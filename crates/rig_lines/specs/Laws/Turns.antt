@@ -16,7 +16,7 @@ use Rattle.decimal.specs.Decimal.{cap, number}
 use Rattle.text.specs.Split.{split, part, rest}
 use Rattle.text.specs.Laws.Split.{split-cons}
 use Rattle.text.specs.Laws.Parts.{Found, piece, rest-next, rest-none, part-none, length-part}
-use Rattle.rig_lines.specs.Kinds.{kindOf, lowOf, highOf, within, timed, rank, keyed}
+use Rattle.rig_lines.specs.Kinds.{kindOf, lowOf, highOf, within, timed, placeInOrder, keyed}
 use Rattle.rig_lines.specs.Laws.Kinds.{within-low, within-high, within-fits}
 use Rattle.rig_lines.specs.Line.{Line, lineOf, first, others, decimals, fits, placed, judge}
 use Rattle.rig_lines.specs.File.{Fault, fault, firstFault, linesIn}
@@ -161,6 +161,6 @@ pub timed-same : (k : ℕ) (v u : List ℕ) → ((i : ℕ) → getD v i 0 ≡ ge
 unfolding timed
 timed-same k v u h = rw (h 5, h 6)
 
-pub rank-same : (k : ℕ) (v u : List ℕ) → ((i : ℕ) → getD v i 0 ≡ getD u i 0) → rank k v ≡ rank k u
-unfolding rank keyed
+pub rank-same : (k : ℕ) (v u : List ℕ) → ((i : ℕ) → getD v i 0 ≡ getD u i 0) → placeInOrder k v ≡ placeInOrder k u
+unfolding placeInOrder keyed
 rank-same k v u h = rw (h 0, h 1, h 2)

@@ -13,11 +13,11 @@ use Rattle.decimal.specs.Decimal.{dec}
 use Rattle.text.specs.Split.{led}
 use Rattle.rig_lines.specs.Kinds.{countOf, nameOf}
 use Rattle.rig_lines.specs.Laws.Turns.{put-turn, put-none}
-use Rattle.rig_lines.specs.Text.{bytesOf}
+use Rattle.rig_lines.specs.Text.{lineBytes}
 use Rattle.rig_print.specs.Line.{begun, lineText}
 
-pub line-is : (k : ℕ) (v : List ℕ) → lineText k v ≡ bytesOf (record { kind = k; nums = take (countOf k) v }) ++ (10 ∷ [])
-unfolding lineText begun bytesOf
+pub line-is : (k : ℕ) (v : List ℕ) → lineText k v ≡ lineBytes (record { kind = k; nums = take (countOf k) v }) ++ (10 ∷ [])
+unfolding lineText begun lineBytes
 line-is k v = refl
 
 map-append : (a b : List ℕ) → map dec (a ++ b) ≡ map dec a ++ map dec b

@@ -5,7 +5,7 @@ use Rattle.laws.specs.All.{allOf}
 use Rattle.laws.specs.First.{firstFalse}
 use Rattle.laws.specs.Laws.First.{first-found, first-passed, first-last}
 use Rattle.rig.specs.declared.Rig.{Rig}
-use Rattle.rig.specs.Forms.{rigOf}
+use Rattle.rig.specs.Forms.{rigWith}
 use Rattle.rig_tables.specs.Tests.{linesRiseB}
 use Rattle.rig_cycles.specs.Tests.{cyclesRiseB}
 use Rattle.rig_whole.specs.Tests.{shapedTests, countGroup, sizeGroup, orderGroup, numberGroup, taskGroup, lineGroup, restGroup, fromSizes, fromOrders, fromNumbers, fromTasks, fromLines, fromRest, tests, firstBroken}
@@ -17,7 +17,7 @@ use Rattle.rig_whole.proofs.broken_in.Tie as tie
 -- the rig of the lent tables
 abbrev rig-at : tie.Start → Rig
 rig-at c =
-    rigOf (c .args .tasks) (c .args .flags) (c .args .master) (c .args .lines) (c .args .rows) (c .args .controller .now) (c .args .priority .now) (c .args .privileged .now) (c .args .activation .now) (c .args .present .now) (c .args .latched .now) (c .args .desired .now) (c .args .lineTask .now) (c .args .linePos .now) (c .args .lineFlag .now) (c .args .row)
+    rigWith (c .args .tasks) (c .args .flags) (c .args .master) (c .args .lines) (c .args .rows) (c .args .controller .now) (c .args .priority .now) (c .args .privileged .now) (c .args .activation .now) (c .args .present .now) (c .args .latched .now) (c .args .desired .now) (c .args .lineTask .now) (c .args .linePos .now) (c .args .lineFlag .now) (c .args .row)
 
 -- what the first, the third and the fourth group leave known
 counted-at : (c : tie.Else1) → Counted (c .before .before .args .tasks) (c .before .before .args .flags) (c .before .before .args .lines) (c .before .before .args .rows)

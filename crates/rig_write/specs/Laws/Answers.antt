@@ -22,7 +22,7 @@ use Rattle.rig_write.specs.File.{fileOf}
 use Rattle.rig_write.specs.Laws.Fits.{file-fits}
 use Rattle.rig_write.specs.declared.Written.{Written}
 use Rattle.rig_write.specs.declared.Written.the-variants.{Done, Refused}
-use Rattle.rig_write.specs.Written.{Report, finished, refused, writtenReport, writtenOf, bufferOf}
+use Rattle.rig_write.specs.Written.{WriteReport, fileWritten, writeRefused, writtenReport, writtenOf, bufferOf}
 
 -- what was written at the start stands there
 front : (l f : List ℕ) (n : ℕ) → length f ≡ n → take n (put l 0 f) ≡ f
@@ -58,10 +58,10 @@ module _ (g : Rig) (cycles : List Cycle) (b : List ℕ) where
 
 -- two answers with one report are one answer
 pub written-same : (a b : Written) → writtenReport a ≡ writtenReport b → a ≡ b
-written-same (Done m) (Done n) e = ap (λ (x : ℕ). Done x) (ap (λ (r : Report). getD (r .values) 0 0) e)
-written-same (Done m) (Refused n) e = let z : _≡_ {A = ℕ} 1 0 = ap (λ (r : Report). length (r .values)) e in absurd (omega arith)
-written-same (Refused m) (Done n) e = let z : _≡_ {A = ℕ} 0 1 = ap (λ (r : Report). length (r .values)) e in absurd (omega arith)
-written-same (Refused m) (Refused n) e = ap (λ (x : ℕ). Refused x) (ap (λ (r : Report). r .number) e)
+written-same (Done m) (Done n) e = ap (λ (x : ℕ). Done x) (ap (λ (r : WriteReport). getD (r .values) 0 0) e)
+written-same (Done m) (Refused n) e = let z : _≡_ {A = ℕ} 1 0 = ap (λ (r : WriteReport). length (r .values)) e in absurd (omega arith)
+written-same (Refused m) (Done n) e = let z : _≡_ {A = ℕ} 0 1 = ap (λ (r : WriteReport). length (r .values)) e in absurd (omega arith)
+written-same (Refused m) (Refused n) e = ap (λ (x : ℕ). Refused x) (ap (λ (r : WriteReport). r .number) e)
 
 -- the rig and the room settle what writing answers; the buffer after it is given by an equation
 pub write-same : (g : Rig) (cycles : List Cycle) (room : ℕ) (x y : Written) → writtenReport x ≡ writtenOf g cycles room → writtenReport y ≡ writtenOf g cycles room → x ≡ y
@@ -77,7 +77,7 @@ module _ (g : Rig) (cycles : List Cycle) (room : ℕ) where
     λ n. by (rightB g cycles) (λ e. absurd (n (right-is g cycles .0 e))) (λ e. rw e),
   )
     where
-      go : (a b : Bool) (n : ℕ) → cond a (cond b (refused 10) (finished n)) (refused 4) .number ≡ 4 → a ≡ false
+      go : (a b : Bool) (n : ℕ) → cond a (cond b (writeRefused 10) (fileWritten n)) (writeRefused 4) .number ≡ 4 → a ≡ false
       go true true n h = absurd (omega arith)
       go true false n h = absurd (omega arith)
       go false b n h = refl
@@ -90,7 +90,7 @@ module _ (g : Rig) (cycles : List Cycle) (room : ℕ) where
     λ w. rw (right-is g cycles .1 (w .0), lt-ltb room (length (fileOf g (tableOf cycles))) (w .1)),
   )
     where
-      go : (a b : Bool) (n : ℕ) → cond a (cond b (refused 10) (finished n)) (refused 4) .number ≡ 10 → (a ≡ true) × (b ≡ true)
+      go : (a b : Bool) (n : ℕ) → cond a (cond b (writeRefused 10) (fileWritten n)) (writeRefused 4) .number ≡ 10 → (a ≡ true) × (b ≡ true)
       go true true n h = (refl, refl)
       go true false n h = absurd (omega arith)
       go false b n h = absurd (omega arith)

@@ -21,7 +21,7 @@ use Rattle.rig_lines.specs.Kinds.{counts, highs, countOf, highOf, within, nameO
 use Rattle.rig_lines.specs.Laws.Kinds.{within-is, within-small}
 use Rattle.rig_lines.specs.Line.{Line, fits}
 use Rattle.rig_lines.specs.Laws.Judged.{shaped-count, sized-fits}
-use Rattle.rig_lines.specs.Text.{bytesOf, text}
+use Rattle.rig_lines.specs.Text.{lineBytes, text}
 use Rattle.rig_write.specs.Kept.{kept, ended}
 use Rattle.rig_write.specs.Laws.Kept.{text-append}
 use Rattle.rig_write.specs.File.{rigLine, isTask, taskLine, isCondition, conditionLine, isLine, flagLine, isFlag, cycleLine, isRow, rowLine, fileOf}
@@ -77,7 +77,7 @@ numbers-length k f (n ∷ ns) e =
     omega arith
 
 pub line-length : (r : Line) → Good r → length (ended r) ≤ length (nameOf (r .kind)) + longest (r .kind) 0 (countOf (r .kind)) + 1
-unfolding bytesOf
+unfolding lineBytes
 line-length r w =
     let c = shaped-count r (w .shape) in
     let i : length (led 9 (map dec (r .nums))) ≤ longest (r .kind) 0 (countOf (r .kind)) = rw c at (numbers-length (r .kind) 0 (r .nums) (sized-fits r (w .size))) in

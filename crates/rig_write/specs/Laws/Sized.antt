@@ -14,10 +14,10 @@ use Rattle.laws.specs.Members.{In}
 use Rattle.rig.specs.declared.Cycle.{Cycle}
 use Rattle.rig.specs.declared.Rig.{Rig}
 use Rattle.rig.specs.Rules.{noRow, noCycle, periods, Right}
-use Rattle.rig.specs.Forms.{flagsOf, tableOf}
+use Rattle.rig.specs.Forms.{cycleFlags, tableOf}
 use Rattle.rig_whole.specs.Laws.Tree.{controllers-low}
 use Rattle.decimal.specs.Decimal.{cap}
-use Rattle.rig_lines.specs.Kinds.{counts, lows, highs, countOf, lowOf, highOf, within, listed, timed}
+use Rattle.rig_lines.specs.Kinds.{counts, lows, highs, countOf, lowOf, highOf, within, periodListed, timed}
 use Rattle.rig_lines.specs.Laws.Kinds.{within-fits, within-small}
 use Rattle.rig_lines.specs.Line.{Line, decimals, shaped, fits, sized}
 use Rattle.rig_lines.specs.Laws.Judged.{shaped-if, sized-if}
@@ -58,11 +58,11 @@ unfolding timed
 timed-other k v n = rw (ne-eqb k 6 n)
 
 -- "periods 1, 2, 4, 8, 16, 32, 64, phase below the period"
-period-as : (p q : ℕ) → p ≡ q → (listed q ≡ true) × (1 ≤ q) × (q ≤ 64) → (listed p ≡ true) × (1 ≤ p) × (p ≤ 64)
+period-as : (p q : ℕ) → p ≡ q → (periodListed q ≡ true) × (1 ≤ q) × (q ≤ 64) → (periodListed p ≡ true) × (1 ≤ p) × (p ≤ 64)
 period-as p q e w = rw e w
 
-pub period-listed : (p : ℕ) → In p periods → (listed p ≡ true) × (1 ≤ p) × (p ≤ 64)
-unfolding listed
+pub period-listed : (p : ℕ) → In p periods → (periodListed p ≡ true) × (1 ≤ p) × (p ≤ 64)
+unfolding periodListed
 period-listed p (inl e) = period-as p 1 e (refl, omega arith, omega arith)
 period-listed p (inr (inl e)) = period-as p 2 e (refl, omega arith, omega arith)
 period-listed p (inr (inr (inl e))) = period-as p 4 e (refl, omega arith, omega arith)
@@ -72,7 +72,7 @@ period-listed p (inr (inr (inr (inr (inr (inl e)))))) = period-as p 32 e (refl, 
 period-listed p (inr (inr (inr (inr (inr (inr (inl e))))))) = period-as p 64 e (refl, omega arith, omega arith)
 period-listed p (inr (inr (inr (inr (inr (inr (inr z))))))) = absurd z
 
-timely : (a b c d e p q : ℕ) → listed p ≡ true → q < p → timed 6 (a ∷ b ∷ c ∷ d ∷ e ∷ p ∷ q ∷ []) ≡ true
+timely : (a b c d e p q : ℕ) → periodListed p ≡ true → q < p → timed 6 (a ∷ b ∷ c ∷ d ∷ e ∷ p ∷ q ∷ []) ≡ true
 unfolding timed
 timely a b c d e p q l h = rw (l, lt-ltb q p h)
 
@@ -149,11 +149,11 @@ module _ (g : Rig) (cycles : List Cycle) (r : Right g cycles) where
   cycle-good i h e =
       let f = r .flag-count in
       let s = r .shaped .sixty-four in
-      let q : getD (map flagsOf cycles) (i / 15) [] ≡ getD cycles (i / 15) noCycle .flags = mapped-at flagsOf cycles (i / 15) [] noCycle (omega arith) in
-      let m : getD (getD (map flagsOf cycles) (i / 15) []) (i % 15) 0 ≤ g .flags = rw q (r .cycle-numbers (i / 15) (omega arith) (i % 15) (omega arith)) in
-      let z : 1 ≤ getD (getD (map flagsOf cycles) (i / 15) []) (i % 15) 0 = some (getD (getD (map flagsOf cycles) (i / 15) []) (i % 15) 0) e in
-      good (cycleLine (map flagsOf cycles) i) (omega arith) refl
-      (fits-more 5 0 (i / 15) _ (omega arith) (omega arith) (fits-more 5 1 (getD (getD (map flagsOf cycles) (i / 15) []) (i % 15) 0) _ (omega arith) (omega arith) (fits-none 5 2)))
+      let q : getD (map cycleFlags cycles) (i / 15) [] ≡ getD cycles (i / 15) noCycle .flags = mapped-at cycleFlags cycles (i / 15) [] noCycle (omega arith) in
+      let m : getD (getD (map cycleFlags cycles) (i / 15) []) (i % 15) 0 ≤ g .flags = rw q (r .cycle-numbers (i / 15) (omega arith) (i % 15) (omega arith)) in
+      let z : 1 ≤ getD (getD (map cycleFlags cycles) (i / 15) []) (i % 15) 0 = some (getD (getD (map cycleFlags cycles) (i / 15) []) (i % 15) 0) e in
+      good (cycleLine (map cycleFlags cycles) i) (omega arith) refl
+      (fits-more 5 0 (i / 15) _ (omega arith) (omega arith) (fits-more 5 1 (getD (getD (map cycleFlags cycles) (i / 15) []) (i % 15) 0) _ (omega arith) (omega arith) (fits-none 5 2)))
       (timed-other 5 _ (omega arith))
     where
       some : (f : ℕ) → not (eqb f 0) ≡ true → 1 ≤ f

@@ -10,27 +10,27 @@ use Rattle.words.specs.declared.Encoded.the-variants as encoded
 use Rattle.words.specs.declared.status.Verdict.{Verdict}
 use Rattle.words.specs.declared.status.Judged.{Judged}
 use Rattle.words.specs.declared.status.Judged.the-variants as judged
-use Rattle.words.specs.Answers.{WordReport, accepted, refused, sized, encodedReport, judgedReport}
+use Rattle.words.specs.Answers.{WordReport, wordAnswered, wordRefused, ifInSize, encodedReport, judgedReport}
 
-pub refused-exactly : {A : Type 0} (inSize : Bool) (value : A) → (sized inSize value .number ≡ 11) ↔ (inSize ≡ false)
-unfolding sized
-refused-exactly true value = ((λ e. let z : ⊥ = omega arith in absurd z), (λ e. ap (λ b. sized b value .number) e))
+pub refused-exactly : {A : Type 0} (inSize : Bool) (value : A) → (ifInSize inSize value .number ≡ 11) ↔ (inSize ≡ false)
+unfolding ifInSize
+refused-exactly true value = ((λ e. let z : ⊥ = omega arith in absurd z), (λ e. ap (λ b. ifInSize b value .number) e))
 refused-exactly false value = ((λ e. refl), (λ e. refl))
 
 -- what an entry's two answers report
-pub sized-yes : {A : Type 0} {inSize : Bool} {x y : A} → inSize ≡ true → x ≡ y → accepted x ≡ sized inSize y
-unfolding sized
+pub sized-yes : {A : Type 0} {inSize : Bool} {x y : A} → inSize ≡ true → x ≡ y → wordAnswered x ≡ ifInSize inSize y
+unfolding ifInSize
 sized-yes e f = rw (e, f)
 
-pub sized-no : {A : Type 0} {inSize : Bool} (y : A) → inSize ≡ false → refused 11 ≡ sized inSize y
-unfolding sized
+pub sized-no : {A : Type 0} {inSize : Bool} (y : A) → inSize ≡ false → wordRefused 11 ≡ ifInSize inSize y
+unfolding ifInSize
 sized-no y e = rw e
 
 -- an accepted report is no refusal, and says its one value
-accepted-same : {A : Type 0} (x y : A) → accepted x ≡ accepted y → x ≡ y
+accepted-same : {A : Type 0} (x y : A) → wordAnswered x ≡ wordAnswered y → x ≡ y
 accepted-same {A} x y e = let l : x ∷ [] ≡ y ∷ [] = ap (λ (r : WordReport A). r .values) e in cc
 
-accepted-never : {A : Type 0} (x : A) → accepted x ≡ refused 11 → ⊥
+accepted-never : {A : Type 0} (x : A) → wordAnswered x ≡ wordRefused 11 → ⊥
 accepted-never {A} x e = let z : _≡_ {A = ℕ} 0 11 = ap (λ (r : WordReport A). r .number) e in omega arith
 
 -- two answers with one report are one answer

@@ -13,7 +13,7 @@ use Rattle.laws.specs.Laws.Bits.{bit-below, isOne-bit, bit-isOne}
 use Rattle.laws.specs.Cases.{by}
 use Rattle.word_parts.specs.Packed.{commandWord}
 use Rattle.words.specs.declared.command.Command.{Command}
-use Rattle.words.specs.Answers.{accepted, sized}
+use Rattle.words.specs.Answers.{wordAnswered, ifInSize}
 use Rattle.words.specs.Command.{wordOfCommand, isMode, lastInSize, commandInSize, commandReport, lastOf, commandFields}
 
 -- ---- the last field, for a mode command or not: what is written for it is read as it was, and the other way round
@@ -113,8 +113,8 @@ command-fields-word c e =
     )
 
 -- any word, to its fields and back: the fields are in their sizes, and their word is that word
-pub command-word-fields : (w : ℕ) → w < 65536 → commandReport (commandFields w) ≡ accepted w
-unfolding commandReport commandInSize commandFields allOf sized
+pub command-word-fields : (w : ℕ) → w < 65536 → commandReport (commandFields w) ≡ wordAnswered w
+unfolding commandReport commandInSize commandFields allOf ifInSize
 command-word-fields w h =
     rw (
       le-leb (w / 2048) 31 (omega arith),

@@ -14,7 +14,7 @@ use Rattle.laws.specs.Laws.Bits.{bit-below, isOne-bit, bit-isOne}
 use Rattle.laws.specs.Cases.{by}
 use Rattle.words.specs.declared.status.Status.{Status}
 use Rattle.words.specs.declared.status.Verdict.the-variants.{Error, Exception, Clean}
-use Rattle.words.specs.Answers.{accepted, sized}
+use Rattle.words.specs.Answers.{wordAnswered, ifInSize}
 use Rattle.word_parts.specs.Packed.{statusWord}
 use Rattle.word_parts.specs.Parity.{parityBit}
 use Rattle.word_parts.specs.Laws.Parity.{parity-below}
@@ -82,8 +82,8 @@ status-fields-word s e =
     )
 
 -- any word, to its fields and back: the fields are in their sizes, and their word is that word
-pub status-word-fields : (w : ℕ) → w < 65536 → statusReport (statusFields w) ≡ accepted w
-unfolding statusReport statusInSize statusFields allOf sized
+pub status-word-fields : (w : ℕ) → w < 65536 → statusReport (statusFields w) ≡ wordAnswered w
+unfolding statusReport statusInSize statusFields allOf ifInSize
 status-word-fields w h =
     rw (
       le-leb (w / 2048) 31 (omega arith),
