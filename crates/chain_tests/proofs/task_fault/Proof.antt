@@ -1,9 +1,8 @@
-use borrow.Author.Needs.{needs}
 use mathlib.Core.Path.{_∙_}
 use borrow.Author.Tests.{eq-eqb, ne-eqb}
 use Rattle.laws.specs.Faults.{or-zero}
-use Rattle.sound_chains.proofs.task_fault.Statement.{statement}
-use Rattle.sound_chains.proofs.task_fault.Tie as tie
+use Rattle.chain_tests.proofs.task_fault.Statement.{statement}
+use Rattle.chain_tests.proofs.task_fault.Tie as tie
 
 returns : tie.Need-returns
 returns c =

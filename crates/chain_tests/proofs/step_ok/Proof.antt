@@ -2,10 +2,10 @@ use mathlib.Core.Path.{sym, _∙_, ap}
 use Prim.Native.Nat.{ℕ}
 use lib.Dec.{eqb}
 use Rattle.chains.specs.Held.{at}
-use Rattle.sound_chains.specs.Laws.{step-zero, step-high, step-tests, step-apart}
+use Rattle.chain_tests.specs.Laws.Steps.{step-zero, step-high, step-tests, step-apart}
 use borrow.Author.Needs.{needs}
-use Rattle.sound_chains.proofs.step_ok.Statement.{statement}
-use Rattle.sound_chains.proofs.step_ok.Tie as tie
+use Rattle.chain_tests.proofs.step_ok.Statement.{statement}
+use Rattle.chain_tests.proofs.step_ok.Tie as tie
 
 returns : tie.Need-returns
 returns c =
