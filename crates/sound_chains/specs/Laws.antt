@@ -1,7 +1,7 @@
 -- The laws that the proofs of the check cite.
 use mathlib.Core.Path.{_≡_, refl, sym, _∙_, ap, subst}
 use mathlib.Core.Logic.{_≢_, _↔_}
-use mathlib.Core.Bool.{Bool, true, false, not, _&&_, false≢true, true≢false}
+use mathlib.Core.Bool.{Bool, true, false, not, false≢true}
 use mathlib.Core.List.{List, _∷_}
 use Prim.Native.Nat.{ℕ, zero, suc, _+_, _-_, _≤_, _<_}
 use native.Mathlib.Omega.{arith}
@@ -10,9 +10,9 @@ use lib.Dec.{eqb}
 use lib.ListN.{length, set, length-set, replicate}
 use Rattle.laws.specs.Laws.Tables.{zeros-at}
 use borrow.Author.Tests.{eqb-true, not-true}
-use Rattle.laws.specs.Cases.{by, and-true, and-yes}
+use Rattle.laws.specs.Cases.{by, and-true}
 use Rattle.laws.specs.All.{all}
-use Rattle.laws.specs.Laws.All.{all-at}
+use Rattle.laws.specs.Laws.All.{all-at, fails-at}
 use Rattle.laws.specs.Faults.{or-zero, xor-zero}
 use Rattle.chains.specs.Ops.{walk}
 use Rattle.chains.specs.Laws.Check.{stepb, step-out, ringb, marked, rings-start, rings-next, taskb, ring-end, ring-out, ring-bad, ring-next, walk-end, walk-next, tasks-accepted, accepted-tasks, equivalence}
@@ -95,17 +95,6 @@ module _ (l : Links) (s : ℕ) (seen : List ℕ) (ls : 64 < s) where
 pub alone-fault : (N P : ℕ → ℕ) (s : ℕ) → aloneb N P s ≡ eqb (bitOr (bitXor (N s) s) (bitXor (P s) s)) 0
 unfolding aloneb
 alone-fault N P s = sym (or-zero (bitXor (N s) s) (bitXor (P s) s) ∙ rw (xor-zero (N s) s, xor-zero (P s) s))
-
--- one of several tests fails
-fails-at : (n : ℕ) (p : ℕ → Bool) → all n p ≡ false → (k : ℕ) × (k < n) × (p k ≡ false)
-unfolding all
-fails-at zero p e = absurd (true≢false e)
-fails-at (suc n) p e =
-    by (p n)
-    (λ t.
-    let w = fails-at n p (sym (and-yes (all n p)) ∙ ap (λ (b : Bool). all n p && b) (sym t) ∙ e) in
-    (w .0, omega (arith, w .1), w .2))
-    (λ f. (n, omega arith, f))
 
 pub tasks-tested : (l : Links) (seen : List ℕ) (r : Bool) → r ≡ all 65 (taskb (at (l .next)) (at (l .prev)) (at (l .on)) (at seen)) → TasksTested l seen r
 tasks-tested l seen r e =
