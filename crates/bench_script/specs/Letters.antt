@@ -1,13 +1,7 @@
 -- THE BYTES OF SCRIPT AND OUTPUT, by name.
 use Prim.Native.Nat.{ℕ}
 use mathlib.Core.List.{List, [], _∷_}
-
--- "Lines end in LF; fields are parted by one tab"
-abbrev pub lf : ℕ
-lf = 10
-
-abbrev pub tab : ℕ
-tab = 9
+pub use Rattle.text.specs.Split.{lf, tab}
 
 -- "S, X, Z task (schedule, cancel, terminate); F; K (tick); U count; R cycles; L or N flag value (latched, unlatched wait);
 -- G flag value; Q flag"

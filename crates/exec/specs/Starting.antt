@@ -4,6 +4,7 @@ use mathlib.Core.Logic.{_⊎_}
 use mathlib.Core.List.{List}
 use Prim.Native.Nat.{ℕ}
 use lib.ListN.{replicate}
+use Rattle.laws.specs.Sizes.{taskPlaces, flagPlaces, conditionPlaces}
 use Rattle.rig.specs.Rules.{Right}
 use Rattle.rig.specs.Forms.{cyclesOf, noRig, noCycles}
 use Rattle.rig.specs.declared.Cycle.{Cycle}
@@ -20,11 +21,11 @@ abbrev pub noState : State
 noState =
     record {
       count = 0;
-      value = replicate 129 0;
-      cond = replicate 1040 0;
-      state = replicate 65 0;
-      wake = replicate 65 0;
-      links = record { next = replicate 322 0; prev = replicate 322 0; on = replicate 65 0 };
+      value = replicate flagPlaces 0;
+      cond = replicate conditionPlaces 0;
+      state = replicate taskPlaces 0;
+      wake = replicate taskPlaces 0;
+      links = record { next = replicate 322 0; prev = replicate 322 0; on = replicate taskPlaces 0 };
       running = 0;
     }
 

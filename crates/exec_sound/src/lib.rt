@@ -95,7 +95,7 @@ fn chains_ok<'a>(
     if !sound_chains::sound(next, prev, on) {
         return false;
     }
-    sound_chains::in_order(next, prev, on, wake, TIME_CHAIN, count + 1)
+    chain_tests::in_order(next, wake, TIME_CHAIN, count + 1)
 }
 
 // Whether the record of these parts is sound: the rig's rules, the tests over the tables, the chains.

@@ -1,3 +1,4 @@
+pub mod Sizes
 pub mod Cases
 pub mod Iter
 pub mod All

@@ -2,6 +2,7 @@
 use mathlib.Core.List.{List, map}
 use Prim.Native.Nat.{ℕ}
 use lib.ListN.{replicate}
+use Rattle.laws.specs.Sizes.{taskPlaces, conditionPlaces, mostLines, mostRows, minorCycles, flagsACycle}
 use Rattle.rig.specs.declared.Cycle.{Cycle}
 use Rattle.rig.specs.declared.Rig.{Rig}
 use Rattle.rig.specs.declared.Row.{Row}
@@ -51,18 +52,18 @@ noRig =
       master = 0;
       lines = 0;
       rows = 0;
-      controller = replicate 65 0;
-      priority = replicate 65 0;
-      privileged = replicate 65 0;
-      activation = replicate 65 0;
-      present = replicate 1040 0;
-      latched = replicate 1040 0;
-      desired = replicate 1040 0;
-      lineTask = replicate 1024 0;
-      linePos = replicate 1024 0;
-      lineFlag = replicate 1024 0;
-      row = replicate 64 noRow;
+      controller = replicate taskPlaces 0;
+      priority = replicate taskPlaces 0;
+      privileged = replicate taskPlaces 0;
+      activation = replicate taskPlaces 0;
+      present = replicate conditionPlaces 0;
+      latched = replicate conditionPlaces 0;
+      desired = replicate conditionPlaces 0;
+      lineTask = replicate mostLines 0;
+      linePos = replicate mostLines 0;
+      lineFlag = replicate mostLines 0;
+      row = replicate mostRows noRow;
     }
 
 abbrev pub noCycles : List Cycle
-noCycles = replicate 64 (record { flags = replicate 15 0 })
+noCycles = replicate minorCycles (record { flags = replicate flagsACycle 0 })

@@ -6,6 +6,7 @@ use mathlib.Core.List.{List, [], _∷_}
 use Prim.Native.Nat.{ℕ, _+_, _-_, _*_, _≤_, _<_}
 use lib.ListN.{length, getD}
 use Rattle.laws.specs.Members.{In}
+use Rattle.laws.specs.Sizes.{mostTasks, mostFlags, positions, mostPriority, minorCycles, flagsACycle, mostLines, mostRows, mostWords, taskPlaces, conditionPlaces}
 pub use Rattle.rig_tables.specs.Places.{at, place}
 use Rattle.rig.specs.declared.Row.{Row}
 use Rattle.rig.specs.declared.Cycle.{Cycle}
@@ -38,33 +39,33 @@ Flag g f = (1 ≤ f) × (f ≤ g .flags)
 
 -- "Flags on M lines are minor-cycle flags"
 abbrev pub Minor : List Cycle → ℕ → Type 0
-Minor cycles f = (f ≢ 0) × (c : ℕ) × (i : ℕ) × (c < 64) × (i < 15) × (flagAt cycles c i ≡ f)
+Minor cycles f = (f ≢ 0) × (c : ℕ) × (i : ℕ) × (c < minorCycles) × (i < flagsACycle) × (flagAt cycles c i ≡ f)
 
 -- ---- sizes
 
 -- "Tasks 1 to 64, flags 1 to 128", "addresses 0 to 31", "A .. (at most 1,024 lines)", "bus rows 0 to 64"
 abbrev pub TaskCount : Rig → Type 0
-TaskCount g = (1 ≤ g .tasks) × (g .tasks ≤ 64)
+TaskCount g = (1 ≤ g .tasks) × (g .tasks ≤ mostTasks)
 
 abbrev pub FlagCount : Rig → Type 0
-FlagCount g = (1 ≤ g .flags) × (g .flags ≤ 128)
+FlagCount g = (1 ≤ g .flags) × (g .flags ≤ mostFlags)
 
 abbrev pub MasterAddress : Rig → Type 0
 MasterAddress g = g .master ≤ 31
 
 abbrev pub LineCount : Rig → Type 0
-LineCount g = g .lines ≤ 1024
+LineCount g = g .lines ≤ mostLines
 
 abbrev pub RowCount : Rig → Type 0
-RowCount g = g .rows ≤ 64
+RowCount g = g .rows ≤ mostRows
 
 -- "priority 0 to 255"
 abbrev pub Priorities : Rig → Type 0
-Priorities g = (t : ℕ) → t < 65 → at (g .priority) t ≤ 255
+Priorities g = (t : ℕ) → t < taskPlaces → at (g .priority) t ≤ mostPriority
 
 -- "privileged 0/1"
 abbrev pub Privileges : Rig → Type 0
-Privileges g = (t : ℕ) → t < 65 → at (g .privileged) t ≤ 1
+Privileges g = (t : ℕ) → t < taskPlaces → at (g .privileged) t ≤ 1
 
 -- "latched 0/1, desired 0/1": present is 1 where there is a C line, else all three are 0 ("entries beyond its counts are 0")
 pub record ConditionValues (g : Rig) (p : ℕ) : Type 0 where
@@ -73,7 +74,7 @@ pub record ConditionValues (g : Rig) (p : ℕ) : Type 0 where
   pub desired : at (g .desired) p ≤ at (g .present) p
 
 abbrev pub Conditions : Rig → Type 0
-Conditions g = (p : ℕ) → p < 1040 → ConditionValues g p
+Conditions g = (p : ℕ) → p < conditionPlaces → ConditionValues g p
 
 -- "addresses 0 to 31, data sub-addresses 1 to 30", rows "of 1 to 32 words", "periods 1, 2, 4, 8, 16, 32, 64, phase below the
 -- period"
@@ -85,7 +86,7 @@ pub record RowSizes (b : Row) : Type 0 where
   pub senderSub : (1 ≤ b .senderSub) × (b .senderSub ≤ 30)
   pub receiver : b .receiver ≤ 31
   pub receiverSub : (1 ≤ b .receiverSub) × (b .receiverSub ≤ 30)
-  pub words : (1 ≤ b .words) × (b .words ≤ 32)
+  pub words : (1 ≤ b .words) × (b .words ≤ mostWords)
   pub period : In (b .period) periods
   pub phase : b .phase < b .period
 
@@ -108,17 +109,17 @@ LineOrder g =
 abbrev pub CycleOrder : List Cycle → Type 0
 CycleOrder cycles =
     (c : ℕ) →
-    c < 64 →
+    c < minorCycles →
     (i : ℕ) → i < 14 → flagAt cycles c (i + 1) ≢ 0 → (flagAt cycles c i ≢ 0) × (flagAt cycles c i < flagAt cycles c (i + 1))
 
 -- ---- rules over the whole file
 
 -- "no task or flag number is above the RIG line's": of T lines (0 for none), C lines, A lines ("positions 0 to 15"), M lines
 abbrev pub ActivationNumbers : Rig → Type 0
-ActivationNumbers g = (t : ℕ) → t < 65 → at (g .activation) t ≤ g .flags
+ActivationNumbers g = (t : ℕ) → t < taskPlaces → at (g .activation) t ≤ g .flags
 
 abbrev pub ConditionNumbers : Rig → Type 0
-ConditionNumbers g = (p : ℕ) → p < 1040 → at (g .present) p ≢ 0 → (16 ≤ p) × (p < 16 * (g .tasks + 1))
+ConditionNumbers g = (p : ℕ) → p < conditionPlaces → at (g .present) p ≢ 0 → (positions ≤ p) × (p < positions * (g .tasks + 1))
 
 pub record LineNumbers (g : Rig) (k : ℕ) : Type 0 where
   pub task : Task g (at (g .lineTask) k)
@@ -129,7 +130,7 @@ abbrev pub Lines : Rig → Type 0
 Lines g = (k : ℕ) → k < g .lines → LineNumbers g k
 
 abbrev pub CycleNumbers : Rig → List Cycle → Type 0
-CycleNumbers g cycles = (c : ℕ) → c < 64 → (i : ℕ) → i < 15 → flagAt cycles c i ≤ g .flags
+CycleNumbers g cycles = (c : ℕ) → c < minorCycles → (i : ℕ) → i < flagsACycle → flagAt cycles c i ≤ g .flags
 
 -- a is the controller of t, or of one of t's ancestors; 0 is none
 pub data Ancestor (controller : ℕ → ℕ) : ℕ → ℕ → Type 0 where
@@ -144,11 +145,11 @@ pub record Controllers (g : Rig) : Type 0 where
 -- "An activation flag serves one task"
 abbrev pub ActivationServesOne : Rig → Type 0
 ActivationServesOne g =
-    (t u : ℕ) → t < 65 → u < 65 → at (g .activation) t ≢ 0 → at (g .activation) t ≡ at (g .activation) u → t ≡ u
+    (t u : ℕ) → t < taskPlaces → u < taskPlaces → at (g .activation) t ≢ 0 → at (g .activation) t ≡ at (g .activation) u → t ≡ u
 
 -- "and is no minor-cycle flag"
 abbrev pub ActivationNotMinor : Rig → List Cycle → Type 0
-ActivationNotMinor g cycles = (t : ℕ) → t < 65 → Minor cycles (at (g .activation) t) → ⊥
+ActivationNotMinor g cycles = (t : ℕ) → t < taskPlaces → Minor cycles (at (g .activation) t) → ⊥
 
 -- "Each A names a condition with a C line"
 abbrev pub LineHasCondition : Rig → Type 0
@@ -156,7 +157,7 @@ LineHasCondition g = (k : ℕ) → k < g .lines → at (g .present) (linePlace g
 
 -- "each condition has at least one A"
 abbrev pub ConditionHasLine : Rig → Type 0
-ConditionHasLine g = (p : ℕ) → p < 1040 → at (g .present) p ≢ 0 → (k : ℕ) × (k < g .lines) × (linePlace g k ≡ p)
+ConditionHasLine g = (p : ℕ) → p < conditionPlaces → at (g .present) p ≢ 0 → (k : ℕ) × (k < g .lines) × (linePlace g k ≡ p)
 
 -- "A condition with a minor-cycle flag has no other flag, is unlatched and desires on"
 pub record MinorCondition (g : Rig) (k : ℕ) : Type 0 where
@@ -180,7 +181,7 @@ pub record NoTask (g : Rig) (t : ℕ) : Type 0 where
   pub activation : at (g .activation) t ≡ 0
 
 abbrev pub TaskZeros : Rig → Type 0
-TaskZeros g = (t : ℕ) → t < 65 → (Task g t → ⊥) → NoTask g t
+TaskZeros g = (t : ℕ) → t < taskPlaces → (Task g t → ⊥) → NoTask g t
 
 pub record NoLine (g : Rig) (k : ℕ) : Type 0 where
   pub task : at (g .lineTask) k ≡ 0
@@ -188,26 +189,26 @@ pub record NoLine (g : Rig) (k : ℕ) : Type 0 where
   pub flag : at (g .lineFlag) k ≡ 0
 
 abbrev pub LineZeros : Rig → Type 0
-LineZeros g = (k : ℕ) → k < 1024 → g .lines ≤ k → NoLine g k
+LineZeros g = (k : ℕ) → k < mostLines → g .lines ≤ k → NoLine g k
 
 abbrev pub RowZeros : Rig → Type 0
-RowZeros g = (k : ℕ) → k < 64 → g .rows ≤ k → rowAt g k ≡ noRow
+RowZeros g = (k : ℕ) → k < mostRows → g .rows ≤ k → rowAt g k ≡ noRow
 
 -- the tables have their lengths: so it is of every rig that a program holds
 pub record Shaped (g : Rig) (cycles : List Cycle) : Type 0 where
-  pub controller : length (g .controller) ≡ 65
-  pub priority : length (g .priority) ≡ 65
-  pub privileged : length (g .privileged) ≡ 65
-  pub activation : length (g .activation) ≡ 65
-  pub present : length (g .present) ≡ 1040
-  pub latched : length (g .latched) ≡ 1040
-  pub desired : length (g .desired) ≡ 1040
-  pub lineTask : length (g .lineTask) ≡ 1024
-  pub linePos : length (g .linePos) ≡ 1024
-  pub lineFlag : length (g .lineFlag) ≡ 1024
-  pub row : length (g .row) ≡ 64
-  pub sixty-four : length cycles ≡ 64
-  pub fifteen : (c : ℕ) → c < 64 → length (getD cycles c noCycle .flags) ≡ 15
+  pub controller : length (g .controller) ≡ taskPlaces
+  pub priority : length (g .priority) ≡ taskPlaces
+  pub privileged : length (g .privileged) ≡ taskPlaces
+  pub activation : length (g .activation) ≡ taskPlaces
+  pub present : length (g .present) ≡ conditionPlaces
+  pub latched : length (g .latched) ≡ conditionPlaces
+  pub desired : length (g .desired) ≡ conditionPlaces
+  pub lineTask : length (g .lineTask) ≡ mostLines
+  pub linePos : length (g .linePos) ≡ mostLines
+  pub lineFlag : length (g .lineFlag) ≡ mostLines
+  pub row : length (g .row) ≡ mostRows
+  pub sixty-four : length cycles ≡ minorCycles
+  pub fifteen : (c : ℕ) → c < minorCycles → length (getD cycles c noCycle .flags) ≡ flagsACycle
 
 -- ---- a rig that obeys every rule
 

@@ -4,7 +4,7 @@ use mathlib.Core.Bool.{cond, _&&_}
 use mathlib.Core.List.{List, [], _∷_}
 use lib.Dec.{ltb, eqb}
 use lib.ListN.{length}
-use Rattle.text.specs.Split.{split}
+use Rattle.text.specs.Split.{split, lf}
 use Rattle.rig_lines.specs.Line.{Line, lineOf, placed, judge}
 
 -- a refusal number, 0 for none, and the line that it is given for
@@ -24,7 +24,7 @@ firstFault n p (l ∷ m ∷ ms) =
     cond (eqb (judge p (lineOf l)) 0) (firstFault (n + 1) (placed (lineOf l)) (m ∷ ms)) (fault (judge p (lineOf l)) n)
 
 unfoldable pub faultOf : List ℕ → Fault
-faultOf s = firstFault 1 0 (split 10 s)
+faultOf s = firstFault 1 0 (split lf s)
 
 -- what the lines say: all pieces but the last
 unfoldable pub linesIn : List (List ℕ) → List Line
@@ -33,4 +33,4 @@ linesIn (l ∷ []) = []
 linesIn (l ∷ m ∷ ms) = lineOf l ∷ linesIn (m ∷ ms)
 
 unfoldable pub linesOf : List ℕ → List Line
-linesOf s = linesIn (split 10 s)
+linesOf s = linesIn (split lf s)

@@ -130,24 +130,50 @@ periodListed p =
 unfoldable pub timed : ℕ → List ℕ → Bool
 timed k v = cond (eqb k kindB) (periodListed (getD v 5 0) && ltb (getD v 6 0) (getD v 5 0)) true
 
+-- the letters of the kinds' names, by their ASCII numbers
+abbrev pub letterA : ℕ
+letterA = 65
+
+abbrev pub letterB : ℕ
+letterB = 66
+
+abbrev pub letterC : ℕ
+letterC = 67
+
+abbrev pub letterG : ℕ
+letterG = 71
+
+abbrev pub letterI : ℕ
+letterI = 73
+
+abbrev pub letterM : ℕ
+letterM = 77
+
+abbrev pub letterR : ℕ
+letterR = 82
+
+abbrev pub letterT : ℕ
+letterT = 84
+
 -- a kind's name, and the kind of a name, 0 where there is none
 unfoldable pub nameOf : ℕ → List ℕ
 nameOf k =
-    cond (eqb k 1) (82 ∷ 73 ∷ 71 ∷ [])
-    (cond (eqb k 2) (84 ∷ [])
-    (cond (eqb k 3) (67 ∷ [])
-    (cond (eqb k 4) (65 ∷ [])
-    (cond (eqb k 5) (77 ∷ []) (66 ∷ [])))))
+    cond (eqb k kindRIG) (letterR ∷ letterI ∷ letterG ∷ [])
+    (cond (eqb k kindT) (letterT ∷ [])
+    (cond (eqb k kindC) (letterC ∷ [])
+    (cond (eqb k kindA) (letterA ∷ [])
+    (cond (eqb k kindM) (letterM ∷ []) (letterB ∷ [])))))
 
 unfoldable pub kindOfLetter : ℕ → ℕ
 kindOfLetter a =
-    cond (eqb a 84) 2 (cond (eqb a 67) 3 (cond (eqb a 65) 4 (cond (eqb a 77) 5 (cond (eqb a 66) 6 0))))
+    cond (eqb a letterT) kindT
+    (cond (eqb a letterC) kindC (cond (eqb a letterA) kindA (cond (eqb a letterM) kindM (cond (eqb a letterB) kindB 0))))
 
 unfoldable pub kindOf : List ℕ → ℕ
 kindOf [] = 0
 kindOf (a ∷ []) = kindOfLetter a
 kindOf (a ∷ b ∷ []) = 0
-kindOf (a ∷ b ∷ c ∷ []) = cond (eqb a 82 && (eqb b 73 && eqb c 71)) 1 0
+kindOf (a ∷ b ∷ c ∷ []) = cond (eqb a letterR && (eqb b letterI && eqb c letterG)) kindRIG 0
 kindOf (a ∷ b ∷ c ∷ d ∷ l) = 0
 
 -- a line's place in the order: its kind, then the numbers that the kind rises by. Each is below 256, so that places compare as these

@@ -5,7 +5,7 @@ use mathlib.Core.List.{List, [], _∷_, map}
 use lib.Dec.{leb, ltb, eqb}
 use lib.ListN.{length}
 use Rattle.decimal.specs.Decimal.{cap, number}
-use Rattle.text.specs.Split.{split}
+use Rattle.text.specs.Split.{split, tab}
 use Rattle.rig_lines.specs.Kinds.{countOf, within, timed, kindOf, placeInOrder, follows}
 
 -- a kind and its numbers
@@ -23,7 +23,7 @@ others (p ∷ ps) = ps
 
 -- what a line's bytes say: "fields are parted by one tab", the first names the kind, the others are numbers
 unfoldable pub lineOf : List ℕ → Line
-lineOf l = record { kind = kindOf (first (split 9 l)); nums = map number (others (split 9 l)) }
+lineOf l = record { kind = kindOf (first (split tab l)); nums = map number (others (split tab l)) }
 
 -- every field was a decimal ("numbers are decimal without spare zeros"): what is none is read as more than `cap`
 unfoldable pub decimals : List ℕ → Bool

@@ -7,7 +7,7 @@ use mathlib.Core.List.{List, [], _∷_}
 use lib.ListN.{length, getD, take}
 use Rattle.laws.specs.Members.{In}
 use Rattle.decimal.specs.Plain.{Decimal}
-use Rattle.text.specs.Split.{split}
+use Rattle.text.specs.Split.{split, lf, tab}
 use Rattle.rig_lines.specs.Kinds.{kindRIG, kindB, countOf, keysOf, lowOf, highOf, kindOf, periods}
 use Rattle.rig_lines.specs.Line.{Line, first, others, lineOf}
 
@@ -20,9 +20,9 @@ Decimals (p ∷ ps) = Decimal p × Decimals ps
 
 -- "fields are parted by one tab": the first names a kind, and behind it are as many as the kind has numbers, each a decimal
 pub record Shape (l : List ℕ) : Type 0 where
-  pub known : 0 < kindOf (first (split 9 l))
-  pub count : length (others (split 9 l)) ≡ countOf (kindOf (first (split 9 l)))
-  pub numbers : Decimals (others (split 9 l))
+  pub known : 0 < kindOf (first (split tab l))
+  pub count : length (others (split tab l)) ≡ countOf (kindOf (first (split tab l)))
+  pub numbers : Decimals (others (split tab l))
 
 -- ---- sizes
 
@@ -56,11 +56,11 @@ MayFollow q r = Before q r ⊎ ((q .kind ≡ kindB) × (r .kind ≡ kindB))
 
 -- the text of line n
 abbrev pub lineAt : List ℕ → ℕ → List ℕ
-lineAt s n = getD (split 10 s) n []
+lineAt s n = getD (split lf s) n []
 
 -- "Lines end in LF": line n does, something stands behind its end, be it nothing at all
 abbrev pub Ended : List ℕ → ℕ → Type 0
-Ended s n = n + 1 < length (split 10 s)
+Ended s n = n + 1 < length (split lf s)
 
 -- the first line is RIG, and each other one may follow the line before it
 abbrev pub InPlace : List ℕ → ℕ → Type 0

@@ -1,18 +1,15 @@
--- Lines of one condition stand together, so that the tests by neighbours say what the test of rig_tables says; and lines block by
--- block.
-use mathlib.Core.Path.{_≡_, refl, sym, _∙_}
-use mathlib.Core.Bool.{Bool, _&&_, not, true, false, false≢true}
+-- Lines of one condition stand together, so that the tests by neighbours say what the test of rig_tables says.
+use mathlib.Core.Path.{_≡_, refl}
+use mathlib.Core.Bool.{Bool, _&&_, not, true, false}
 use mathlib.Core.List.{List}
 use Prim.Native.Nat.{ℕ, _+_, _-_, _≤_, _<_, zero, suc}
 use lib.Dec.{eqb, ltb}
 use Rattle.laws.specs.All.{all}
-use Rattle.laws.specs.Laws.All.{all-at, all-all}
 use Rattle.rig_tables.specs.Tests.{at, placeOf, onlyOne, minorConditionOne, marked}
 use mathlib.Core.Logic.{_≢_}
 use native.Mathlib.Omega.{arith}
 use borrow.Author.Tests.{eq-eqb, ne-eqb, ltb-true, ltb-false}
 use Rattle.laws.specs.Cases.{by}
-use Rattle.laws.specs.Decides.{Is}
 use Rattle.laws.specs.Laws.Decides.{is-eqb, is-ltb, is-and, is-not, is-then, is-all, is-said, is-same}
 use Rattle.rig_tables.specs.Lines.{Together}
 use Rattle.rig_minor.specs.Neighbours.{sameBefore, sameBehind, minorOkB}
@@ -93,27 +90,3 @@ module _ (n : ℕ) (lineTask linePos : List ℕ) where
             rw (ne-eqb (at flags (at lineFlag k)) 0 e, alone-law)
             (and-swap (not (sameBefore lineTask linePos k) && not (sameBehind n lineTask linePos k))
             (eqb (at latched (placeOf lineTask linePos k)) 0 && eqb (at desired (placeOf lineTask linePos k)) 1))
-
--- ---- lines block by block
-
--- the tests of m numbers from k on, where those before passed
-pub all-on : (k m : ℕ) (p : ℕ → Bool) → all k p ≡ true → all m (λ i. p (k + i)) ≡ all (k + m) p
-all-on k m p e =
-    is-same
-    (is-said (is-all m (λ i h. is-self (p (k + i))))
-    (λ f j h.
-    by (ltb j k) (λ l. all-at k p e j (ltb-true j k l))
-    (λ l.
-    let g = ltb-false j k l in
-    let q : k + (j - k) ≡ j = omega (arith, g) in
-    rw q at (f (j - k) (omega (arith, g, h)))))
-    (λ f i h. f (k + i) (omega (arith, h))))
-    (is-all (k + m) (λ j h. is-self (p j)))
-  where
-    is-self : (b : Bool) → Is b (b ≡ true)
-    is-self b = ((λ e. e), (λ e. e))
-
--- where one of the first numbers fails, more do not pass
-pub all-short : (m n : ℕ) (p : ℕ → Bool) → m ≤ n → all m p ≡ false → all n p ≡ false
-all-short m n p h e =
-    by (all n p) (λ t. absurd (false≢true (sym e ∙ all-all m p (λ k l. all-at n p t k (omega (arith, l, h)))))) (λ f. f)

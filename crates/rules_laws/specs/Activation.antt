@@ -3,7 +3,7 @@
 -- a flag in one of its conditions; and then all its conditions were as desired.
 use mathlib.Core.Path.{_≡_, refl, sym, ap, _∙_, subst}
 use mathlib.Core.Logic.{_≢_, _⊎_, inl, inr, ⊎-elim}
-use mathlib.Core.Bool.{Bool, true, false, cond, _&&_}
+use mathlib.Core.Bool.{Bool, true, false, cond}
 use mathlib.Core.List.{List, [], _∷_}
 use Prim.Native.Nat.{ℕ, zero, suc, _+_, _≤_, _<_}
 use native.Mathlib.Omega.{arith}
@@ -19,9 +19,9 @@ use Rattle.laws.specs.Laws.Members.{in-keep}
 use Rattle.laws.specs.Laws.Stores.{stores-keep}
 use Rattle.rules.specs.Rig.{Rig, placeOf}
 use Rattle.rules.specs.RigOk.{RigOk}
-use Rattle.rules.specs.State.{State, Work, Entry, stateOf, valueOf, active, inactive, dispatchable, chainOf, timeChain, withCount, withTables}
+use Rattle.rules.specs.State.{State, Work, Entry, stateOf, valueOf, active, inactive, chainOf, timeChain, withCount, withTables}
 use Rattle.rules.specs.Conditions.{relax, met, names}
-use Rattle.rules.specs.Serving.{activate, takes, wake, ready, offers, serveFlag, serving, serve, inactives}
+use Rattle.rules.specs.Serving.{activate, takes, wake, ready, serveFlag, serving, serve, inactives}
 use Rattle.rules.specs.Waiting.{waitOn, waitUntilCount, isDue, wakeDue}
 use Rattle.rules.specs.Family.{family, isMarked, cleared}
 use Rattle.rules.specs.Running.{dispatch}

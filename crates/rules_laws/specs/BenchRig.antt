@@ -10,10 +10,6 @@ use lib.ListN.{getD}
 use Rattle.laws.specs.Cases.{by}
 use Rattle.rules.specs.Rig.{placeOf}
 use Rattle.rules.specs.RigOk.{RigOk}
-use Rattle.rules.specs.Calls.{Call, run, start}
-use Rattle.rules.specs.Proper.{ProperRun}
-use Rattle.rules.specs.Soundness.{Sound}
-use Rattle.rules_laws.specs.Steps.{always}
 use Rattle.rules.specs.Scripts.{TaskLine, T, ofTask, ofCondition, numbers, ofLine, ofCycle, rig, bench}
 
 -- P holds of each line's task and its column n
@@ -91,7 +87,3 @@ bench-ok =
       present-task = two-conditions;
       line-present = line-there;
     }
-
--- so whatever is called on it, its state stays sound
-pub bench-sound : (ks : List Call) → ProperRun ks → Sound bench (run bench (start bench) ks)
-bench-sound ks p = always bench bench-ok ks p

@@ -61,10 +61,6 @@ module _ (r : Rig) (w : Work) where
   unfolding takes wake activate
   serve-count = serve-keeps r (λ s. s .count ≡ w .now .count) (λ e s h. h) (λ c s h. h) (λ t x g h. h) w refl
 
-  pub serve-wakes : serve r w .now .wakes ≡ w .now .wakes
-  unfolding takes wake activate
-  serve-wakes = serve-keeps r (λ s. s .wakes ≡ w .now .wakes) (λ e s h. h) (λ c s h. h) (λ t x g h. h) w refl
-
 -- a sound state with q queued, but for the running task and the range of the count
 pub record Good (r : Rig) (s : State) (q : List Entry) : Type 0 where
   pub tasks : Tasks r (s .states)

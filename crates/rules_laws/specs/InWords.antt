@@ -9,7 +9,6 @@ use native.Mathlib.Numerals.{add-one}
 use native.Mathlib.Nat.{le-refl}
 use borrow.Author.Tests.{eqb-true, eq-eqb}
 use lib.Dec.{eqb}
-use lib.ListN.{getD}
 use Rattle.laws.specs.Cases.{and-true, and-go, dec-eq}
 use Rattle.laws.specs.Iter.{iter}
 use Rattle.laws.specs.Laws.Iter.{iter-ind}

@@ -26,8 +26,6 @@ pub mod WhileServing
 pub mod Demand
 pub mod Lent
 pub mod ConditionLaws
-pub mod Enough
-pub mod ServingKeeps
 pub mod Offering
 pub mod Activation
 pub mod InWords

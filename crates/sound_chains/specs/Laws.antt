@@ -1,7 +1,7 @@
 -- The laws that the proofs of the check cite.
 use mathlib.Core.Path.{_≡_, refl, sym, _∙_, ap, subst}
-use mathlib.Core.Logic.{_⊎_, inl, inr, _≢_, _↔_}
-use mathlib.Core.Bool.{Bool, true, false, _&&_, false≢true, true≢false}
+use mathlib.Core.Logic.{_≢_, _↔_}
+use mathlib.Core.Bool.{Bool, true, false, not, false≢true}
 use mathlib.Core.List.{List, _∷_}
 use Prim.Native.Nat.{ℕ, zero, suc, _+_, _-_, _≤_, _<_}
 use native.Mathlib.Omega.{arith}
@@ -9,10 +9,10 @@ use lib.Bits.{bitOr, bitXor}
 use lib.Dec.{eqb}
 use lib.ListN.{length, set, length-set, replicate}
 use Rattle.laws.specs.Laws.Tables.{zeros-at}
-use borrow.Author.Tests.{eq-eqb, ne-eqb, eqb-true, lt-leb, le-leb, le-ltb, lt-ltb}
-use Rattle.laws.specs.Cases.{by, and-true, and-yes}
+use borrow.Author.Tests.{eqb-true, not-true}
+use Rattle.laws.specs.Cases.{by, and-true}
 use Rattle.laws.specs.All.{all}
-use Rattle.laws.specs.Laws.All.{all-at}
+use Rattle.laws.specs.Laws.All.{all-at, fails-at}
 use Rattle.laws.specs.Faults.{or-zero, xor-zero}
 use Rattle.chains.specs.Ops.{walk}
 use Rattle.chains.specs.Laws.Check.{stepb, step-out, ringb, marked, rings-start, rings-next, taskb, ring-end, ring-out, ring-bad, ring-next, walk-end, walk-next, tasks-accepted, accepted-tasks, equivalence}
@@ -21,24 +21,6 @@ use Rattle.chains.specs.Laws.Held.{at-set}
 use Rattle.chains.specs.declared.Links.{Links}
 use Rattle.sound_chains.specs.declared.Ring.{Ring}
 use Rattle.sound_chains.specs.Post.{aloneb, RingsTo, Walked, WalkedFrom, AllWalked, TasksTested}
-
--- step_ok's four ways out
-module _ (P O : ℕ → ℕ) (s u v : ℕ) where
-  pub step-zero : v ≡ 0 → false ≡ stepb P O 64 s u v
-  unfolding stepb
-  step-zero e = rw (le-ltb 0 v (omega arith))
-
-  pub step-high : 64 < v → false ≡ stepb P O 64 s u v
-  unfolding stepb
-  step-high h = rw (lt-ltb 0 v (omega arith), lt-leb v 64 h)
-
-  pub step-tests : v ≢ 0 → v ≤ 64 → P v ≡ u → eqb (O v) s ≡ stepb P O 64 s u v
-  unfolding stepb
-  step-tests n h e = rw (lt-ltb 0 v (omega arith), le-leb v 64 h, eq-eqb (P v) u e)
-
-  pub step-apart : v ≢ 0 → v ≤ 64 → P v ≢ u → false ≡ stepb P O 64 s u v
-  unfolding stepb
-  step-apart n h e = rw (lt-ltb 0 v (omega arith), le-leb v 64 h, ne-eqb (P v) u e)
 
 -- the walk of a ring, at u with v behind it: what is left to test, and to mark
 pub record RingAt (l : Links) (s : ℕ) (seen m : List ℕ) (left u v : ℕ) : Type 0 where
@@ -102,25 +84,17 @@ module _ (l : Links) (s : ℕ) (seen : List ℕ) (ls : 64 < s) where
     unfolding N P O
     ring-spent n z = refused (ap (λ (i : ℕ). ringb N P O 64 s i u) z ∙ ring-out N P O 64 s ls u (λ q. n (k .here ∙ q)))
 
-    pub ring-wrong : v ≢ s → stepb (at (l .prev)) (at (l .on)) 64 s u v ≡ false → Walked l s seen (record { ok = false; seen = m })
+    pub ring-wrong : v ≢ s → (b : Bool) → b ≡ stepb (at (l .prev)) (at (l .on)) 64 s u v → not b ≡ true
+        → Walked l s seen (record { ok = false; seen = m })
     unfolding N P O
-    ring-wrong n b = refused (ring-bad N P O 64 s ls left u (λ q. n (k .here ∙ q)) (rw (k .here) at b))
+    ring-wrong n b t f =
+        let w : stepb P O 64 s u v ≡ false = sym t ∙ not-true b f in
+        refused (ring-bad N P O 64 s ls left u (λ q. n (k .here ∙ q)) (rw (k .here) at w))
 
 -- what alone_from keeps: an anchor's two links, each compared with its own number
 pub alone-fault : (N P : ℕ → ℕ) (s : ℕ) → aloneb N P s ≡ eqb (bitOr (bitXor (N s) s) (bitXor (P s) s)) 0
 unfolding aloneb
 alone-fault N P s = sym (or-zero (bitXor (N s) s) (bitXor (P s) s) ∙ rw (xor-zero (N s) s, xor-zero (P s) s))
-
--- one of several tests fails
-fails-at : (n : ℕ) (p : ℕ → Bool) → all n p ≡ false → (k : ℕ) × (k < n) × (p k ≡ false)
-unfolding all
-fails-at zero p e = absurd (true≢false e)
-fails-at (suc n) p e =
-    by (p n)
-    (λ t.
-    let w = fails-at n p (sym (and-yes (all n p)) ∙ ap (λ (b : Bool). all n p && b) (sym t) ∙ e) in
-    (w .0, omega (arith, w .1), w .2))
-    (λ f. (n, omega arith, f))
 
 pub tasks-tested : (l : Links) (seen : List ℕ) (r : Bool) → r ≡ all 65 (taskb (at (l .next)) (at (l .prev)) (at (l .on)) (at seen)) → TasksTested l seen r
 tasks-tested l seen r e =

@@ -1,22 +1,17 @@
 // The check of arbitrary links: do they hold chains?
+use chain_tests::TASKS;
+use chain_tests::wide;
 use chains::FIRST_ANCHOR;
 use chains::NODES;
 use chains::PLACES;
 ghost use mathlib.Core.Path.{_≡_};
 ghost use mathlib.Core.Logic.{_↔_};
-ghost use mathlib.Core.Bool.{true, false, not, cond, _&&_};
-ghost use Prim.Native.Nat.{ℕ, _+_, _≤_, _<_};
+ghost use mathlib.Core.Bool.{true};
+ghost use Prim.Native.Nat.{_+_, _≤_, _<_};
 ghost use lib.ListN.{length};
-ghost use Rattle.chains.specs.Held.{at, Held, HoldsChains};
-ghost use lib.Dec.{eqb};
-ghost use Rattle.chains.specs.Laws.Check.{stepb};
-ghost use mathlib.Core.List.{List};
-ghost use Rattle.sound_chains.specs.Order.{risingb};
+ghost use Rattle.chains.specs.Held.{at, HoldsChains};
 ghost use Rattle.laws.specs.All.{all};
 ghost use Rattle.sound_chains.specs.Post.{linksOf, aloneb, Walked, WalkedFrom, AllWalked, TasksTested};
-
-// Nodes 1 to 64 are tasks.
-const TASKS: usize = 64;
 
 // Anchors are looked at in blocks of sixteen.
 const BLOCK: usize = 16;
@@ -24,33 +19,6 @@ const BLOCK: usize = 16;
 pub struct Ring {
     pub ok: bool,
     pub seen: [u8; PLACES],
-}
-
-pub fn wide(x: u16) -> usize
-    ensures { λ r. ⌜ r ≡ x ⌝ }
-{
-    x as usize
-}
-
-// v, behind u in the chain of anchor s, is a task that links back to u and names s.
-pub fn step_ok<'a>(
-    prev: &'a [u16; NODES],
-    on: &'a [u16; PLACES],
-    s: usize,
-    u: usize,
-    v: usize,
-) -> bool
-    ensures { λ r. ⌜ r ≡ stepb (at (now (prev .entry))) (at (now (on .entry))) 64 s u v ⌝ }
-{
-    if v == 0 {
-        return false;
-    }
-    if TASKS < v {
-        return false;
-    }
-    let p = wide(prev[v]);
-    let o = wide(on[v]);
-    if p == u { o == s } else { false }
 }
 
 // The ring of anchor s, walked once; its tasks are marked.
@@ -71,7 +39,7 @@ pub fn walk_ring<'a>(
         if left == 0 {
             return false;
         }
-        if !step_ok(prev, on, s, u, v) {
+        if !chain_tests::step_ok(prev, on, s, u, v) {
             return false;
         }
         seen[v] = 1;
@@ -154,17 +122,6 @@ pub fn walk_all<'a>(next: &'a [u16; NODES], prev: &'a [u16; NODES], on: &'a [u16
     Ring { ok, seen }
 }
 
-// 0 where a task (or entry 0, which is no task) is in no chain, with links 0, or was met on a ring; else a fault.
-fn task_fault(next: u16, prev: u16, on: u16, seen: u8) -> u16
-    ensures { λ r. ⌜ eqb r 0 ≡ cond (eqb on 0) (eqb next 0 && eqb prev 0) (not (eqb seen 0)) ⌝ }
-{
-    if on == 0 {
-        next | prev
-    } else {
-        if seen == 0 { 1 } else { 0 }
-    }
-}
-
 // Every task is in no chain, with links 0, or was met on a ring.
 pub fn tasks_ok<'a>(
     next: &'a [u16; NODES],
@@ -177,7 +134,7 @@ pub fn tasks_ok<'a>(
     let mut faults: u16 = 0;
     let mut t: usize = 0;
     while t < PLACES {
-        let x = task_fault(next[t], prev[t], on[t], seen[t]);
+        let x = chain_tests::task_fault(next[t], prev[t], on[t], seen[t]);
         faults = faults | x;
         t += 1;
     }
@@ -193,32 +150,4 @@ pub fn sound<'a>(next: &'a [u16; NODES], prev: &'a [u16; NODES], on: &'a [u16; P
         return false;
     }
     tasks_ok(next, prev, on, &k.seen)
-}
-
-// The tasks of the chain of anchor s are in order of waking count, none below lo.
-pub fn in_order<'a>(
-    next: &'a [u16; NODES],
-    prev: &'a [u16; NODES],
-    on: &'a [u16; PLACES],
-    wake: &'a [u32; PLACES],
-    s: usize,
-    lo: u32,
-) -> bool
-    requires { ⌜ HoldsChains (linksOf (now next) (now prev) (now on)) ⌝ }
-    requires { ⌜ (64 < s) × (s < 322) ⌝ }
-    ensures { λ r. ⌜ ((X : ℕ → List ℕ) → Held (linksOf (now (next .entry)) (now (prev .entry)) (now (on .entry))) X → r ≡ risingb (at (now (wake .entry))) lo (X s)) ⌝ }
-{
-    let mut w = lo;
-    let mut u = s;
-    let mut v = wide(next[s]);
-    while v != s {
-        let x = wake[v];
-        if x < w {
-            return false;
-        }
-        w = x;
-        u = v;
-        v = wide(next[u]);
-    }
-    true
 }

@@ -5,6 +5,13 @@ use lib.Dec.{eqb}
 use lib.ListN.{take, drop}
 use mathlib.Core.Bool.{cond}
 
+-- "Lines end in LF; fields are parted by one tab"
+abbrev pub lf : ℕ
+lf = 10
+
+abbrev pub tab : ℕ
+tab = 9
+
 -- x in front of the first piece
 unfoldable pub onHead : ℕ → List (List ℕ) → List (List ℕ)
 onHead x [] = (x ∷ []) ∷ []

@@ -1,18 +1,18 @@
 -- Laws of the definitions of Held.antt.
 use mathlib.Core.Path.{_≡_, refl, sym, _∙_, ap, fun-ext}
-use mathlib.Core.Logic.{_⊎_, inl, ⊎-elim, _≢_}
+use mathlib.Core.Logic.{inl, ⊎-elim, _≢_}
 use mathlib.Core.List.{List, [], _∷_, _++_, append-assoc, append-nil}
 use Prim.Native.Nat.{ℕ, _+_, _≤_, _<_}
 use native.Mathlib.Omega.{arith}
 use lib.Dec.{eqb, leb, lit<}
 use borrow.Author.Tests.{leb-true, leb-false, eqb-true, eqb-false}
-use lib.ListN.{length, getD, set, length-set, length-append, replicate, length-replicate}
+use lib.ListN.{length, set, length-set, length-append, replicate, length-replicate}
 use Rattle.laws.specs.Laws.Tables.{zeros-at}
 use lib.Seq.{getD-set-same, getD-set-other}
 use Rattle.laws.specs.Cases.{by}
 use Rattle.laws.specs.Functions.{upd}
 use Rattle.laws.specs.Laws.Functions.{on-upd}
-use Rattle.laws.specs.Members.{In, without}
+use Rattle.laws.specs.Members.{without}
 use Rattle.laws.specs.Laws.Members.{in-left, in-right, in-cases}
 use Rattle.laws.specs.Order.{insertBy}
 use Rattle.laws.specs.Laws.Order.{place-split}
@@ -110,10 +110,6 @@ module _ (l : Links) (X : ℕ → List ℕ) (h : Held l X) (Q : ℕ → Type 0) 
         before = λ a i. absurd i;
       }
 
-  pub start-back : scan-start .back ≡ X s
-  unfolding scan-start
-  start-back = refl
-
   -- where the search stands at a task, that task is the first of what is left
   pub at-task : (u v : ℕ) → (c : Scan Q s u v (X s)) → v ≢ s → (zs : List ℕ) × (c .back ≡ v ∷ zs)
   at-task u v c n = go (c .back) (c .then)
@@ -140,18 +136,6 @@ module _ (l : Links) (X : ℕ → List ℕ) (h : Held l X) (Q : ℕ → Type 0) 
         then = sym (at-element (at (l .next)) (at (l .prev)) s v (c .front) (r .0) (rw e at (h .link s ls hs)) .1);
         before = λ a i. ⊎-elim (λ j. c .before a j) (λ j. ⊎-elim (λ q. rw q w) (λ z. absurd z) j) (in-cases a (c .front) (v ∷ []) i);
       }
-
-  -- what is left after a step
-  pub scan-back : (u v : ℕ) (c : Scan Q s u v (X s)) (n : v ≢ s) (w : Q v) → c .back ≡ v ∷ scan-step u v c n w .back
-  unfolding scan-step
-  scan-back u v c n w = at-task u v c n .1
-
-  pub scan-none : (u v : ℕ) (c : Scan Q s u v (X s)) → v ≡ s → c .back ≡ []
-  scan-none u v c e = go (c .back) (c .then ∙ e) (λ a i. h .own s ls hs a (rw (c .whole) (in-right a (c .front) (c .back) i)) .1)
-    where
-      go : (ys : List ℕ) → first ys s ≡ s → ((a : ℕ) → In a ys → a ≤ 64) → ys ≡ []
-      go [] q f = refl
-      go (y ∷ ys) q f = let z : ⊥ = omega (arith, f y (inl refl)) in absurd z
 
   -- how far the search has still to go
   pub scan-left : (u v : ℕ) → (c : Scan Q s u v (X s)) → walk (at (l .next)) 64 64 u ≡ c .back

@@ -5,6 +5,7 @@ use native.Mathlib.Omega.{arith}
 use Rattle.chains.specs.Held.{HoldsChains}
 use Rattle.chains.specs.declared.Links.{Links}
 use Rattle.sound_chains.specs.Post.{linksOf}
+use Rattle.chain_tests.specs.Laws.Order.{held-reaches}
 use Rattle.exec_sound.specs.Laws.Check.{order-facts, order-back}
 use borrow.Author.Needs.{needs}
 use Rattle.exec_sound.proofs.chains_ok.Statement.{statement}
@@ -26,7 +27,7 @@ add-in-order : tie.Need-add-in-order
 add-in-order c = search needs
 
 in-order-requires : tie.Need-in-order-requires
-in-order-requires c κs = (held c, (omega arith, omega arith))
+in-order-requires c κs = (omega arith, omega arith, held-reaches (tables (c .before .before)) (held c) 65 (omega arith) (omega arith))
 
 returns-2 : tie.Need-returns-2
 returns-2 c =

@@ -1,6 +1,6 @@
 -- The soundness check: the tests that the code makes, and that they all hold exactly when the record is sound.
 use mathlib.Core.Path.{_≡_, sym, _∙_, ap, subst}
-use mathlib.Core.Logic.{_≢_, _⊎_, ⊎-elim, _↔_}
+use mathlib.Core.Logic.{_≢_, ⊎-elim, _↔_}
 use mathlib.Core.Bool.{Bool, true, cond}
 use mathlib.Core.List.{List, [], _∷_}
 use Prim.Native.Nat.{ℕ, zero, suc, _+_, _<_, _≤_}
@@ -15,10 +15,11 @@ use Rattle.laws.specs.Members.{In, Distinct}
 use Rattle.laws.specs.Laws.Tables.{has-place}
 use Rattle.chains.specs.Held.{at, Held, Sized}
 use Rattle.chains.specs.Held as L
-use Rattle.chains.specs.Read.{chainsOf, inside}
-use Rattle.chains.specs.Laws.Read.{sound-chains, read-once, inside-low, inside-high, only-of}
+use Rattle.chains.specs.Read.{chainAt, chainsOf, inside}
+use Rattle.chains.specs.Laws.Read.{chains-at, sound-chains, read-once, inside-low, inside-high, only-of}
 use Rattle.chains.specs.declared.Links.{Links}
-use Rattle.sound_chains.specs.Order.{risingb, rising-sorted, sorted-rising}
+use Rattle.chain_tests.specs.Order.{risingb}
+use Rattle.chain_tests.specs.Laws.Order.{rising-sorted, sorted-rising}
 use Rattle.rig.specs.Rules.{Right}
 use Rattle.rig.specs.declared.Cycle.{Cycle}
 use Rattle.rig.specs.declared.Rig.{Rig}
@@ -146,9 +147,9 @@ module _ (l : Links) (h : Held l (chainsOf l)) where
 
 -- ---- the time chain's test
 
-module _ (count : ℕ) (wake : List ℕ) (l : Links) (h : L.HoldsChains l) (b : Bool) (e : (X : ℕ → List ℕ) → Held l X → b ≡ risingb (at wake) (count + 1) (X 65)) where
+module _ (count : ℕ) (wake : List ℕ) (l : Links) (h : L.HoldsChains l) (b : Bool) (e : b ≡ risingb (at wake) (count + 1) (chainAt l 65)) where
   is : b ≡ risingb (at wake) (count + 1) (chainsOf l 65)
-  is = e (chainsOf l) (sound-chains l h)
+  is = e ∙ ap (risingb (at wake) (count + 1)) (sym (chains-at l 65 (omega arith) (omega arith)))
 
   pub order-facts : Sized l → b ≡ true → ChainsSound count wake l
   order-facts z q = record { sized = z; links = h; order = sym is ∙ q }

@@ -3,7 +3,7 @@ use mathlib.Core.Path.{_≡_, refl, sym, _∙_, ap}
 use mathlib.Core.Bool.{Bool, true, false, _&&_, true≢false, false≢true}
 use Prim.Native.Nat.{ℕ, zero, suc, _+_, _-_, _≤_, _<_}
 use mathlib.Core.List.{List, [], _∷_}
-use lib.Dec.{eqb, ltb}
+use lib.Dec.{ltb}
 use lib.ListN.{getD}
 use native.Mathlib.Numerals.{add-one}
 use native.Mathlib.Omega.{arith}
@@ -38,6 +38,17 @@ all-at (suc n) p a k h =
 pub all-not : (n : ℕ) (p : ℕ → Bool) (k : ℕ) → k < n → p k ≡ false → all n p ≡ false
 all-not n p k h e =
     by-bool (all n p) (λ b. b ≡ false) (λ t. absurd (true≢false (sym (all-at n p t k h) ∙ e))) (λ r. refl)
+
+-- where tests do not all pass, one fails
+pub fails-at : (n : ℕ) (p : ℕ → Bool) → all n p ≡ false → (k : ℕ) × (k < n) × (p k ≡ false)
+unfolding all
+fails-at zero p e = absurd (true≢false e)
+fails-at (suc n) p e =
+    by (p n)
+    (λ t.
+    let w = fails-at n p (sym (and-yes (all n p)) ∙ ap (λ (b : Bool). all n p && b) (sym t) ∙ e) in
+    (w .0, omega (arith, w .1), w .2))
+    (λ f. (n, omega arith, f))
 
 pub allOf-nil : allOf [] ≡ true
 unfolding allOf
@@ -105,6 +116,23 @@ all-more n m p h f =
     by-bool (all n p) (λ b. b ≡ all m p)
     (λ e. sym (all-all m p (λ k l. by (ltb k n) (λ q. all-at n p e k (ltb-true k n q)) (λ q. f k (ltb-false k n q) l))))
     (λ e. by-bool (all m p) (λ b. false ≡ b) (λ w. sym e ∙ all-all n p (λ k l. all-at m p w k (omega (arith, l, h)))) (λ w. refl))
+
+-- the tests of m numbers from k on, where those before passed
+pub all-on : (k m : ℕ) (p : ℕ → Bool) → all k p ≡ true → all m (λ i. p (k + i)) ≡ all (k + m) p
+all-on k m p e =
+    by-bool (all m (λ i. p (k + i))) (λ b. b ≡ all (k + m) p)
+    (λ t. sym (all-all (k + m) p (λ j h.
+    by (ltb j k) (λ l. all-at k p e j (ltb-true j k l))
+    (λ l.
+    let g = ltb-false j k l in
+    let q : k + (j - k) ≡ j = omega (arith, g) in
+    rw q at (all-at m (λ i. p (k + i)) t (j - k) (omega (arith, g, h)))))))
+    (λ f. by-bool (all (k + m) p) (λ b. false ≡ b) (λ w. sym f ∙ all-all m (λ i. p (k + i)) (λ i h. all-at (k + m) p w (k + i) (omega (arith, h)))) (λ w. refl))
+
+-- where one of the first numbers fails, more do not pass
+pub all-short : (m n : ℕ) (p : ℕ → Bool) → m ≤ n → all m p ≡ false → all n p ≡ false
+all-short m n p h e =
+    by (all n p) (λ t. absurd (false≢true (sym e ∙ all-all m p (λ k l. all-at n p t k (omega (arith, l, h)))))) (λ f. f)
 
 pub since-start : (from : ℕ) (p : ℕ → Bool) (n : ℕ) → n ≤ from → all n (since from p) ≡ true
 since-start from p n h = all-all n (since from p) (λ k g. sym (or-yes (ltb k from) (p k) (lt-ltb k from (omega (arith, g, h)))))

@@ -1,6 +1,6 @@
 -- Laws of the definitions of Iter.antt.
 use mathlib.Core.Path.{_≡_, refl, ap, sym, _∙_}
-use Prim.Native.Nat.{ℕ, zero, suc, _+_, _≤_}
+use Prim.Native.Nat.{ℕ, zero, suc, _+_}
 use native.Mathlib.Omega.{arith}
 use native.Mathlib.Nat.{add-zero}
 use native.Mathlib.Numerals.{add-one}
@@ -28,16 +28,6 @@ iter-ind P step s z f (suc k) = f k (iter k step s) (iter-ind P step s z f k)
 -- a turn of the loop: what one step makes of the state so far is the state after one step more
 pub iter-step : {S : Type 0} (i : ℕ) (step : ℕ → S → S) (x s : S) → s ≡ iter i step x → step i s ≡ iter (i + 1) step x
 iter-step i step x s e = ap (step i) e ∙ sym (iter-next i step x)
-
--- turns from n on that change nothing of what is there after n may be left out
-pub iter-stop : {S : Type 0} (step : ℕ → S → S) (s : S) (n : ℕ) → ((k : ℕ) → n ≤ k → step k (iter n step s) ≡ iter n step s)
-    → (d : ℕ) → iter (n + d) step s ≡ iter n step s
-iter-stop step s n h zero = ap (λ k. iter k step s) (add-zero n)
-iter-stop step s n h (suc d) =
-    ap (λ k. iter k step s) (omega arith)
-    ∙ iter-next (n + d) step s
-    ∙ ap (step (n + d)) (iter-stop step s n h d)
-    ∙ h (n + d) (omega arith)
 
 -- k turns, and then d turns that count on from k
 pub iter-plus : {S : Type 0} (k d : ℕ) (step : ℕ → S → S) (s : S) → iter d (λ i. step (k + i)) (iter k step s) ≡ iter (k + d) step s

@@ -9,7 +9,6 @@ use lib.ListN.{length, getD, set, replicate, length-set, length-replicate}
 use lib.Seq.{getD-set-same, getD-set-other}
 use borrow.Author.Tests.{eqb-true, eqb-false}
 use Rattle.laws.specs.Cases.{by, below-but}
-use Rattle.laws.specs.Iter.{iter}
 use Rattle.laws.specs.Laws.Iter.{iter-ind}
 use Rattle.laws.specs.Laws.Tables.{zeros}
 use Rattle.laws.specs.Owners.{ownOne, owners, markOne, marks}

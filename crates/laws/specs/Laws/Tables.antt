@@ -10,7 +10,6 @@ use borrow.Author.Tests.{eqb-true, eqb-false}
 use lib.Dec.{eqb}
 use lib.ListN.{length, getD, set, take, replicate}
 use lib.Seq.{getD-set-same, getD-set-other}
-use Rattle.laws.specs.All.{all}
 use Rattle.laws.specs.Laws.All.{all-at}
 use Rattle.laws.specs.Tables.{total, over, fold, follows}
 

@@ -66,10 +66,6 @@ entries-le m [] e i = omega arith
 entries-le m (x ∷ xs) e zero = leb-true x m (and-left (leb x m) (entries (λ y. leb y m) xs) e)
 entries-le m (x ∷ xs) e (suc i) = entries-le m xs (and-right (leb x m) (entries (λ y. leb y m) xs) e) i
 
-pub count-small : (k : ℕ) → countOf k ≤ 9
-unfolding countOf counts entries
-count-small k = entries-le 9 counts refl k
-
 pub low-small : (k f : ℕ) → lowOf k f ≤ 255
 unfolding lowOf lows entries
 low-small k f = entries-le 255 lows refl (k * 9 + f)

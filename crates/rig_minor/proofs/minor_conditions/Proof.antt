@@ -3,12 +3,13 @@ use mathlib.Core.Path.{_≡_, sym, _∙_, ap}
 use mathlib.Core.Logic.{⊎-elim}
 use mathlib.Core.Bool.{Bool, true}
 use borrow.Author.Tests.{not-true, not-false, eqb-true}
-use Prim.Native.Nat.{ℕ, _+_, _≤_, _<_, _-_}
+use Prim.Native.Nat.{ℕ, _+_, _≤_, _-_}
 use native.Mathlib.Omega.{arith}
 use Rattle.laws.specs.All.{all}
 use Rattle.laws.specs.Laws.All.{all-zero, all-at, all-all}
-use Rattle.rig_tables.specs.Tests.{at, minorConditionOne, minorConditionsB, marked}
-use Rattle.rig_minor.specs.Laws.{minor-not, all-on, all-short}
+use Rattle.rig_tables.specs.Tests.{minorConditionOne, minorConditionsB, marked}
+use Rattle.laws.specs.Laws.All.{all-on, all-short}
+use Rattle.rig_minor.specs.Laws.{minor-not}
 use Rattle.rig_minor.proofs.minor_conditions.Statement.{statement}
 use Rattle.rig_minor.proofs.minor_conditions.Tie as tie
 

@@ -1,12 +1,11 @@
 use mathlib.Core.Path.{_≡_, sym, _∙_, ap}
-use mathlib.Core.Bool.{Bool, true, false, not, _&&_}
+use mathlib.Core.Bool.{not, _&&_}
 use borrow.Author.Tests.{not-true, not-false}
-use Prim.Native.Nat.{ℕ}
 use native.Mathlib.Omega.{arith}
 use lib.Dec.{eqb}
 use Rattle.laws.specs.Cases.{and-go, and-stop}
 use Rattle.rig_tables.specs.Tests.{at, placeOf}
-use Rattle.rig_minor.specs.Neighbours.{minorOkB, sameBefore, sameBehind}
+use Rattle.rig_minor.specs.Neighbours.{minorOkB}
 use borrow.Author.Needs.{needs}
 use Rattle.rig_minor.proofs.minor_ok.Statement.{statement}
 use Rattle.rig_minor.proofs.minor_ok.Tie as tie

@@ -1,6 +1,3 @@
-use mathlib.Core.Path.{_∙_, ap}
-use Prim.Native.Nat.{ℕ}
-use lib.Dec.{eqb}
 use borrow.Author.Needs.{needs}
 use Rattle.rig_minor.proofs.same_place.Statement.{statement}
 use Rattle.rig_minor.proofs.same_place.Tie as tie

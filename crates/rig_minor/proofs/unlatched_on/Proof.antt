@@ -1,4 +1,3 @@
-use borrow.Author.Needs.{needs}
 use borrow.Author.Tests.{eq-eqb, ne-eqb}
 use Rattle.rig_minor.proofs.unlatched_on.Statement.{statement}
 use Rattle.rig_minor.proofs.unlatched_on.Tie as tie

@@ -1,8 +1,8 @@
 use borrow.Author.Needs.{needs}
 use mathlib.Core.Path.{_≡_, refl, sym}
-use Prim.Native.Nat.{ℕ, _-_, _≤_}
+use Prim.Native.Nat.{_-_, _≤_}
 use native.Mathlib.Omega.{arith}
-use Rattle.laws.specs.All.{all, Passed}
+use Rattle.laws.specs.All.{Passed}
 use Rattle.laws.specs.Laws.All.{passed-none}
 use Rattle.laws.specs.Faults.{or-next}
 use Rattle.chains.specs.Held.{at}

@@ -1,5 +1,5 @@
 use borrow.Author.Needs.{needs}
-use borrow.Author.Tests.{not-true, not-false}
+use borrow.Author.Tests.{not-false}
 use mathlib.Core.Bool.{true}
 use native.Mathlib.Omega.{arith}
 use Prim.Native.Nat.{_≤_, _<_}
@@ -55,7 +55,7 @@ returns-2 : tie.Need-returns-2 Inv-loop μ-loop
 returns-2 c =
     let d = c .before .before .before .before in
     let s = c .before .before .before .before .before .before .before in
-    ring-wrong (linksOf (s .args .next .now) (s .args .prev .now) (s .args .on .now)) (s .args .s) (s .args .seen .now) (s .pre .0) (d .loop .seen) (d .loop .left) (d .loop .u) (d .loop .v) (d .loop .inv) (c .before .before .before .loop-test .taken) (sym (c .before .step-ok .ensures) ∙ not-true (c .before .step-ok .result) (c .if2 .taken))
+    ring-wrong (linksOf (s .args .next .now) (s .args .prev .now) (s .args .on .now)) (s .args .s) (s .args .seen .now) (s .pre .0) (d .loop .seen) (d .loop .left) (d .loop .u) (d .loop .v) (d .loop .inv) (c .before .before .before .loop-test .taken) (c .before .step-ok .result) (c .before .step-ok .ensures) (c .if2 .taken)
 
 element-write-seen : tie.Need-element-write-seen Inv-loop μ-loop
 element-write-seen c = omega (arith, task c)
