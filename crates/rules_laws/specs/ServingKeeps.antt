@@ -9,7 +9,7 @@ use lib.ListN.{length, length-set}
 use Rattle.laws.specs.Laws.Iter.{iter-ind}
 use Rattle.rules.specs.Rig.{Rig}
 use Rattle.rules.specs.RigOk.{RigOk}
-use Rattle.rules.specs.State.{State, Work, Entry, stateOf, chainOf}
+use Rattle.rules.specs.State.{Chain, chainOf, State, Work, Entry, stateOf}
 use Rattle.rules.specs.Serving.{activate, ready, offer, offerNext, offers, takes, wake, serveFlag}
 use Rattle.rules_laws.specs.Queued.{Fine, fine-push}
 use Rattle.rules_laws.specs.Lengths.{relax-length, drive-length, rouse-length}
@@ -42,7 +42,7 @@ module _ (r : Rig) where
         wakes = h .wakes;
       }
 
-  pub wake-sized : (c : ℕ) (s : State) → Sized s → Sized (wake c s)
+  pub wake-sized : (c : Chain) (s : State) → Sized s → Sized (wake c s)
   unfolding wake
   wake-sized c s h = record { states = rouse-length (s .chains c) (s .states) ∙ h .states; flags = h .flags; conds = h .conds; wakes = h .wakes }
 
