@@ -1,0 +1,68 @@
+-- Each chain has an anchor of its own, and each anchor a chain.
+use mathlib.Core.Path.{_≡_, refl, sym, ap, _∙_}
+use mathlib.Core.Logic.{_⊎_, inl, inr, ⊎-elim}
+use mathlib.Core.Bool.{_&&_}
+use Prim.Native.Nat.{ℕ, _+_, _-_, _*_, _/_, _%_, _≤_, _<_}
+use native.Mathlib.Omega.{arith}
+use borrow.Author.Tests.{leb-true, le-leb, eqb-true, eqb-false}
+use lib.Dec.{eqb, leb}
+use Rattle.laws.specs.Cases.{by, and-true}
+use Rattle.rules.specs.State.{Chain, timeChain, chainOf}
+use Rattle.rules.specs.Soundness.{IsChain}
+use Rattle.exec_family.specs.Anchors.{isFlagValue, flagAnchor, anchorOf, nameOf}
+
+-- the anchor of a flag's chain is the number that the code computes
+pub anchor-flag : (f v : ℕ) → IsChain (chainOf f v) → anchorOf (chainOf f v) ≡ 64 + 2 * f + v
+anchor-flag f v k =
+    let z : flagAnchor f v ≡ 64 + 2 * f + v = rw (le-leb 1 f (k .0), le-leb f 128 (k .1), le-leb v 1 (k .2)) in z
+
+-- who is no chain has none
+anchor-cases : (f v : ℕ) → IsChain (chainOf f v) ⊎ (anchorOf (chainOf f v) ≡ 0)
+anchor-cases f v =
+    by (isFlagValue f v)
+    (λ e.
+    let a = and-true (leb 1 f && leb f 128) (leb v 1) e in
+    let b = and-true (leb 1 f) (leb f 128) (a .0) in
+    inl (leb-true 1 f (b .0), leb-true f 128 (b .1), leb-true v 1 (a .1)))
+    (λ e. let z : flagAnchor f v ≡ 0 = rw e in inr z)
+
+pub anchor-chain : (c : Chain) → 64 < anchorOf c → IsChain c
+anchor-chain timeChain h = tt
+anchor-chain (chainOf f v) h = ⊎-elim (λ k. k) (λ e. absurd (let z : 64 < 0 = rw e at h in omega arith)) (anchor-cases f v)
+
+pub anchor-low : (c : Chain) → IsChain c → 64 < anchorOf c
+anchor-low timeChain k = omega arith
+anchor-low (chainOf f v) k = rw (anchor-flag f v k) (omega (arith, k .0))
+
+pub anchor-high : (c : Chain) → IsChain c → anchorOf c < 322
+anchor-high timeChain k = omega arith
+anchor-high (chainOf f v) k = rw (anchor-flag f v k) (omega (arith, k .1, k .2))
+
+-- no two chains have one anchor
+anchor-one : (c d : Chain) → IsChain c → IsChain d → anchorOf c ≡ anchorOf d → c ≡ d
+anchor-one timeChain timeChain j k e = refl
+anchor-one timeChain (chainOf f v) j k e = absurd (let z : 65 ≡ 64 + 2 * f + v = e ∙ anchor-flag f v k in omega (arith, z, k .0))
+anchor-one (chainOf f v) timeChain j k e = absurd (let z : 64 + 2 * f + v ≡ 65 = sym (anchor-flag f v j) ∙ e in omega (arith, z, j .0))
+anchor-one (chainOf f v) (chainOf g w) j k e =
+    let z : 64 + 2 * f + v ≡ 64 + 2 * g + w = sym (anchor-flag f v j) ∙ e ∙ anchor-flag g w k in
+    let p : f ≡ g = omega (arith, z, j .2, k .2) in
+    let q : v ≡ w = omega (arith, z, j .2, k .2) in
+    ap (λ (x : ℕ). chainOf x v) p ∙ ap (chainOf g) q
+
+pub anchor-same : (c d : Chain) → 64 < anchorOf c → anchorOf c ≡ anchorOf d → c ≡ d
+anchor-same c d h e = anchor-one c d (anchor-chain c h) (anchor-chain d (omega (arith, h, e))) e
+
+-- each anchor has a name
+pub name-anchor : (s : ℕ) → 64 < s → s < 322 → anchorOf (nameOf s) ≡ s
+name-anchor s a b =
+    by (eqb s 65)
+    (λ e. rw e (sym (eqb-true s 65 e)))
+    (λ e.
+    let n = eqb-false s 65 e in
+    rw e (anchor-flag ((s - 64) / 2) ((s - 64) % 2) (omega (arith, n), omega arith, omega arith) ∙ omega (arith, a)))
+
+-- and a chain is that of its anchor
+pub anchor-name : (c : Chain) → IsChain c → nameOf (anchorOf c) ≡ c
+anchor-name c k =
+    let e = name-anchor (anchorOf c) (anchor-low c k) (anchor-high c k) in
+    sym (anchor-same c (nameOf (anchorOf c)) (anchor-low c k) (sym e))
