@@ -32,7 +32,7 @@ use Rattle.rules.specs.Calls.{Call, schedule, cancel, terminate, finish, tick, 
 use Rattle.rules.specs.Calls.{scheduled, finished, terminated, cancelled, ticked, effect, refusal, refusals, accepted, after, step, run, started, start}
 use Rattle.rules.specs.Proper.{ProperRun}
 use Rattle.rules.specs.Soundness.{Somewhere, Sound}
-use Rattle.rules_laws.specs.ChainLaws.{flag-no-time, same-true, same-false, on-chain}
+use Rattle.rules.specs.Laws.Chains.{flag-no-time, same-true, same-false, on-chain}
 use Rattle.rules_laws.specs.Good.{serve-keeps}
 use Rattle.rules_laws.specs.Acceptance.{somebody-runs, flagged-is}
 use Rattle.rules_laws.specs.Steps.{step-sound, start-sound}

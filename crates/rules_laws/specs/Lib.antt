@@ -4,7 +4,6 @@ pub mod Queued
 pub mod Agreement
 pub mod Rousing
 pub mod Ranks
-pub mod ChainLaws
 pub mod WaitingLaws
 pub mod TableLaws
 pub mod Good

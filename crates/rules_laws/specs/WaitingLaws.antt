@@ -20,7 +20,7 @@ use Rattle.rules.specs.Serving.{rouse}
 use Rattle.rules.specs.Waiting.{leave, isDue}
 use Rattle.rules.specs.Family.{isMarked, clearOne, leaveOne, cleared, deserted}
 use Rattle.rules.specs.Soundness.{Somewhere, Listed, Apart, IsChain, Chains}
-use Rattle.rules_laws.specs.ChainLaws.{on-chain, chain-same}
+use Rattle.rules.specs.Laws.Chains.{on-chain, chain-same}
 use Rattle.rules_laws.specs.Rousing.{rouse-in, rouse-out}
 
 -- ---- some of a chain, ts, are woken; the others, ys, are left

