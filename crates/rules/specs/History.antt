@@ -1,7 +1,7 @@
 -- THE HISTORY OF WAITS: of each task, when its last wait began, where, and for which count. It is read off the calls of a
 -- run, and names no chain's order: demand 3 asks the order of the chains against it.
 use mathlib.Core.Path.{_≡_}
-use mathlib.Core.Logic.{_⊎_, _≢_, _↔_}
+use mathlib.Core.Logic.{_⊎_, _↔_}
 use mathlib.Core.Bool.{cond}
 use mathlib.Core.List.{List, [], _∷_}
 use Prim.Native.Nat.{ℕ, zero, suc, _+_, _<_}
@@ -89,4 +89,4 @@ pub record InOrder (h : History) (s : State) : Type 0 where
   pub time : Ordered (Sooner h) (s .chains timeChain)
   pub counts : (t : ℕ) → In t (s .chains timeChain) → wakeOf s t ≡ h t .count
   -- "Each flag has a chain for on and one for off, in order of beginning."
-  pub flags : (c : Chain) → c ≢ timeChain → Ordered (Earlier h) (s .chains c)
+  pub flags : (f v : ℕ) → Ordered (Earlier h) (s .chains (chainOf f v))

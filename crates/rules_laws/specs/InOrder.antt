@@ -22,7 +22,7 @@ use Rattle.laws.specs.Ordered.{Ordered}
 use Rattle.laws.specs.Laws.Ordered.{ordered-map, ordered-keep, ordered-without, ordered-end, ordered-same}
 use Rattle.rules.specs.Rig.{Rig}
 use Rattle.rules.specs.RigOk.{RigOk}
-use Rattle.rules.specs.State.{Chain, timeChain, chainOf, sameChain, withChain, State, Work, stateOf, valueOf, withCount, withTables, blank}
+use Rattle.rules.specs.State.{Chain, timeChain, chainOf, withChain, State, Work, stateOf, valueOf, withCount, withTables, blank}
 use Rattle.rules.specs.Conditions.{met, relax}
 use Rattle.rules.specs.Serving.{activate, takes, wake, serve}
 use Rattle.rules.specs.Waiting.{waitOn, waitUntilCount, leave, isDue, wakeDue}
@@ -32,7 +32,7 @@ use Rattle.rules.specs.Calls.{Call, schedule, cancel, terminate, finish, tick, 
 use Rattle.rules.specs.Calls.{scheduled, finished, terminated, cancelled, ticked, effect, refusal, refusals, accepted, after, step, run, started, start}
 use Rattle.rules.specs.Proper.{ProperRun}
 use Rattle.rules.specs.Soundness.{Somewhere, Sound}
-use Rattle.rules.specs.Laws.Chains.{flag-no-time, same-true, same-false, on-chain}
+use Rattle.rules.specs.Laws.Chains.{flag-no-time, on-chain}
 use Rattle.rules_laws.specs.Good.{serve-keeps}
 use Rattle.rules_laws.specs.Acceptance.{somebody-runs, flagged-is}
 use Rattle.rules_laws.specs.Steps.{step-sound, start-sound}
@@ -46,7 +46,7 @@ pub record Told (h : History) (n : ℕ) (w : List ℕ) (X : Chain → List ℕ) 
   pub past : (t : ℕ) (c : Chain) → In t (X c) → h t .call < n
   pub home : (t : ℕ) (c : Chain) → In t (X c) → h t .chain ≡ c
   pub count : (t : ℕ) → In t (X timeChain) → h t .count ≡ getD w t 0
-  pub none : (t : ℕ) (c : Chain) → c ≢ timeChain → In t (X c) → h t .count ≡ 0
+  pub none : (t f v : ℕ) → In t (X (chainOf f v)) → h t .count ≡ 0
 
 -- ---- some leave: the chains Y are those that are left
 
@@ -58,7 +58,7 @@ module _ (h : History) (n : ℕ) (w : List ℕ) (X Y : Chain → List ℕ) (k : 
         past = λ t c i. k .past t c (f t c i);
         home = λ t c i. k .home t c (f t c i);
         count = λ t i. k .count t (f t timeChain i);
-        none = λ t c m i. k .none t c m (f t c i);
+        none = λ t g v i. k .none t g v (f t (chainOf g v) i);
       }
 
 module _ (h : History) (n : ℕ) (w : List ℕ) (X : Chain → List ℕ) (k : Told h n w X) where
@@ -124,7 +124,7 @@ place-order h W t (y ∷ ys) e f o =
 
 module _ (h : History) (n : ℕ) (w : List ℕ) (X : Chain → List ℕ) (t : ℕ) (out : Somewhere t X → ⊥) (k : Told h n w X) where
   -- chain c then reads ys, who are t and those of before; the waking counts are v
-  joined : (c : Chain) (x : Wait) (ys v : List ℕ) → x .call ≡ n → x .chain ≡ c → (c ≡ timeChain → x .count ≡ getD v t 0) → (c ≢ timeChain → x .count ≡ 0)
+  joined : (c : Chain) (x : Wait) (ys v : List ℕ) → x .call ≡ n → x .chain ≡ c → (timeChain ≡ c → x .count ≡ getD v t 0) → ((f b : ℕ) → chainOf f b ≡ c → x .count ≡ 0)
       → ((u : ℕ) → u ≢ t → getD v u 0 ≡ getD w u 0) → ((u : ℕ) → In u ys → (u ≡ t) ⊎ In u (X c)) → Ordered (Sooner (upd h t x)) ys
       → Told (upd h t x) (suc n) v (withChain X c ys)
   joined c x ys v en ec et ef ev who o =
@@ -133,9 +133,9 @@ module _ (h : History) (n : ℕ) (w : List ℕ) (X : Chain → List ℕ) (t : �
         past = λ u d i. said u d (λ p. p .call < suc n) (λ q e. omega arith) (λ j. omega (arith, k .past u d j)) i;
         home = λ u d i. said u d (λ p. p .chain ≡ d) (λ q e. ec ∙ sym e) (λ j. k .home u d j) i;
         count = λ u i. said u timeChain (λ p. p .count ≡ getD v u 0)
-            (λ q e. et (sym e) ∙ ap (λ (a : ℕ). getD v a 0) (sym q))
+            (λ q e. et e ∙ ap (λ (a : ℕ). getD v a 0) (sym q))
             (λ j. k .count u j ∙ sym (ev u (λ q. out (timeChain, subst (λ (a : ℕ). In a (X timeChain)) q j)))) i;
-        none = λ u d m i. said u d (λ p. p .count ≡ 0) (λ q e. ef (λ z. m (e ∙ z))) (λ j. k .none u d m j) i;
+        none = λ u f b i. said u (chainOf f b) (λ p. p .count ≡ 0) (λ q e. ef f b e) (λ j. k .none u f b j) i;
       }
     where
       -- of t by its new wait, of others by their old ones
@@ -149,17 +149,20 @@ module _ (h : History) (n : ℕ) (w : List ℕ) (X : Chain → List ℕ) (t : �
           kept j = subst P (sym (other h X t x out u d j)) (old j)
 
   -- for a flag's value: at the end of its chain
-  told-flag : (c : Chain) → c ≢ timeChain → Told (upd h t (record { call = n; chain = c; count = 0 })) (suc n) w (withChain X c (X c ++ t ∷ []))
-  told-flag c m =
-      joined c x (X c ++ t ∷ []) w refl refl (λ e. absurd (m e)) (λ e. refl) (λ u e. refl)
+  told-flag : (f v : ℕ) → let c = chainOf f v in Told (upd h t (record { call = n; chain = c; count = 0 })) (suc n) w (withChain X c (X c ++ t ∷ []))
+  told-flag f v =
+      joined c x (X c ++ t ∷ []) w refl refl (λ e. absurd (flag-no-time f v (sym e))) (λ g b e. refl) (λ u e. refl)
       (λ u i. ⊎-elim (λ j. inr j) (λ j. ⊎-elim (λ q. inl q) (λ z. absurd z) j) (in-cases u (X c) (t ∷ []) i))
       (ordered-end (Sooner (upd h t x)) t (X c) (λ a i. inr (zero-count a i, before a i)) (order-other h X t x out c (k .order c)))
     where
+      c : Chain
+      c = chainOf f v
+
       x : Wait
       x = record { call = n; chain = c; count = 0 }
 
       zero-count : (a : ℕ) → In a (X c) → upd h t x a .count ≡ upd h t x t .count
-      zero-count a i = ap (λ (p : Wait). p .count) (other h X t x out a c i) ∙ k .none a c m i ∙ sym (ap (λ (p : Wait). p .count) (upd-same h t x))
+      zero-count a i = ap (λ (p : Wait). p .count) (other h X t x out a c i) ∙ k .none a f v i ∙ sym (ap (λ (p : Wait). p .count) (upd-same h t x))
 
       before : (a : ℕ) → In a (X c) → upd h t x a .call < upd h t x t .call
       before a i =
@@ -170,7 +173,7 @@ module _ (h : History) (n : ℕ) (w : List ℕ) (X : Chain → List ℕ) (t : �
       → Told (upd h t (record { call = n; chain = timeChain; count = d })) (suc n) (set w t d)
       (withChain X timeChain (insertBy (λ (a : ℕ). getD (set w t d) a 0) t (X timeChain)))
   told-time d b =
-      joined timeChain x (insertBy W t (X timeChain)) (set w t d) refl refl (λ e. sym (getD-set-same w t d 0 b)) (λ e. absurd (e refl))
+      joined timeChain x (insertBy W t (X timeChain)) (set w t d) refl refl (λ e. sym (getD-set-same w t d 0 b)) (λ f v e. absurd (flag-no-time f v e))
       (λ u e. getD-set-other w t u d 0 e) (λ u i. in-place W t u (X timeChain) i)
       (place-order (upd h t x) W t (X timeChain) (ap (λ (p : Wait). p .count) (upd-same h t x) ∙ sym (getD-set-same w t d 0 b)) (λ a i. (same a i, before a i))
       (order-other h X t x out timeChain (k .order timeChain)))
@@ -250,7 +253,7 @@ module _ (r : Rig) (ok : RigOk r) (s : State) (sound : Sound r s) (h : History) 
   unfolding noted waitOn
   flagged true f v m = told-later h n (s .wakes) (s .chains) k
   flagged false f v m =
-      told-flag h n (s .wakes) (s .chains) (s .running) (outside m) k (chainOf f v) (flag-no-time f v)
+      told-flag h n (s .wakes) (s .chains) (s .running) (outside m) k f v
 
   effect-told : (x : Call) → refusal r s x ≡ 0
       → Told (noted n (s .running) (begins s x) h) (suc n) (effect r s x .now .wakes) (effect r s x .now .chains)
@@ -286,8 +289,9 @@ told-order r s sound h n k =
       lists = λ t c. ((λ i. (sound .chains .listed .two t (c, i), k .home t c i)), back t c);
       time = k .order timeChain;
       counts = λ t i. sym (k .count t i);
-      flags = λ c m.
-          ordered-map (Sooner h) (Earlier h) (s .chains c) (λ a b i j o. first a b (k .none a c m i) (k .none b c m j) o) (k .order c);
+      flags = λ f v.
+          let c = chainOf f v in
+          ordered-map (Sooner h) (Earlier h) (s .chains c) (λ a b i j o. first a b (k .none a f v i) (k .none b f v j) o) (k .order c);
     }
   where
     back : (t : ℕ) (c : Chain) → (stateOf s t ≡ 2) × (h t .chain ≡ c) → In t (s .chains c)
@@ -301,12 +305,7 @@ told-order r s sound h n k =
 
 -- the history and who waits fix every chain: nothing else can be read off them
 pub order-one : (h : History) (s u : State) → s .states ≡ u .states → InOrder h s → InOrder h u → (c : Chain) → s .chains c ≡ u .chains c
-order-one h s u e p q c =
-    by (sameChain c timeChain)
-    (λ d. subst (λ (x : Chain). s .chains x ≡ u .chains x) (sym (same-true c timeChain d))
-    (ordered-same (Sooner h) apart (s .chains timeChain) (u .chains timeChain) (p .time) (q .time) (same timeChain)))
-    (λ d. let m = same-false c timeChain d in
-    ordered-same (Earlier h) (λ a b x y. omega arith) (s .chains c) (u .chains c) (p .flags c m) (q .flags c m) (same c))
+order-one h s u e p q = go
   where
     apart : (a b : ℕ) → Sooner h a b → Sooner h b a → ⊥
     apart a b (inl x) (inl y) = omega arith
@@ -319,6 +318,12 @@ order-one h s u e p q c =
       (λ i. let w = p .lists t d .0 i in q .lists t d .1 (sym (ap (λ (l : List ℕ). getD l t 0) e) ∙ w .0, w .1)),
       (λ i. let w = q .lists t d .0 i in p .lists t d .1 (ap (λ (l : List ℕ). getD l t 0) e ∙ w .0, w .1)),
     )
+
+    go : (c : Chain) → s .chains c ≡ u .chains c
+    go timeChain = ordered-same (Sooner h) apart (s .chains timeChain) (u .chains timeChain) (p .time) (q .time) (same timeChain)
+    go (chainOf f v) =
+        let c = chainOf f v in
+        ordered-same (Earlier h) (λ a b x y. omega arith) (s .chains c) (u .chains c) (p .flags f v) (q .flags f v) (same c)
 
 -- ---- runs
 
@@ -335,7 +340,7 @@ module _ (r : Rig) (ok : RigOk r) where
   start-told h n = told-served r h n (scheduled r blank 1) (told-scheduled r h n 1 blank none)
     where
       none : Told h n (blank .wakes) (blank .chains)
-      none = record { order = λ c. tt; past = λ t c i. absurd i; home = λ t c i. absurd i; count = λ t i. absurd i; none = λ t c m i. absurd i }
+      none = record { order = λ c. tt; past = λ t c i. absurd i; home = λ t c i. absurd i; count = λ t i. absurd i; none = λ t f v i. absurd i }
 
   -- THE ORDER OF THE CHAINS, after any run from an accepted start, refused calls among it
   pub chains-in-order : (ks : List Call) → ProperRun ks → InOrder (historyOf r ks) (run r (start r) ks)

@@ -3,7 +3,7 @@ use mathlib.Core.Path.{_≡_, refl, sym, ap, _∙_, fun-ext}
 use mathlib.Core.Logic.{_⊎_, inl, inr, ⊎-elim}
 use mathlib.Core.Bool.{_&&_}
 use mathlib.Core.List.{List}
-use Prim.Native.Nat.{ℕ, _+_, _-_, _*_, _/_, _%_, _≤_, _<_}
+use Prim.Native.Nat.{ℕ, _+_, _-_, _*_, _/_, _%_, _<_}
 use native.Mathlib.Omega.{arith}
 use borrow.Author.Tests.{leb-true, le-leb, eqb-true, eqb-false}
 use lib.Dec.{eqb, leb}
@@ -11,8 +11,8 @@ use Rattle.laws.specs.Cases.{by, and-true}
 use Rattle.laws.specs.Functions.{upd}
 use Rattle.laws.specs.Laws.Functions.{upd-same, upd-other}
 use Rattle.chains.specs.Held.{Held}
-use Rattle.chains.specs.Read.{chainsOf}
-use Rattle.chains.specs.Laws.Read.{held-chains, only-of, only-upd}
+use Rattle.chains.specs.Read.{chainsOf, inside}
+use Rattle.chains.specs.Laws.Read.{inside-low, inside-high, held-chains, only-of, only-upd}
 use Rattle.chains.specs.declared.Links.{Links}
 use Rattle.rules.specs.State.{Chain, timeChain, chainOf, withChain}
 use Rattle.rules.specs.Laws.Chains.{on-chain}
@@ -74,6 +74,16 @@ pub anchor-name : (c : Chain) → IsChain c → nameOf (anchorOf c) ≡ c
 anchor-name c k =
     let e = name-anchor (anchorOf c) (anchor-low c k) (anchor-high c k) in
     sym (anchor-same c (nameOf (anchorOf c)) (anchor-low c k) (sym e))
+
+-- the chains by name tell all that the links show
+pub named-all : (l r : Links) → byName (chainsOf l) ≡ byName (chainsOf r) → chainsOf l ≡ chainsOf r
+named-all l r e =
+    fun-ext λ s.
+    by (inside s)
+    (λ i.
+    let n = name-anchor s (inside-low s i) (inside-high s i) in
+    ap (chainsOf l) (sym n) ∙ ap (λ (X : Chain → List ℕ). X (nameOf s)) e ∙ ap (chainsOf r) n)
+    (λ i. only-of l s i ∙ sym (only-of r s i))
 
 -- ---- a list is put at one anchor
 
