@@ -16,7 +16,7 @@ pub fn tick(rig: Rig, cycles: [Cycle; 64], st: State, out: &mut [u16]) -> Outcom
     if n != 0 {
         return exec_outcome::refused(st, n);
     }
-    let mut o = exec_outcome::settle(rig, st.ticked(cycles));
+    let mut o = exec_outcome::settle(rig, exec_waking::ticked(st, cycles));
     let rows = rig.row;
     let words = compool::bus_words(rows, rig.rows as usize, rig.master, o.st.count, out);
     o.words = words as u32;

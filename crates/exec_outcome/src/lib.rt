@@ -48,7 +48,7 @@ pub fn settle(rig: Rig, w: Work) -> Outcome
 {
     let st = w.st;
     let queue = w.queue;
-    let d = exec_state::serve(
+    let d = exec_serving::serve(
         st,
         queue,
         rig.lines as usize,

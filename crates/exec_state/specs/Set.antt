@@ -1,4 +1,4 @@
--- A state with one field changed, and a rig with the tables that the code looks at.
+-- A state with one field changed, and a rig with the tables that the dispatch looks at.
 use mathlib.Core.List.{List}
 use Prim.Native.Nat.{ℕ}
 use Rattle.chains.specs.declared.Links.{Links}
@@ -25,50 +25,6 @@ putLinks s v = record { count = s .count; value = s .value; cond = s .cond; stat
 
 abbrev pub putRunning : State → ℕ → State
 putRunning s v = record { count = s .count; value = s .value; cond = s .cond; state = s .state; wake = s .wake; links = s .links; running = v }
-
--- what offering looks at
-abbrev pub withTables : List ℕ → List ℕ → List ℕ → List ℕ → List ℕ → List ℕ → ℕ → Rig → Rig
-withTables present latched desired lineTask lineFlag activation n g =
-    record {
-      tasks = g .tasks;
-      flags = g .flags;
-      master = g .master;
-      lines = n;
-      rows = g .rows;
-      controller = g .controller;
-      priority = g .priority;
-      privileged = g .privileged;
-      activation = activation;
-      present = present;
-      latched = latched;
-      desired = desired;
-      lineTask = lineTask;
-      linePos = g .linePos;
-      lineFlag = lineFlag;
-      row = g .row;
-    }
-
--- what serving looks at besides: the positions of the A lines
-abbrev pub withPlaces : List ℕ → Rig → Rig
-withPlaces linePos g =
-    record {
-      tasks = g .tasks;
-      flags = g .flags;
-      master = g .master;
-      lines = g .lines;
-      rows = g .rows;
-      controller = g .controller;
-      priority = g .priority;
-      privileged = g .privileged;
-      activation = g .activation;
-      present = g .present;
-      latched = g .latched;
-      desired = g .desired;
-      lineTask = g .lineTask;
-      linePos = linePos;
-      lineFlag = g .lineFlag;
-      row = g .row;
-    }
 
 -- what the dispatch looks at
 abbrev pub withRanks : List ℕ → List ℕ → Rig → Rig

@@ -11,8 +11,6 @@ use Rattle.rules.specs.State as S
 use Rattle.exec_queue.specs.View.{minorOf, entriesOf}
 use Rattle.exec_queue.specs.declared.Queue.{Queue}
 use Rattle.exec_state.specs.declared.State.{State}
-use Rattle.exec_state.specs.declared.Work.{Work}
-use Rattle.exec_state.specs.declared.Done.{Done}
 
 -- the rig, with the cycles that stand beside it
 abbrev pub rigOf : Rig → List Cycle → G.Rig
@@ -52,6 +50,3 @@ viewOf s =
 
 abbrev pub workOf : State → Queue → S.Work
 workOf s q = record { now = viewOf s; queue = entriesOf q }
-
-abbrev pub doneOf : Done → S.Done
-doneOf d = record { now = viewOf (d .st); served = d .served }

@@ -29,7 +29,7 @@ pub fn wait_until(rig: Rig, cycles: [Cycle; 64], st: State, count: u32) -> Outco
     if count <= st.count {
         return exec_outcome::kept(st, 0);
     }
-    let st = st.wait_until(count);
+    let st = exec_waiting::wait_until(st, count);
     let queue = Queue::empty();
     exec_outcome::settle(rig, Work { st, queue })
 }
@@ -47,7 +47,7 @@ pub fn wait_for(rig: Rig, cycles: [Cycle; 64], st: State, many: u32) -> Outcome
     if many == 0 {
         return exec_outcome::kept(st, 0);
     }
-    let st = st.wait_until(count as u32);
+    let st = exec_waiting::wait_until(st, count as u32);
     let queue = Queue::empty();
     exec_outcome::settle(rig, Work { st, queue })
 }
@@ -73,7 +73,7 @@ pub fn wait_on(
     if satisfied(latched, exec_refusals::look(&st.value, flag), v) {
         return exec_outcome::kept(st, 0);
     }
-    let st = st.wait_on(flag as usize, v as usize);
+    let st = exec_waiting::wait_on(st, flag as usize, v as usize);
     let queue = Queue::empty();
     exec_outcome::settle(rig, Work { st, queue })
 }

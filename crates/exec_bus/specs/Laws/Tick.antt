@@ -22,7 +22,7 @@ use Rattle.compool.specs.View.{rowsOf}
 use Rattle.compool.specs.Post.{RowsFit}
 use Rattle.compool.specs.Laws.Words.{row-short}
 use Rattle.exec_state.specs.View.{rigOf, viewOf, workOf}
-use Rattle.exec_state.specs.Post.{TickOk, Ticked}
+use Rattle.exec_waking.specs.Post.{TickOk, Ticked}
 use Rattle.exec_state.specs.declared.Work.{Work}
 use Rattle.exec_state.specs.declared.State.{State}
 use Rattle.exec_sound.specs.Sound.{SoundParts}

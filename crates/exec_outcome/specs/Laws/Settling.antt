@@ -26,10 +26,11 @@ use Rattle.rules_laws.specs.Good.{serve-running}
 use Rattle.rules_laws.specs.Bound.{effect-load}
 use Rattle.rules_laws.specs.Steps.{effect-ready}
 use Rattle.exec_state.specs.View.{rigOf, viewOf, workOf}
-use Rattle.exec_state.specs.Post.{Fits, Servable, Begins, Emptied, Dispatched}
+use Rattle.exec_state.specs.Post.{Dispatched}
 use Rattle.exec_state.specs.declared.State.{State}
 use Rattle.exec_state.specs.declared.Work.{Work}
-use Rattle.exec_state.specs.declared.Done.{Done}
+use Rattle.exec_serving.specs.Post.{Fits, Servable, Begins, Emptied}
+use Rattle.exec_serving.specs.declared.Done.{Done}
 use Rattle.exec_sound.specs.Sound.{SoundParts}
 use Rattle.exec_sound.specs.Laws.RightRig.{rig-ok}
 use Rattle.exec_sound.specs.Laws.Check.{running-low}

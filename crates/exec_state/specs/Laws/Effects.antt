@@ -1,33 +1,32 @@
 -- What each call does before its queue is served.
 use mathlib.Core.Path.{_≡_, refl, sym, _∙_, ap}
-use mathlib.Core.Bool.{true, false, cond}
+use mathlib.Core.Bool.{Bool, true, false, cond, not}
 use mathlib.Core.List.{List, []}
-use Prim.Native.Nat.{ℕ, _+_, _%_}
-use native.Mathlib.Omega.{arith}
-use native.Mathlib.Numerals.{add-one}
+use Prim.Native.Nat.{ℕ}
 use lib.ListN.{set, replicate}
+use borrow.Author.Tests.{not-true, not-false}
 use Rattle.laws.specs.Cases.{if-yes, if-no}
-use Rattle.chains.specs.Held.{at, Empty}
+use Rattle.chains.specs.Held.{at, Empty, Sized}
 use Rattle.chains.specs.Read.{chainsOf}
 use Rattle.chains.specs.Laws.Read.{held-chains}
 use Rattle.chains.specs.declared.Links.{Links}
 use Rattle.exec_family.specs.Anchors.{byName}
 use Rattle.exec_family.specs.Post.{Left, Deserted}
 use Rattle.exec_queue.specs.Post.{Pushed}
-use Rattle.exec_queue.specs.View.{entriesOf, minorOf}
+use Rattle.exec_queue.specs.View.{entriesOf}
 use Rattle.exec_queue.specs.declared.Queue.{Queue}
 use Rattle.rig.specs.declared.Cycle.{Cycle}
 use Rattle.rig.specs.declared.Rig.{Rig}
 use Rattle.rules.specs.State as S
-use Rattle.rules.specs.State.{Chain, Entry, withTables, withChains, withCount, blank}
+use Rattle.rules.specs.State.{Chain, Entry, withTables, withChains, blank}
 use Rattle.rules.specs.Conditions.{relax, met}
 use Rattle.rules.specs.Serving.{push, activate}
-use Rattle.rules.specs.Waiting.{wakeDue}
+use Rattle.rules.specs.Running.{chosen, dispatch}
 use Rattle.rules.specs.Family.{family, cleared, deserted, offs}
-use Rattle.rules.specs.Calls.{scheduled, finished, terminated, cancelled, ticked, cycleQueue}
+use Rattle.rules.specs.Calls.{scheduled, finished, terminated, cancelled}
 use Rattle.exec_state.specs.View.{rigOf, viewOf, workOf}
-use Rattle.exec_state.specs.Set.{putState, putLinks, putRunning, putCond, putCount}
-use Rattle.exec_state.specs.Post.{Finished, Terminated, Cancelled, Scheduled, Ticked, Timed, TickOk, WokenDue, Blank}
+use Rattle.exec_state.specs.Set.{putState, putLinks, putRunning, putCond}
+use Rattle.exec_state.specs.Post.{Finished, Terminated, Cancelled, Scheduled, Dispatched, Blank}
 use Rattle.exec_state.specs.declared.State.{State}
 use Rattle.exec_state.specs.declared.Work.{Work}
 
@@ -85,41 +84,35 @@ module _ (s : State) (g : Rig) (t : ℕ) (conds : List ℕ) (e : conds ≡ relax
       ap (λ (x : List Entry). record { now = viewOf now; queue = x }) z
       ∙ ap (λ (x : List ℕ). record { now = withTables (viewOf s) x (set (s .state) t 1); queue = [] }) e
 
-  pub scheduled-no : met (at (g .present)) (at (g .desired)) t conds ≡ false → Scheduled s g t (record { st = now; queue = none })
-  unfolding scheduled begun
-  scheduled-no n =
-      record { is = λ cycles. begun-is cycles ∙ sym (if-no _ (ap (met (at (g .present)) (at (g .desired)) t) (sym e) ∙ n) refl); links = refl }
+  -- the code's test, over the conditions as they now stand
+  module _ (b : Bool) (test : b ≡ met (at (g .present)) (at (g .desired)) t conds) where
+    tested : b ≡ met (at (g .present)) (at (g .desired)) t (relax (at (g .present)) (at (g .latched)) (at (g .desired)) t (s .cond))
+    tested = test ∙ ap (met (at (g .present)) (at (g .desired)) t) e
 
-  pub scheduled-yes : met (at (g .present)) (at (g .desired)) t conds ≡ true → (q : Queue) → Pushed none (at (g .activation) t) 1 q → (c : List ℕ)
-      → c ≡ relax (at (g .present)) (at (g .latched)) (at (g .desired)) t conds
-      → Scheduled s g t (record { st = putCond (putState now (set (now .state) t 3)) c; queue = q })
-  unfolding scheduled activate begun
-  scheduled-yes y q m c r =
-      record {
-        is = λ cycles.
-            ap (λ (x : List Entry). record { now = viewOf (putCond (putState now (set (now .state) t 3)) c); queue = x }) (m .is)
-            ∙ ap (λ (x : List ℕ). record { now = viewOf (putCond (putState now (set (now .state) t 3)) x); queue = push (at (g .activation) t) 1 (entriesOf none) }) r
-            ∙ ap (activate (rigOf g cycles) t) (begun-is cycles)
-            ∙ sym (if-yes _ (ap (met (at (g .present)) (at (g .desired)) t) (sym e) ∙ y) refl);
-        links = refl;
-      }
+    pub scheduled-no : not b ≡ true → Scheduled s g t (record { st = now; queue = none })
+    unfolding scheduled begun
+    scheduled-no n = record { is = λ cycles. begun-is cycles ∙ sym (if-no _ (sym tested ∙ not-true b n) refl); links = refl }
 
--- ---- tick
+    pub scheduled-yes : not b ≡ false → (q : Queue) → Pushed none (at (g .activation) t) 1 q → (c : List ℕ)
+        → c ≡ relax (at (g .present)) (at (g .latched)) (at (g .desired)) t conds
+        → Scheduled s g t (record { st = putCond (putState now (set (now .state) t 3)) c; queue = q })
+    unfolding scheduled activate begun
+    scheduled-yes y q m c r =
+        record {
+          is = λ cycles.
+              ap (λ (x : List Entry). record { now = viewOf (putCond (putState now (set (now .state) t 3)) c); queue = x }) (m .is)
+              ∙ ap (λ (x : List ℕ). record { now = viewOf (putCond (putState now (set (now .state) t 3)) x); queue = push (at (g .activation) t) 1 (entriesOf none) }) r
+              ∙ ap (activate (rigOf g cycles) t) (begun-is cycles)
+              ∙ sym (if-yes _ (sym tested ∙ not-false b y) refl);
+          links = refl;
+        }
 
-pub risen : (s : State) → TickOk s → Timed (putCount s (s .count + 1))
-risen s k = record { ordered = k .ordered; due = λ t i. omega (arith, k .ahead t i) }
+-- ---- dispatch
 
-pub ticked-is : (s : State) (cycles : List Cycle) (q : Queue) → entriesOf q ≡ cycleQueue (minorOf cycles ((s .count + 1) % 64)) → (r : State)
-    → WokenDue (putCount s (s .count + 1)) r → Ticked s cycles (record { st = r; queue = q })
-unfolding ticked
-ticked-is s cycles q e r w =
-    record {
-      is = λ g.
-          ap (λ (x : List Entry). record { now = viewOf r; queue = x }) e
-          ∙ ap (λ (x : S.State). record { now = x; queue = cycleQueue (minorOf cycles ((s .count + 1) % 64)) }) (w .is)
-          ∙ ap (λ (n : ℕ). record { now = wakeDue (withCount (viewOf s) n); queue = cycleQueue (minorOf cycles (n % 64)) }) (add-one (s .count));
-      sound = w .sound;
-    }
+pub dispatched-is : (s : State) (g : Rig) (n : ℕ) → n ≡ chosen (at (g .privileged)) (at (g .priority)) (s .state) (s .running) → Sized (s .links)
+    → Dispatched s g (putRunning s n)
+unfolding dispatch
+dispatched-is s g n e z = record { is = λ cycles. ap (λ (x : ℕ). viewOf (putRunning s x)) e; links = refl; sized = z }
 
 -- ---- the blank state
 

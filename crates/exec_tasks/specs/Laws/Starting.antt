@@ -18,7 +18,8 @@ use Rattle.rules_laws.specs.Serve.{load}
 use Rattle.rules_laws.specs.Bound.{scheduled-load}
 use Rattle.rules_laws.specs.Steps.{started-ready, start-sound}
 use Rattle.exec_state.specs.View.{rigOf, viewOf, workOf}
-use Rattle.exec_state.specs.Post.{Servable, Blank, Scheduled}
+use Rattle.exec_state.specs.Post.{Blank, Scheduled}
+use Rattle.exec_serving.specs.Post.{Servable}
 use Rattle.exec_state.specs.declared.State.{State}
 use Rattle.exec_state.specs.declared.Work.{Work}
 use Rattle.exec_sound.specs.Sound.{SoundParts}

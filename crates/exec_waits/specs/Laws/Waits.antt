@@ -21,7 +21,8 @@ use Rattle.rules_laws.specs.Acceptance.{passed, flagged-is}
 use Rattle.exec_queue.specs.View.{entriesOf}
 use Rattle.exec_queue.specs.declared.Queue.{Queue}
 use Rattle.exec_state.specs.View.{rigOf, viewOf, workOf}
-use Rattle.exec_state.specs.Post.{MayWait, FlagOk}
+use Rattle.exec_state.specs.Post.{FlagOk}
+use Rattle.exec_waiting.specs.Post.{MayWait}
 use Rattle.exec_state.specs.declared.State.{State}
 use Rattle.exec_sound.specs.Sound.{SoundParts}
 use Rattle.exec_sound.specs.Laws.Check.{running-low, named}

@@ -1,9 +1,6 @@
-use mathlib.Core.Path.{refl, ap}
-use Prim.Native.Nat.{ℕ}
-use Rattle.rules.specs.Running.{dispatch}
 use Rattle.chains.specs.Held.{Sized}
-use Rattle.exec_state.specs.Set.{putRunning}
-use Rattle.exec_state.specs.View.{viewOf}
+use Rattle.exec_state.specs.Set.{withRanks}
+use Rattle.exec_state.specs.Laws.Effects.{dispatched-is}
 use borrow.Author.Needs.{needs}
 use Rattle.exec_state.proofs.State.dispatched.Statement.{statement}
 use Rattle.exec_state.proofs.State.dispatched.Tie as tie
@@ -22,15 +19,9 @@ cast-self : tie.Need-cast-self
 cast-self c = search needs
 
 returns : tie.Need-returns
-unfolding dispatch
 returns c =
     let b = c .before .before .before in
-    λ g.
-    record {
-      is = λ cycles. ap (λ (n : ℕ). viewOf (putRunning (b .args .t1) n)) (c .chosen .ensures .0);
-      links = refl;
-      sized = sized b;
-    }
+    λ g. dispatched-is (b .args .t1) (withRanks (b .args .privileged .now) (b .args .priority .now) g) (c .chosen .result) (c .chosen .ensures .0) (sized b)
 
 pub dispatched-spec : {M : Type 1} → statement M
 dispatched-spec = tie.close (tie.spec cast-n chosen-requires cast-self returns)

@@ -1,5 +1,3 @@
-use borrow.Author.Tests.{not-true, not-false}
-use mathlib.Core.Path.{sym, _∙_}
 use Rattle.exec_state.specs.Laws.Effects.{scheduled-no, scheduled-yes}
 use borrow.Author.Needs.{needs}
 use Rattle.exec_state.proofs.State.scheduled.Statement.{statement}
@@ -22,7 +20,7 @@ returns c =
     let a = c .before .before .before .before .before .before .before .before .before .before .before .before .before .before .args in
     let n = c .before .before .before .before .before .before .before .before .before .before .before .before .before in
     let x = c .before .before .before .before .before .before .before .relax in
-    scheduled-no (a .t1) (a .t2) (a .t) (x .last .1 .1 .1 .1 .0) (x .ensures) (n .empty .result) (n .empty .ensures .0) (sym (c .before .met .ensures) ∙ not-true _ (c .if1 .taken))
+    scheduled-no (a .t1) (a .t2) (a .t) (x .last .1 .1 .1 .1 .0) (x .ensures) (n .empty .result) (n .empty .ensures .0) (c .before .met .result) (c .before .met .ensures) (c .if1 .taken)
 
 element-copy-out-f : tie.Need-element-copy-out-f
 element-copy-out-f c = search needs
@@ -41,8 +39,9 @@ returns-2 c =
     let a = c .before .before .before .before .before .before .before .before .before .before .before .before .before .before .before .before .before .before .before .before .before .before .args in
     let n = c .before .before .before .before .before .before .before .before .before .before .before .before .before .before .before .before .before .before .before .before .before in
     let x = c .before .before .before .before .before .before .before .before .before .before .before .before .before .before .before .relax in
+    let m = c .before .before .before .before .before .before .before .before .before in
     let y = c .relax2 in
-    scheduled-yes (a .t1) (a .t2) (a .t) (x .last .1 .1 .1 .1 .0) (x .ensures) (n .empty .result) (n .empty .ensures .0) (sym (c .before .before .before .before .before .before .before .before .before .met .ensures) ∙ not-false _ (c .before .before .before .before .before .before .before .before .if1 .left))
+    scheduled-yes (a .t1) (a .t2) (a .t) (x .last .1 .1 .1 .1 .0) (x .ensures) (n .empty .result) (n .empty .ensures .0) (m .met .result) (m .met .ensures) (c .before .before .before .before .before .before .before .before .if1 .left)
     (c .before .before .before .before .before .before .push .result) (c .before .before .before .before .before .before .push .ensures) (y .last .1 .1 .1 .1 .0) (y .ensures)
 
 pub scheduled-spec : {M : Type 1} → statement M

@@ -1,0 +1,3 @@
+pub mod Set
+pub mod Post
+pub mod Laws

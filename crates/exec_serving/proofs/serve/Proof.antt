@@ -1,0 +1,224 @@
+use mathlib.Core.Path.{_≡_, sym, _∙_}
+use mathlib.Core.Logic.{⊎-elim}
+use mathlib.Core.List.{List}
+use Prim.Native.Nat.{ℕ, suc, _+_, _*_, _-_, _<_, _≤_}
+use native.Mathlib.Omega.{arith}
+use borrow.Author.Tests.{eqb-true, not-false}
+use lib.ListN.{getD, set}
+use Rattle.rig.specs.Forms.{noRig}
+use Rattle.rig.specs.declared.Rig.{Rig}
+use Rattle.rules.specs.State.{Chain, chainOf}
+use Rattle.rules_laws.specs.Serve.{load}
+use Rattle.exec_family.specs.Laws.Anchors.{anchor-flag}
+use Rattle.exec_state.specs.View.{workOf}
+use Rattle.exec_state.specs.Set.{putValue, putCond, putState}
+use Rattle.exec_offers.specs.Set.{withTables}
+use Rattle.exec_serving.specs.Set.{withPlaces}
+use Rattle.exec_state.specs.Post.{FlagOk}
+use Rattle.exec_waking.specs.Post.{Woken}
+use Rattle.exec_serving.specs.Post.{Served}
+use Rattle.exec_offers.specs.Post.{workIn}
+use Rattle.exec_waking.specs.Laws.Waking.{waking-none}
+use Rattle.exec_serving.specs.Laws.Serving.{Turned, turned-start, short, last-ok, rest-room, turned-falls, turned-step, turned-done, served-room, served-is}
+use Rattle.exec_state.specs.declared.State.{State}
+use Rattle.exec_state.specs.declared.Work.{Work}
+use Rattle.exec_queue.specs.declared.Queue.{Queue}
+use Rattle.exec_serving.proofs.serve.Statement.{statement}
+use Rattle.exec_serving.proofs.serve.Tie as tie
+
+abbrev Inv-loop : tie.InvT-loop
+Inv-loop n present latched desired lineTask linePos lineFlag activation st₀ state₀ q₀ k₀ st state q k = (g : Rig) → Turned (withTables present latched desired lineTask lineFlag activation n (withPlaces linePos g)) st₀ q₀ (putState st state) q k
+
+abbrev μ-loop : tie.MeasureT-loop
+μ-loop n present latched desired lineTask linePos lineFlag activation st₀ state₀ q₀ k₀ st state q k = load (workOf (putState st state) q)
+
+-- a rig about the tables that are lent
+abbrev rig : tie.Start Inv-loop μ-loop → Rig → Rig
+rig b g = withTables (b .args .present .now) (b .args .latched .now) (b .args .desired .now) (b .args .lineTask .now) (b .args .lineFlag .now) (b .args .activation .now) (b .args .n) (withPlaces (b .args .linePos .now) g)
+
+-- the state: one of its fields is a local
+abbrev whole : tie.At-loop Inv-loop μ-loop → State
+whole d = putState (d .loop .st) (d .loop .state)
+
+few : (d : tie.At-loop Inv-loop μ-loop) → d .loop .q .n ≤ 79
+few d =
+    let b = d .before .before in
+    short (rig b noRig) (b .args .t1) (b .args .queue) (whole d) (d .loop .q) (d .loop .k) (d .loop .inv noRig)
+
+-- the place of the entry that is taken off
+low : (n : ℕ) → (n ≡ 0 → ⊥) → n ≡ suc (n - 1)
+low n h = omega arith
+
+abbrev start : tie.In-loop Inv-loop μ-loop → tie.Start Inv-loop μ-loop
+start e = e .before .before .before
+
+abbrev turn : tie.Joined1 Inv-loop μ-loop → tie.In-loop Inv-loop μ-loop
+turn j = j .before .before .before .before .before .before .before .before
+
+abbrev joined : tie.After-offers Inv-loop μ-loop → tie.Joined1 Inv-loop μ-loop
+joined c = c .before .before .before
+
+abbrev flag : tie.In-loop Inv-loop μ-loop → ℕ
+flag c = getD (c .before .loop .q .flag) (c .before .loop .q .n - 1) 0
+
+abbrev value : tie.In-loop Inv-loop μ-loop → ℕ
+value c = getD (c .before .loop .q .value) (c .before .loop .q .n - 1) 0
+
+ok : (c : tie.In-loop Inv-loop μ-loop) → FlagOk (flag c) (value c)
+ok c =
+    let d = c .before in
+    let b = start c in
+    last-ok (rig b noRig) (b .args .t1) (b .args .queue) (whole d) (d .loop .q) (d .loop .k) (d .loop .inv noRig) (d .loop .q .n - 1) (low (d .loop .q .n) (c .loop-test .taken))
+
+abbrev popped : tie.In-loop Inv-loop μ-loop → Queue
+popped c = record { n = c .before .loop .q .n - 1; flag = c .before .loop .q .flag; value = c .before .loop .q .value }
+
+abbrev driven : tie.Joined1 Inv-loop μ-loop → List ℕ
+driven j = j .before .before .before .before .drive .last .1 .1 .1 .1 .1 .1 .0
+
+-- the flag and its conditions have the value
+abbrev taken : tie.Joined1 Inv-loop μ-loop → State
+taken j =
+    let e = turn j in
+    let s = whole (e .before) in
+    putCond (putValue s (set (s .value) (flag e) (value e))) (driven j)
+
+abbrev woken : tie.Joined1 Inv-loop μ-loop → State
+woken j = putState (j .if1 .st) (j .if1 .state)
+
+woken-so : (s : State) (c : Chain) (x y : State) (a b : List ℕ) → x ≡ y → a ≡ b → Woken s c (putState y b) → Woken s c (putState x a)
+woken-so s c x y a b e f h = rw (e, f) h
+
+-- who waited is woken, or nobody waited
+awoken : (j : tie.Joined1 Inv-loop μ-loop) → let e = turn j in Woken (taken j) (chainOf (flag e) (value e)) (woken j)
+awoken j =
+    let e = turn j in
+    let d = e .before in
+    let o = ok e in
+    let c = chainOf (flag e) (value e) in
+    let a = anchor-flag (flag e) (value e) (o .some, o .flag, o .value) in
+    let p : 64 + 2 * flag e + value e < 322 = omega (arith, o .flag, o .value) in
+    ⊎-elim
+    (λ w. woken-so (taken j) c _ _ _ _ (w .4) (w .5) (w .3 .ensures (taken j) c a))
+    (λ w. woken-so (taken j) c _ _ _ _ (w .1) (w .2)
+    (waking-none (64 + 2 * flag e + value e) (omega (arith, o .some)) p (d .loop .st .links) (d .loop .state) (d .loop .inv noRig .sound)
+    (eqb-true _ _ (not-false _ (sym (j .before .waited .ensures) ∙ w .0 .left))) (taken j) c a))
+    (j .if1 .came)
+
+abbrev served : tie.After-offers Inv-loop μ-loop → Work
+served c =
+    let j = joined c in
+    workIn (woken j) (c .offers .last .1 .1 .1 .1 .1 .1 .1 .1 .0) (c .offers .last .1 .1 .1 .1 .1 .1 .1 .1 .1 .0) (c .offers .result)
+
+served-so : (c : tie.After-offers Inv-loop μ-loop) (g : Rig) → let e = turn (joined c) in Served (whole (e .before)) (popped e) (rig (start e) g) (flag e) (value e) (served c)
+served-so c g =
+    let j = joined c in
+    let e = turn j in
+    let b = start e in
+    served-is (whole (e .before)) (popped e) (rig b g) (flag e) (value e) (driven j) (j .before .before .before .before .drive .ensures) (woken j) (awoken j) (served c) (c .offers .ensures (withPlaces (b .args .linePos .now) g) (woken j))
+
+loop-holds : tie.Need-loop-holds Inv-loop μ-loop
+loop-holds c =
+    let b = c .before in
+    λ g. turned-start (rig b g) (b .args .t1) (b .args .queue) (b .pre .sound) (b .pre .room) (b .pre .entries)
+
+sub-j : tie.Need-sub-j Inv-loop μ-loop
+sub-j c = omega (arith, c .loop-test .taken)
+
+element-copy-out-f : tie.Need-element-copy-out-f Inv-loop μ-loop
+element-copy-out-f c = omega (arith, few (c .before))
+
+element-copy-out-v : tie.Need-element-copy-out-v Inv-loop μ-loop
+element-copy-out-v c = omega (arith, few (c .before .before))
+
+cast-st : tie.Need-cast-st Inv-loop μ-loop
+cast-st c = let o = ok (c .before .before) in omega (arith, o .flag, o .value)
+
+element-write-st : tie.Need-element-write-st Inv-loop μ-loop
+element-write-st c = let o = ok (c .before .before) in omega (arith, o .flag, o .value)
+
+drive-requires : tie.Need-drive-requires Inv-loop μ-loop
+drive-requires c κs = c .before .before .before .before .before .before .pre .fits .lines
+
+cast-c : tie.Need-cast-c Inv-loop μ-loop
+cast-c c = let o = ok (c .before .before .before .before) in omega (arith, o .flag, o .value)
+
+mul-c : tie.Need-mul-c Inv-loop μ-loop
+mul-c c = let o = ok (c .before .before .before .before) in omega (arith, o .flag, o .value)
+
+add-c : tie.Need-add-c Inv-loop μ-loop
+add-c c = let o = ok (c .before .before .before .before) in omega (arith, o .flag, o .value)
+
+cast-c-2 : tie.Need-cast-c-2 Inv-loop μ-loop
+cast-c-2 c = let o = ok (c .before .before .before .before) in omega (arith, o .flag, o .value)
+
+add-c-2 : tie.Need-add-c-2 Inv-loop μ-loop
+add-c-2 c = let o = ok (c .before .before .before .before) in omega (arith, o .flag, o .value)
+
+waited-requires : tie.Need-waited-requires Inv-loop μ-loop
+waited-requires c κs = let o = ok (c .before .before .before .before .before .before) in omega (arith, o .flag, o .value)
+
+wake-requires : tie.Need-wake-requires Inv-loop μ-loop
+wake-requires c κs =
+    let e = c .before .before .before .before .before .before .before .before .before .before in
+    let o = ok e in
+    (e .before .loop .inv noRig .sound, (omega (arith, o .some), omega (arith, o .flag, o .value)))
+
+offers-requires : tie.Need-offers-requires Inv-loop μ-loop
+offers-requires c κs =
+    let j = c .before .before in
+    let e = turn j in
+    let d = e .before in
+    let b = start e in
+    let p = rest-room (rig b noRig) (b .args .t1) (b .args .queue) (whole d) (d .loop .q) (d .loop .k) (d .loop .inv noRig) (d .loop .q .n - 1) (low (d .loop .q .n) (e .loop-test .taken)) in
+    (b .pre .fits .lines .few, served-room (whole d) (popped e) (rig b noRig) (flag e) (value e) (driven j) (j .before .before .before .before .drive .ensures) (woken j) (awoken j) p)
+
+add-k : tie.Need-add-k Inv-loop μ-loop
+add-k c = omega (arith, c .before .before .before .before .before .before .before .before .before .before .before .before .loop .inv noRig .room)
+
+loop-less : tie.Need-loop-less Inv-loop μ-loop
+loop-less c =
+    let e = turn (joined c) in
+    let d = e .before in
+    let b = start e in
+    turned-falls (rig b noRig) (b .args .t1) (b .args .queue) (whole d) (d .loop .q) (d .loop .k) (d .loop .inv noRig) (d .loop .q .n - 1) (low (d .loop .q .n) (e .loop-test .taken)) (b .pre .fits .flags) (served c) (served-so c noRig)
+
+loop-again : tie.Need-loop-again Inv-loop μ-loop
+loop-again c =
+    let e = turn (joined c) in
+    let d = e .before in
+    let b = start e in
+    λ g.
+    turned-step (rig b g) (b .args .t1) (b .args .queue) (whole d) (d .loop .q) (d .loop .k) (d .loop .inv g) (d .loop .q .n - 1) (low (d .loop .q .n) (e .loop-test .taken)) (b .pre .fits .flags) (served c) (served-so c g)
+
+returns : tie.Need-returns Inv-loop μ-loop
+returns c =
+    let d = c .before in
+    let b = c .before .before .before in
+    λ g. turned-done (rig b g) (b .args .t1) (b .args .queue) (whole d) (d .loop .q) (d .loop .k) (d .loop .inv g) (omega (arith, c .loop-test .left))
+
+pub serve-spec : {M : Type 1} → statement M
+serve-spec =
+    tie.close
+    (tie.spec
+    Inv-loop
+    μ-loop
+    loop-holds
+    sub-j
+    element-copy-out-f
+    element-copy-out-v
+    cast-st
+    element-write-st
+    drive-requires
+    cast-c
+    mul-c
+    add-c
+    cast-c-2
+    add-c-2
+    waited-requires
+    wake-requires
+    offers-requires
+    add-k
+    loop-less
+    loop-again
+    returns)

@@ -1,0 +1,4 @@
+pub mod View
+pub mod Set
+pub mod Post
+pub mod Laws

@@ -1,0 +1,50 @@
+-- What serving asks, and what it gives, with whatever cycles stand beside the rig.
+use mathlib.Core.Path.{_≡_}
+use mathlib.Core.List.{List, [], _∷_}
+use Prim.Native.Nat.{ℕ, _≤_}
+use Rattle.chains.specs.Held.{at, HoldsChains}
+use Rattle.exec_conditions.specs.Lines.{Lines}
+use Rattle.exec_queue.specs.View.{entriesOf}
+use Rattle.exec_queue.specs.declared.Queue.{Queue}
+use Rattle.rig.specs.declared.Cycle.{Cycle}
+use Rattle.rig.specs.declared.Rig.{Rig}
+use Rattle.rules.specs.State.{Entry}
+use Rattle.rules.specs.Serving.{serveFlag, serve}
+use Rattle.rules_laws.specs.Serve.{load}
+use Rattle.exec_state.specs.View.{rigOf, viewOf, workOf}
+use Rattle.exec_state.specs.Post.{FlagOk}
+use Rattle.exec_state.specs.declared.State.{State}
+use Rattle.exec_state.specs.declared.Work.{Work}
+use Rattle.exec_serving.specs.View.{doneOf}
+use Rattle.exec_serving.specs.declared.Done.{Done}
+
+-- ---- what is asked
+
+-- the numbers in the first n A lines, and of the activation flags, are within the tables
+pub record Fits (n : ℕ) (lineTask linePos activation : List ℕ) : Type 0 where
+  pub lines : Lines n lineTask linePos
+  pub flags : (t : ℕ) → at activation t ≤ 128
+
+-- every entry is of a flag and a value
+abbrev pub Servable : List Entry → Type 0
+Servable [] = Unit {0}
+Servable (e ∷ q) = FlagOk (e .flag) (e .value) × Servable q
+
+pub record Begins (n : ℕ) (lineTask linePos activation : List ℕ) (s : State) (q : Queue) : Type 0 where
+  pub fits : Fits n lineTask linePos activation
+  pub room : load (workOf s q) ≤ 79
+  pub sound : HoldsChains (s .links)
+  pub entries : Servable (entriesOf q)
+
+-- ---- what is given
+
+pub record Served (s : State) (q : Queue) (g : Rig) (f v : ℕ) (r : Work) : Type 0 where
+  pub is :
+      (cycles : List Cycle) → workOf (r .st) (r .queue) ≡ serveFlag (rigOf g cycles) (record { flag = f; value = v }) (viewOf s) (entriesOf q)
+  pub sound : HoldsChains (r .st .links)
+
+-- the queue is served to its end
+pub record Emptied (g : Rig) (s : State) (q : Queue) (r : Done) : Type 0 where
+  pub is : (cycles : List Cycle) → doneOf r ≡ serve (rigOf g cycles) (workOf s q)
+  pub sound : HoldsChains (r .st .links)
+  pub few : r .served ≤ 79

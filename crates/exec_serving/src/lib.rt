@@ -1,0 +1,79 @@
+// What is queued is served to its end.
+use exec_queue::Queue;
+use exec_state::FLAG_CHAINS;
+use exec_state::State;
+use rig::Rig;
+ghost use mathlib.Core.Path.{_≡_};
+ghost use mathlib.Core.Bool.{not};
+ghost use Prim.Native.Nat.{_<_};
+ghost use lib.Dec.{eqb};
+ghost use lib.ListN.{getD};
+ghost use Rattle.exec_offers.specs.Set.{withTables};
+ghost use Rattle.exec_serving.specs.Post.{Begins, Emptied};
+ghost use Rattle.exec_serving.specs.Set.{withPlaces};
+
+// A state and how many flags were served on the way to it.
+pub struct Done {
+    pub st: State,
+    pub served: u32,
+}
+
+// Whether somebody waits in the chain of anchor c.
+fn waited(next: &[u16; 322], c: usize) -> bool
+    requires { ⌜ c < 322 ⌝ }
+    ensures { λ r. ⌜ r ≡ not (eqb (getD (now (next .entry)) c 0) c) ⌝ }
+{
+    next[c] != c as u16
+}
+
+// The last queued is taken off and served, until the queue is empty. The states are a local: two fields of one struct cannot
+// be lent at once, and a call by value would copy the state for each flag. The links are copied only where somebody waits.
+// The rig's tables are lent: the rig by value would be copied twice.
+pub fn serve<'a>(
+    mut st: State,
+    queue: Queue,
+    n: usize,
+    present: &'a [u8; 1040],
+    latched: &'a [u8; 1040],
+    desired: &'a [u8; 1040],
+    lineTask: &'a [u8; 1024],
+    linePos: &'a [u8; 1024],
+    lineFlag: &'a [u8; 1024],
+    activation: &'a [u8; 65],
+) -> Done
+    requires { ⌜ Begins n (now lineTask) (now linePos) (now activation) st queue ⌝ }
+    ensures { λ r. ⌜ ((g : Rig) → Emptied (withTables (now (present .entry)) (now (latched .entry)) (now (desired .entry)) (now (lineTask .entry)) (now (lineFlag .entry)) (now (activation .entry)) n (withPlaces (now (linePos .entry)) g)) st queue r) ⌝ }
+{
+    let mut state = st.state;
+    let mut q = queue;
+    let mut k: u32 = 0;
+    while q.n != 0 {
+        let j = q.n - 1;
+        let f = q.flag[j];
+        let v = q.value[j];
+        q.n = j;
+        st.value[f as usize] = v;
+        exec_conditions::drive(lineTask, linePos, lineFlag, n, f, v, &mut st.cond);
+        let c = FLAG_CHAINS + 2 * (f as usize) + (v as usize);
+        if waited(&st.links.next, c) {
+            let links = exec_waking::wake(st.links, &mut state, c);
+            st.links = links;
+        }
+        q = exec_offers::offers(
+            present,
+            latched,
+            desired,
+            lineTask,
+            lineFlag,
+            activation,
+            n,
+            f,
+            &mut st.cond,
+            &mut state,
+            q,
+        );
+        k = k + 1;
+    }
+    st.state = state;
+    Done { st: st, served: k }
+}

@@ -1,0 +1,66 @@
+// Who waits becomes dispatchable: those in a flag's chain when it is served, and those due at the tick's count.
+use chains::Links;
+use exec_queue::Queue;
+use exec_state::DISPATCHABLE;
+use exec_state::State;
+use exec_state::TIME_CHAIN;
+use exec_state::Work;
+use rig::Cycle;
+ghost use Prim.Native.Nat.{_<_};
+ghost use Rattle.chains.specs.Held.{HoldsChains};
+ghost use Rattle.exec_waking.specs.Post.{Timed, TickOk, Awoken, WokenDue, Ticked};
+
+// "64 minor cycles a major frame"
+const CYCLES: u32 = 64;
+
+// All who wait in the chain of anchor s become dispatchable.
+pub fn wake(links: Links, state: &mut [u8; 65], s: usize) -> Links
+    requires { ⌜ HoldsChains links ⌝ }
+    requires { ⌜ (64 < s) × (s < 322) ⌝ }
+    ensures { λ r. ⌜ Awoken links (now (state .entry)) s r (now (state .exit)) ⌝ }
+{
+    let mut k = links;
+    let mut v = k.next[s] as usize;
+    while v != s {
+        k = chains::unlink(k, v);
+        state[v] = DISPATCHABLE;
+        v = k.next[s] as usize;
+    }
+    k
+}
+
+// The tasks due at the count become dispatchable: they leave the time chain from its front.
+pub fn wake_due(mut st: State) -> State
+    requires { ⌜ HoldsChains (st .links) ⌝ }
+    requires { ⌜ Timed st ⌝ }
+    ensures { λ r. ⌜ WokenDue st r ⌝ }
+{
+    let count = st.count;
+    let mut k = st.links;
+    let mut v = k.next[TIME_CHAIN] as usize;
+    while v != TIME_CHAIN {
+        if count < st.wake[v] {
+            break;
+        }
+        k = chains::unlink(k, v);
+        st.state[v] = DISPATCHABLE;
+        v = k.next[TIME_CHAIN] as usize;
+    }
+    st.links = k;
+    st
+}
+
+// The count rises by one, the tasks due at it become dispatchable, and the cycle's list is queued.
+pub fn ticked(mut st: State, cycles: [Cycle; 64]) -> Work
+    requires { ⌜ HoldsChains (st .links) ⌝ }
+    requires { ⌜ TickOk st ⌝ }
+    ensures { λ r. ⌜ Ticked st cycles r ⌝ }
+{
+    let count = st.count + 1;
+    st.count = count;
+    let i = (count % CYCLES) as usize;
+    let cycle = cycles[i];
+    let q = Queue::of_cycle(cycle);
+    let s = wake_due(st);
+    Work { st: s, queue: q }
+}
