@@ -1,2 +1,3 @@
+pub mod Anchors
 pub mod Post
 pub mod Laws

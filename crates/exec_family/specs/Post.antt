@@ -8,6 +8,7 @@ use Rattle.chains.specs.Read.{chainsOf}
 use Rattle.chains.specs.declared.Links.{Links}
 use Rattle.rules.specs.Waiting.{leave}
 use Rattle.rules.specs.Family.{deserted}
+use Rattle.exec_family.specs.Anchors.{byName}
 
 -- controllers are tasks, or 0
 abbrev pub Controllers : List ℕ → Type 0
@@ -15,10 +16,10 @@ Controllers controller = (t : ℕ) → getD controller t 0 ≤ 64
 
 -- task t has left its chain
 pub record Left (l : Links) (t : ℕ) (r : Links) : Type 0 where
-  pub is : chainsOf r ≡ leave t (chainsOf l)
+  pub is : byName (chainsOf r) ≡ leave t (byName (chainsOf l))
   pub sound : HoldsChains r
 
 -- the marked tasks have left their chains
 pub record Deserted (l : Links) (marks : List ℕ) (r : Links) : Type 0 where
-  pub is : chainsOf r ≡ deserted marks (chainsOf l)
+  pub is : byName (chainsOf r) ≡ deserted marks (byName (chainsOf l))
   pub sound : HoldsChains r

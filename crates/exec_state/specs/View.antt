@@ -3,6 +3,7 @@ use mathlib.Core.List.{List}
 use Rattle.chains.specs.Held.{at}
 use Rattle.chains.specs.Read.{chainsOf}
 use Rattle.compool.specs.View.{rowsOf}
+use Rattle.exec_family.specs.Anchors.{byName}
 use Rattle.rig.specs.declared.Cycle.{Cycle}
 use Rattle.rig.specs.declared.Rig.{Rig}
 use Rattle.rules.specs.Rig as G
@@ -43,7 +44,7 @@ viewOf s =
       conds = s .cond;
       states = s .state;
       wakes = s .wake;
-      chains = chainsOf (s .links);
+      chains = byName (chainsOf (s .links));
       running = s .running;
     }
 

@@ -7,9 +7,10 @@ use Rattle.laws.specs.Order.{Sorted}
 use Rattle.chains.specs.Held.{at, HoldsChains}
 use Rattle.chains.specs.Read.{chainsOf}
 use Rattle.chains.specs.declared.Links.{Links}
+use Rattle.exec_family.specs.Anchors.{anchorOf, byName}
 use Rattle.rig.specs.declared.Cycle.{Cycle}
 use Rattle.rig.specs.declared.Rig.{Rig}
-use Rattle.rules.specs.State.{timeChain}
+use Rattle.rules.specs.State.{Chain, timeChain}
 use Rattle.rules.specs.Serving.{wake}
 use Rattle.rules.specs.Waiting.{wakeDue}
 use Rattle.rules.specs.Calls.{ticked}
@@ -22,24 +23,24 @@ use Rattle.exec_state.specs.declared.Work.{Work}
 
 -- the time chain is in order, and nobody in it should have been woken before the count
 pub record Timed (s : State) : Type 0 where
-  pub ordered : Sorted (at (s .wake)) (chainsOf (s .links) timeChain)
-  pub due : (t : ℕ) → In t (chainsOf (s .links) timeChain) → s .count ≤ at (s .wake) t
+  pub ordered : Sorted (at (s .wake)) (byName (chainsOf (s .links)) timeChain)
+  pub due : (t : ℕ) → In t (byName (chainsOf (s .links)) timeChain) → s .count ≤ at (s .wake) t
 
 -- the time chain is in order, all above the count, and there is a next count
 pub record TickOk (s : State) : Type 0 where
-  pub ordered : Sorted (at (s .wake)) (chainsOf (s .links) timeChain)
-  pub ahead : (t : ℕ) → In t (chainsOf (s .links) timeChain) → s .count < at (s .wake) t
+  pub ordered : Sorted (at (s .wake)) (byName (chainsOf (s .links)) timeChain)
+  pub ahead : (t : ℕ) → In t (byName (chainsOf (s .links)) timeChain) → s .count < at (s .wake) t
   pub range : s .count < 2147483647
 
 -- ---- what is given
 
-pub record Woken (s : State) (c : ℕ) (r : State) : Type 0 where
+pub record Woken (s : State) (c : Chain) (r : State) : Type 0 where
   pub is : viewOf r ≡ wake c (viewOf s)
   pub sound : HoldsChains (r .links)
 
--- the same of the links and the states alone, with whatever stands beside them
+-- the same of the links and the states alone, with whatever stands beside them, for the chain of anchor a
 abbrev pub Awoken : Links → List ℕ → ℕ → Links → List ℕ → Type 0
-Awoken l states c r after = (s : State) → Woken (putLinks (putState s states) l) c (putLinks (putState s after) r)
+Awoken l states a r after = (s : State) (c : Chain) → anchorOf c ≡ a → Woken (putLinks (putState s states) l) c (putLinks (putState s after) r)
 
 pub record WokenDue (s : State) (r : State) : Type 0 where
   pub is : viewOf r ≡ wakeDue (viewOf s)

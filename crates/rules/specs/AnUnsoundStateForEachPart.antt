@@ -1,21 +1,19 @@
 -- AN UNSOUND STATE FOR EACH PART of the paper's list: a state to which calls led, with one thing changed, is not sound. One
 -- statement. (The states are computed by the rules; that they are sound before the change is theorem always, crate rules_laws.)
-use mathlib.Core.Path.{_≡_, refl}
+use mathlib.Core.Path.{_≡_, refl, ap}
 use mathlib.Core.Logic.{inl, inr}
-use mathlib.Core.Bool.{Bool, true, false, cond}
+use mathlib.Core.Bool.{Bool, true, false, cond, true≢false}
 use mathlib.Core.List.{List, [], _∷_}
 use Prim.Native.Nat.{ℕ, _≤_, _<_}
 use native.Mathlib.Omega.{arith}
-use lib.Dec.{eqb}
 use lib.ListN.{set}
 use Rattle.laws.specs.Members.{In}
 use Rattle.laws.specs.Iter.{iter}
 use Rattle.laws.specs.All.{all}
 use Rattle.laws.specs.Any.{any}
 use Rattle.laws.specs.Tables.{total, over}
-use Rattle.laws.specs.Functions.{upd}
 use Rattle.rules.specs.Rig.{Rig, placeOf}
-use Rattle.rules.specs.State.{State, withCount, withValues, withTables, withChains, withWakes, withRunning, timeChain, chainOf, blank}
+use Rattle.rules.specs.State.{Chain, timeChain, chainOf, sameChain, withChain, State, withCount, withValues, withTables, withChains, withWakes, withRunning, blank}
 use Rattle.rules.specs.Conditions.{relax, met, drive, names}
 use Rattle.rules.specs.Serving.{activate, takes, rouse, wake, ready, offer, offers, serveFlag, serving, serve}
 use Rattle.rules.specs.Waiting.{waitUntilCount}
@@ -50,8 +48,12 @@ conditionTo i v = withValues calm (calm .flags) (set (calm .conds) i v)
 unfoldable pub wakeTo : ℕ → ℕ → State
 wakeTo t c = withWakes calm (set (calm .wakes) t c)
 
-unfoldable pub chainTo : ℕ → List ℕ → State
-chainTo c l = withChains calm (calm .states) (upd (calm .chains) c l)
+unfoldable pub chainTo : Chain → List ℕ → State
+chainTo c l = withChains calm (calm .states) (withChain (calm .chains) c l)
+
+-- 3 has gone over from the time chain to chain c
+unfoldable pub threeIn : Chain → State
+threeIn c = withChains calm (calm .states) (withChain (withChain (calm .chains) timeChain (2 ∷ [])) c (3 ∷ []))
 
 -- nobody is in a chain that is empty either way
 nobody : (t : ℕ) (b : Bool) → In t (cond b [] []) → ⊥
@@ -69,12 +71,14 @@ pub each-part-counts :
     -- "each invoked task but task 1 has an invoked controller"
     × Unsound (withTables (start four) (start four .conds) (set (start four .states) 3 1))
     -- "waiting tasks and links agree": 4 waits in no chain; 1, who runs, is in one; 3 is in two; 3 is twice in one; 3 is in the
-    -- chain of no flag
+    -- chain of no flag, or of no value
     × Unsound (withTables (start four) (start four .conds) (set (start four .states) 4 2))
     × Unsound (chainTo timeChain (3 ∷ 2 ∷ 1 ∷ []))
     × Unsound (chainTo (chainOf 1 0) (3 ∷ []))
     × Unsound (chainTo timeChain (3 ∷ 3 ∷ 2 ∷ []))
-    × Unsound (withChains calm (calm .states) (upd (upd (calm .chains) timeChain (2 ∷ [])) (chainOf 129 0) (3 ∷ [])))
+    × Unsound (threeIn (chainOf 129 0))
+    × Unsound (threeIn (chainOf 0 1))
+    × Unsound (threeIn (chainOf 1 2))
     -- "time chain in order of waking count, all above the count"
     × Unsound (chainTo timeChain (2 ∷ 3 ∷ []))
     × Unsound (withCount calm 5)
@@ -92,16 +96,18 @@ pub each-part-counts :
     × Unsound (flagTo 5 1)
     × Unsound (wakeTo 5 9)
     × Unsound (conditionTo (placeOf 4 1) 1)
-unfolding four calm stateTo flagTo conditionTo wakeTo chainTo ofTask ofCondition numbers ofLine ofCycle rig iter all any total over blank relax met drive names activate takes rouse wake ready offer offers serveFlag serving serve waitUntilCount best chosen dispatch scheduled effect decide noSuch lastCount refusals refusal output accepted after step run started start
+unfolding four calm stateTo flagTo conditionTo wakeTo chainTo threeIn ofTask ofCondition numbers ofLine ofCycle rig iter all any total over blank relax met drive names activate takes rouse wake ready offer offers serveFlag serving serve waitUntilCount best chosen dispatch scheduled effect decide noSuch lastCount refusals refusal output accepted after step run started start
 each-part-counts = (
   (λ h. let z : 4 ≤ 3 = h .tasks .small 4 in omega arith),
   (λ h. let z : 2147483648 ≤ 2147483647 = h .range in omega arith),
   (λ h. h .tasks .tree 3 (λ q. omega arith) (λ q. omega arith) refl),
-  (λ h. let w = h .chains .listed .there 4 refl in nobody 4 (eqb (w .0) (chainOf 2 1)) (w .1)),
+  (λ h. let w = h .chains .listed .there 4 refl in nobody 4 (sameChain (w .0) (chainOf 2 1)) (w .1)),
   (λ h. let z : _≡_ {A = ℕ} 3 2 = h .chains .listed .two 1 (timeChain, inr (inr (inl refl))) in omega arith),
-  (λ h. let z : timeChain ≡ chainOf 1 0 = h .chains .apart 3 timeChain (chainOf 1 0) (inl refl) (inl refl) in omega arith),
+  (λ h. true≢false (ap (sameChain timeChain) (h .chains .apart 3 timeChain (chainOf 1 0) (inl refl) (inl refl)))),
   (λ h. h .chains .once timeChain .0 (inl refl)),
-  (λ h. let z : (65 ≤ 322) × (322 ≤ 321) = h .chains .only 3 (chainOf 129 0) (inl refl) in omega (arith, z .1)),
+  (λ h. let z : (1 ≤ 129) × (129 ≤ 128) × (0 ≤ 1) = h .chains .only 3 (chainOf 129 0) (inl refl) in omega (arith, z .1)),
+  (λ h. let z : (1 ≤ 0) × (0 ≤ 128) × (1 ≤ 1) = h .chains .only 3 (chainOf 0 1) (inl refl) in omega (arith, z .0)),
+  (λ h. let z : (1 ≤ 1) × (1 ≤ 128) × (2 ≤ 1) = h .chains .only 3 (chainOf 1 2) (inl refl) in omega (arith, z .2)),
   (λ h. let z : 7 ≤ 5 = h .chains .ordered .0 3 (inl refl) in omega arith),
   (λ h. let z : 5 < 5 = h .chains .ahead 3 (inl refl) in omega arith),
   (λ h. let z : _≡_ {A = ℕ} 0 1 = h .agree 2 (λ q. omega arith) in omega arith),

@@ -6,7 +6,7 @@ use lib.Dec.{eqb}
 use lib.ListN.{getD, set, replicate}
 use Rattle.laws.specs.Iter.{iter}
 use Rattle.rules.specs.Sizes.{mostTasks, taskPlaces}
-use Rattle.rules.specs.State.{Entry, active, off, uninvoked}
+use Rattle.rules.specs.State.{Chain, Entry, active, off, uninvoked}
 use Rattle.rules.specs.Serving.{push}
 use Rattle.rules.specs.Waiting.{leave}
 
@@ -35,10 +35,10 @@ unfoldable pub cleared : List ℕ → List ℕ → List ℕ
 cleared marks states = iter mostTasks (clearOne marks) states
 
 -- "and leave their chains"
-abbrev pub leaveOne : List ℕ → ℕ → (ℕ → List ℕ) → ℕ → List ℕ
+abbrev pub leaveOne : List ℕ → ℕ → (Chain → List ℕ) → Chain → List ℕ
 leaveOne marks i chains = cond (isMarked marks (i + 1)) (leave (i + 1) chains) chains
 
-unfoldable pub deserted : List ℕ → (ℕ → List ℕ) → ℕ → List ℕ
+unfoldable pub deserted : List ℕ → (Chain → List ℕ) → Chain → List ℕ
 deserted marks chains = iter mostTasks (leaveOne marks) chains
 
 -- "then activation flags of those that were active are queued off, by rising task number": by the states before

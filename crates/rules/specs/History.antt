@@ -1,7 +1,7 @@
 -- THE HISTORY OF WAITS: of each task, when its last wait began, where, and for which count. It is read off the calls of a
 -- run, and names no chain's order: demand 3 asks the order of the chains against it.
 use mathlib.Core.Path.{_≡_}
-use mathlib.Core.Logic.{_⊎_, _≢_, _↔_}
+use mathlib.Core.Logic.{_⊎_, _↔_}
 use mathlib.Core.Bool.{cond}
 use mathlib.Core.List.{List, [], _∷_}
 use Prim.Native.Nat.{ℕ, zero, suc, _+_, _<_}
@@ -10,7 +10,7 @@ use Rattle.laws.specs.Functions.{upd}
 use Rattle.laws.specs.Members.{In}
 use Rattle.laws.specs.Ordered.{Ordered}
 use Rattle.rules.specs.Rig.{Rig}
-use Rattle.rules.specs.State.{State, stateOf, valueOf, wakeOf, waiting, timeChain, chainOf}
+use Rattle.rules.specs.State.{Chain, timeChain, chainOf, State, stateOf, valueOf, wakeOf, waiting}
 use Rattle.rules.specs.Calls.{Call, schedule, cancel, terminate, finish, tick, waitUntil, waitFor, latched, unlatched, signal, readFlag, readBlock, writeBlock, refusal, step, start}
 
 -- call: the number of the call, in the run, with which the wait began
@@ -18,7 +18,7 @@ use Rattle.rules.specs.Calls.{Call, schedule, cancel, terminate, finish,
 -- count: the count waited for; 0 for a flag
 pub record Wait : Type 0 where
   pub call : ℕ
-  pub chain : ℕ
+  pub chain : Chain
   pub count : ℕ
 
 -- the last wait of each task, by its number
@@ -64,9 +64,9 @@ unfoldable pub history : Rig → State → ℕ → List Call → History → His
 history r s n [] h = h
 history r s n (k ∷ ks) h = history r (step r s k .next) (suc n) ks (notedIf n (refusal r s k) s k h)
 
--- of a run from the start, whose calls are numbered from 1; at first nobody has waited
+-- of a run from the start, whose calls are numbered from 1; at first nobody has waited, and flag 0 is none
 unfoldable pub never : History
-never t = record { call = 0; chain = 0; count = 0 }
+never t = record { call = 0; chain = chainOf 0 0; count = 0 }
 
 unfoldable pub historyOf : Rig → List Call → History
 historyOf r ks = history r (start r) 1 ks never
@@ -84,9 +84,9 @@ Sooner h a b = (h a .count < h b .count) ⊎ ((h a .count ≡ h b .count) × Ear
 -- WHAT THE CHAINS ARE, by the history
 pub record InOrder (h : History) (s : State) : Type 0 where
   -- each chain lists exactly those who wait and whose wait began there
-  pub lists : (t c : ℕ) → In t (s .chains c) ↔ ((stateOf s t ≡ waiting) × (h t .chain ≡ c))
+  pub lists : (t : ℕ) (c : Chain) → In t (s .chains c) ↔ ((stateOf s t ≡ waiting) × (h t .chain ≡ c))
   -- "Time chain order: waking count, then who began to wait earlier."
   pub time : Ordered (Sooner h) (s .chains timeChain)
   pub counts : (t : ℕ) → In t (s .chains timeChain) → wakeOf s t ≡ h t .count
   -- "Each flag has a chain for on and one for off, in order of beginning."
-  pub flags : (c : ℕ) → c ≢ timeChain → Ordered (Earlier h) (s .chains c)
+  pub flags : (f v : ℕ) → Ordered (Earlier h) (s .chains (chainOf f v))

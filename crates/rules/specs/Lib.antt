@@ -18,3 +18,4 @@ pub mod Proper
 pub mod History
 pub mod Waking
 pub mod Reasons
+pub mod Laws

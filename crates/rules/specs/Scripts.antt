@@ -5,7 +5,7 @@ use Prim.Native.Nat.{ℕ}
 use lib.Dec.{eqb}
 use lib.ListN.{length, getD, replicate, take}
 use Rattle.rules.specs.Rig.{Rig, Row, placeOf}
-use Rattle.rules.specs.State.{State, withCount, chainOf, timeChain, stateOf, valueOf}
+use Rattle.rules.specs.State.{timeChain, chainOf, State, withCount, stateOf, valueOf}
 use Rattle.rules.specs.Calls.{Call, schedule, finish, tick, waitFor, Step, step, start}
 
 -- ---- a rig, as its file says it

@@ -6,10 +6,9 @@ use lib.Dec.{eqb}
 use lib.ListN.{length, set}
 use Rattle.laws.specs.Iter.{iter}
 use Rattle.laws.specs.Tables.{over}
-use Rattle.laws.specs.Functions.{upd}
 use Rattle.rules.specs.Sizes.{mostTasks}
 use Rattle.rules.specs.Rig.{Rig}
-use Rattle.rules.specs.State.{State, Entry, Work, Done, stateOf, withValues, withTables, withChains, chainOf, inactive, dispatchable, on}
+use Rattle.rules.specs.State.{Chain, chainOf, withChain, State, Entry, Work, Done, stateOf, withValues, withTables, withChains, inactive, dispatchable, on}
 use Rattle.rules.specs.Conditions.{relax, met, drive, names}
 
 -- "queued"; activation flag 0 is none, and queues nothing
@@ -40,8 +39,8 @@ unfoldable pub rouse : List ℕ → List ℕ → List ℕ
 rouse [] states = states
 rouse (t ∷ ts) states = rouse ts (set states t dispatchable)
 
-unfoldable pub wake : ℕ → State → State
-wake c s = withChains s (rouse (s .chains c) (s .states)) (upd (s .chains) c [])
+unfoldable pub wake : Chain → State → State
+wake c s = withChains s (rouse (s .chains c) (s .states)) (withChain (s .chains) c [])
 
 -- "then, by rising number, each inactive task with that flag in a condition and all conditions as desired is activated"
 unfoldable pub ready : Rig → ℕ → ℕ → State → Bool

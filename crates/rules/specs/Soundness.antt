@@ -11,9 +11,9 @@ use Prim.Native.Nat.{ℕ, _≤_, _<_}
 use lib.ListN.{length, getD}
 use Rattle.laws.specs.Members.{In, Distinct}
 use Rattle.laws.specs.Order.{Sorted}
-use Rattle.rules.specs.Sizes.{taskPlaces, flagPlaces, conditionPlaces}
+use Rattle.rules.specs.Sizes.{mostFlags, taskPlaces, flagPlaces, conditionPlaces}
 use Rattle.rules.specs.Rig.{Rig}
-use Rattle.rules.specs.State.{State, stateOf, valueOf, active, uninvoked, waiting, dispatchable, on, timeChain, lastChain}
+use Rattle.rules.specs.State.{Chain, timeChain, chainOf, State, stateOf, valueOf, active, uninvoked, waiting, dispatchable, on}
 use Rattle.rules.specs.Running.{rank}
 use Rattle.rules.specs.Calls.{lastCount}
 
@@ -56,27 +56,32 @@ pub record WakingCounts (r : Rig) (l : List ℕ) : Type 0 where
 -- ---- the chains: "waiting tasks and links agree as demand 3 says", each chain lists exactly who waits there, once
 
 -- a task that is in a chain
-abbrev pub Somewhere : ℕ → (ℕ → List ℕ) → Type 0
-Somewhere t chains = (c : ℕ) × In t (chains c)
+abbrev pub Somewhere : ℕ → (Chain → List ℕ) → Type 0
+Somewhere t chains = (c : Chain) × In t (chains c)
 
 -- a task waits exactly when it is in a chain
-pub record Listed (chains : ℕ → List ℕ) (l : List ℕ) : Type 0 where
+pub record Listed (chains : Chain → List ℕ) (l : List ℕ) : Type 0 where
   pub there : (t : ℕ) → getD l t 0 ≡ waiting → Somewhere t chains
   pub two : (t : ℕ) → Somewhere t chains → getD l t 0 ≡ waiting
 
 -- no task is in two chains
-abbrev pub Apart : (ℕ → List ℕ) → Type 0
-Apart chains = (t c d : ℕ) → In t (chains c) → In t (chains d) → c ≡ d
+abbrev pub Apart : (Chain → List ℕ) → Type 0
+Apart chains = (t : ℕ) (c d : Chain) → In t (chains c) → In t (chains d) → c ≡ d
 
 -- nor twice in one
-abbrev pub Once : (ℕ → List ℕ) → Type 0
-Once chains = (c : ℕ) → Distinct (chains c)
+abbrev pub Once : (Chain → List ℕ) → Type 0
+Once chains = (c : Chain) → Distinct (chains c)
 
--- nobody is anywhere but in the time chain and the chains of flags 1 to 128, whose numbers follow it
-abbrev pub Only : (ℕ → List ℕ) → Type 0
-Only chains = (t c : ℕ) → In t (chains c) → (timeChain ≤ c) × (c ≤ lastChain)
+-- the time chain, and the chains of flags 1 to 128 for on and for off
+abbrev pub IsChain : Chain → Type 0
+IsChain timeChain = Unit {0}
+IsChain (chainOf f v) = (1 ≤ f) × (f ≤ mostFlags) × (v ≤ on)
 
-pub record Chains (count : ℕ) (wakes : List ℕ) (chains : ℕ → List ℕ) (l : List ℕ) : Type 0 where
+-- nobody is anywhere else
+abbrev pub Only : (Chain → List ℕ) → Type 0
+Only chains = (t : ℕ) (c : Chain) → In t (chains c) → IsChain c
+
+pub record Chains (count : ℕ) (wakes : List ℕ) (chains : Chain → List ℕ) (l : List ℕ) : Type 0 where
   pub listed : Listed chains l
   pub apart : Apart chains
   pub once : Once chains

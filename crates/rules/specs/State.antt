@@ -1,10 +1,12 @@
 -- THE STATE of the executive of one processor, as plain data.
 -- Tables are lists read by number: place 0 is not used, so that task t stands at place t and flag f at place f.
 -- A number out of range reads as 0, which is "uninvoked" and "off".
+use mathlib.Core.Bool.{Bool, true, false, cond, _&&_}
 use mathlib.Core.List.{List, []}
-use Prim.Native.Nat.{ℕ, zero, suc, _+_, _*_}
+use Prim.Native.Nat.{ℕ, zero, suc}
+use lib.Dec.{eqb}
 use lib.ListN.{getD, replicate}
-use Rattle.rules.specs.Sizes.{mostTasks, mostFlags, taskPlaces, flagPlaces, conditionPlaces}
+use Rattle.rules.specs.Sizes.{taskPlaces, flagPlaces, conditionPlaces}
 
 -- "States: 0 uninvoked, 1 inactive, 2 waiting, 3 dispatchable."
 abbrev pub uninvoked : ℕ
@@ -32,22 +34,25 @@ off = 0
 abbrev pub on : ℕ
 on = 1
 
--- "Time chain order: .. Each flag has a chain for on and one for off": the chains have numbers behind those of the tasks,
--- so that a number in a link is either a task or a chain's end.
-abbrev pub timeChain : ℕ
-timeChain = 65
+-- "Time chain order: .. Each flag has a chain for on and one for off": the chain of a flag and the value that is waited for
+pub data Chain : Type 0 where
+  timeChain : Chain
+  chainOf : ℕ → ℕ → Chain
 
-abbrev pub chainOf : ℕ → ℕ → ℕ
-chainOf flag value = mostTasks + 2 * flag + value
+abbrev pub sameChain : Chain → Chain → Bool
+sameChain timeChain timeChain = true
+sameChain timeChain (chainOf f v) = false
+sameChain (chainOf f v) timeChain = false
+sameChain (chainOf f v) (chainOf g w) = eqb f g && eqb v w
 
--- of the last flag, on
-abbrev pub lastChain : ℕ
-lastChain = chainOf mostFlags on
+-- the chains, with l for chain c
+abbrev pub withChain : (Chain → List ℕ) → Chain → List ℕ → Chain → List ℕ
+withChain chains c l d = cond (sameChain d c) l (chains d)
 
 -- count: minor cycles since the start
 -- flags: the value of each flag; conds: the value of each condition, by its place
 -- states: the state of each task; wakes: the waking count of a task that waits for one
--- chains: who waits, by the chain's number, in the order in which a chain is read forward
+-- chains: who waits, by the chain, in the order in which a chain is read forward
 -- running: the running task, 0 for none
 pub record State : Type 0 where
   pub count : ℕ
@@ -55,7 +60,7 @@ pub record State : Type 0 where
   pub conds : List ℕ
   pub states : List ℕ
   pub wakes : List ℕ
-  pub chains : ℕ → List ℕ
+  pub chains : Chain → List ℕ
   pub running : ℕ
 
 abbrev pub stateOf : State → ℕ → ℕ
@@ -96,7 +101,7 @@ abbrev pub withTables : State → List ℕ → List ℕ → State
 withTables s c l =
     record { count = s .count; flags = s .flags; conds = c; states = l; wakes = s .wakes; chains = s .chains; running = s .running }
 
-abbrev pub withChains : State → List ℕ → (ℕ → List ℕ) → State
+abbrev pub withChains : State → List ℕ → (Chain → List ℕ) → State
 withChains s l x =
     record { count = s .count; flags = s .flags; conds = s .conds; states = l; wakes = s .wakes; chains = x; running = s .running }
 
@@ -117,6 +122,6 @@ blank =
       conds = replicate conditionPlaces 0;
       states = replicate taskPlaces 0;
       wakes = replicate taskPlaces 0;
-      chains = λ (c : ℕ). [];
+      chains = λ (c : Chain). [];
       running = 0;
     }

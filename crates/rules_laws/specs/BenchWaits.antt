@@ -9,7 +9,7 @@ use Rattle.laws.specs.Any.{any}
 use Rattle.laws.specs.Tables.{total, over}
 use Rattle.laws.specs.Put.{put}
 use Rattle.word_parts.specs.Packed.{commandWord}
-use Rattle.rules.specs.State.{blank}
+use Rattle.rules.specs.State.{timeChain, blank}
 use Rattle.rules.specs.Conditions.{relax, met, drive, names}
 use Rattle.rules.specs.Serving.{activate, takes, rouse, wake, ready, offer, offers, serveFlag, serving, serve}
 use Rattle.rules.specs.Waiting.{waitOn, waitUntilCount, leave, wakeDue}
@@ -28,8 +28,8 @@ use Rattle.rules_laws.specs.BenchRig.{bench-ok}
 before : List Call
 before = schedule 2 ∷ schedule 3 ∷ tick₀ ∷ tick₀ ∷ tick₀ ∷ tick₀ ∷ finish ∷ []
 
--- it is the eighth call, a wait in the time chain (65) for count 6
-morning-history : historyOf bench (before ++ waitFor 2 ∷ []) 3 ≡ record { call = 8; chain = 65; count = 6 }
+-- it is the eighth call, a wait in the time chain for count 6
+morning-history : historyOf bench (before ++ waitFor 2 ∷ []) 3 ≡ record { call = 8; chain = timeChain; count = 6 }
 unfolding before begins noted notedIf history never historyOf bench ofTask ofCondition numbers ofLine ofCycle rig tick₀ iter all any total over put commandWord blank relax met drive names activate takes rouse wake ready offer offers serveFlag serving serve waitOn waitUntilCount leave wakeDue family cleared deserted offs best chosen dispatch written copied rowWords busWords scheduled finished terminated cancelled cycleQueue ticked effect decide noSuch inCycle isMinor isActivation lastCount wrongBlock refusals refusal wordsAt lent output accepted after step run started start
 morning-history = refl
 

@@ -15,7 +15,7 @@ use Rattle.laws.specs.Tables.{total, over}
 use Rattle.laws.specs.Laws.Tables.{over-set, over-store, over-length, over-le, in-range}
 use Rattle.laws.specs.Members.{keep}
 use Rattle.rules.specs.Rig.{Rig}
-use Rattle.rules.specs.State.{State, Work, Done, Entry, active, valueOf, withTables, timeChain, blank}
+use Rattle.rules.specs.State.{Chain, timeChain, State, Work, Done, Entry, active, valueOf, withTables, blank}
 use Rattle.rules.specs.Conditions.{relax, met}
 use Rattle.rules.specs.Serving.{push, isInactive, inactives, activate, serve}
 use Rattle.rules.specs.Waiting.{waitOn, waitUntilCount, wakeDue, isDue}
@@ -177,7 +177,7 @@ start-served r = go (met (r .present) (r .desired) 1 conds)
     w : Work
     w =
         quiet
-        (record { count = 0; flags = replicate 129 0; conds = conds; states = set (replicate 65 0) 1 1; wakes = replicate 65 0; chains = λ (c : ℕ). []; running = 0 })
+        (record { count = 0; flags = replicate 129 0; conds = conds; states = set (replicate 65 0) 1 1; wakes = replicate 65 0; chains = λ (c : Chain). []; running = 0 })
 
     go : (b : Bool) → serve r (cond b (activate r 1 w) w) .served ≤ 1
     go true =

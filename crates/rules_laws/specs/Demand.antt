@@ -13,7 +13,7 @@ use Rattle.laws.specs.Members.{In, Distinct}
 use Rattle.laws.specs.Order.{Sorted}
 use Rattle.rules.specs.Rig.{Rig}
 use Rattle.rules.specs.RigOk.{RigOk}
-use Rattle.rules.specs.State.{State, stateOf, valueOf, wakeOf, active, on, waiting, dispatchable, timeChain}
+use Rattle.rules.specs.State.{Chain, timeChain, State, stateOf, valueOf, wakeOf, active, on, waiting, dispatchable}
 use Rattle.rules.specs.Calls.{Call, step, run, started, start}
 use Rattle.rules.specs.Proper.{ProperRun}
 use Rattle.rules.specs.Soundness.{Sound}
@@ -39,14 +39,14 @@ module _ (r : Rig) (ok : RigOk r) (s : State) (h : Sound r s) where
       ((λ e. a .0 (sym (h .agree t nz) ∙ e)), (λ e. h .agree t nz ∙ a .1 e))
 
   -- a task waits exactly when it is in a chain, and then in one alone
-  pub waits-in-one : (t : ℕ) → (stateOf s t ≡ waiting) ↔ ((c : ℕ) × In t (s .chains c) × ((d : ℕ) → In t (s .chains d) → d ≡ c))
+  pub waits-in-one : (t : ℕ) → (stateOf s t ≡ waiting) ↔ ((c : Chain) × In t (s .chains c) × ((d : Chain) → In t (s .chains d) → d ≡ c))
   waits-in-one t = (
     (λ e. let w = h .chains .listed .there t e in (w .0, w .1, (λ d i. h .chains .apart t d (w .0) i (w .1)))),
     (λ w. h .chains .listed .two t (w .0, w .1)),
   )
 
   -- who waits is a task of the rig
-  pub waits-known : (t c : ℕ) → In t (s .chains c) → (1 ≤ t) × (t ≤ r .tasks)
+  pub waits-known : (t : ℕ) (c : Chain) → In t (s .chains c) → (1 ≤ t) × (t ≤ r .tasks)
   waits-known t c i = h .tasks .within t (λ q. omega (arith, q, h .chains .listed .two t (c, i)))
 
   -- the running task is none or a task of the rig
@@ -80,8 +80,8 @@ module _ (r : Rig) (ok : RigOk r) (s : State) (h : Sound r s) where
 
 pub record Demand (r : Rig) (s : State) : Type 0 where
   pub flags : (t : ℕ) → r .activation t ≢ 0 → (valueOf s (r .activation t) ≡ on) ↔ ((stateOf s t ≡ waiting) ⊎ (stateOf s t ≡ dispatchable))
-  pub listed : (t : ℕ) → (stateOf s t ≡ waiting) ↔ ((c : ℕ) × In t (s .chains c) × ((d : ℕ) → In t (s .chains d) → d ≡ c))
-  pub once : (c : ℕ) → Distinct (s .chains c)
+  pub listed : (t : ℕ) → (stateOf s t ≡ waiting) ↔ ((c : Chain) × In t (s .chains c) × ((d : Chain) → In t (s .chains d) → d ≡ c))
+  pub once : (c : Chain) → Distinct (s .chains c)
   pub ordered : Sorted (λ (t : ℕ). wakeOf s t) (s .chains timeChain)
   pub ahead : (t : ℕ) → In t (s .chains timeChain) → s .count < wakeOf s t
   pub served : (k : Call) → step r s k .answer .report .served ≤ 79

@@ -14,7 +14,7 @@ use Rattle.laws.specs.Members.{In, keep}
 use Rattle.laws.specs.Laws.Members.{in-keep}
 use Rattle.rules.specs.Rig.{Rig}
 use Rattle.rules.specs.RigOk.{RigOk}
-use Rattle.rules.specs.State.{State, Work, Entry, stateOf, active, withTables, timeChain, chainOf}
+use Rattle.rules.specs.State.{Chain, timeChain, State, Work, Entry, stateOf, active, withTables}
 use Rattle.rules.specs.Conditions.{relax, met}
 use Rattle.rules.specs.Serving.{push, activate}
 use Rattle.rules.specs.Waiting.{waitOn, waitUntilCount, isDue, wakeDue}
@@ -117,7 +117,7 @@ module _ (r : Rig) (ok : RigOk r) (s : State) (g : Good r s []) where
 
   -- ---- the waits: the running task goes over to waiting
 
-  wait-ready : stateOf s (s .running) ≡ 3 → (chains : ℕ → List ℕ) (wakes : List ℕ) → WakingCounts r wakes
+  wait-ready : stateOf s (s .running) ≡ 3 → (chains : Chain → List ℕ) (wakes : List ℕ) → WakingCounts r wakes
       → Chains (s .count) wakes chains (set (s .states) (s .running) 2)
       → Ready r (quiet (record { count = s .count; flags = s .flags; conds = s .conds; states = set (s .states) (s .running) 2; wakes = wakes; chains = chains; running = 0 }))
   wait-ready h chains wakes w c =
@@ -136,7 +136,7 @@ module _ (r : Rig) (ok : RigOk r) (s : State) (g : Good r s []) where
   unfolding waitOn
   waitOn-ready f v h a b c =
       wait-ready h _ (s .wakes) (g .wakes)
-      (chains-flag (s .count) (s .wakes) (s .chains) (s .states) (s .running) (g .chains) h (chainOf f v) (omega arith) (omega arith))
+      (chains-flag (s .count) (s .wakes) (s .chains) (s .states) (s .running) (g .chains) h f v (a, b, c))
 
   pub waitUntil-ready : (k : ℕ) → stateOf s (s .running) ≡ 3 → s .count < k → Ready r (quiet (waitUntilCount s k))
   unfolding waitUntilCount

@@ -13,7 +13,7 @@ use Rattle.laws.specs.Laws.Iter.{iter-ind}
 use Rattle.laws.specs.Laws.Tables.{in-range}
 use Rattle.rules.specs.Rig.{Rig}
 use Rattle.rules.specs.RigOk.{RigOk}
-use Rattle.rules.specs.State.{State, Work, Entry, stateOf, active, chainOf}
+use Rattle.rules.specs.State.{Chain, chainOf, State, Work, Entry, stateOf, active}
 use Rattle.rules.specs.Serving.{inactives, activate, ready, offer, offerNext, offers, wake, takes, serveFlag, serving, serve}
 use Rattle.rules.specs.Soundness.{Tasks, Flags, Conds, WakingCounts, Chains, Sound}
 use Rattle.rules_laws.specs.Queued.{Fine, fine-push, look, Agree, Clear, rest, rest-absent}
@@ -23,8 +23,8 @@ use Rattle.rules_laws.specs.TableLaws.{tasks-move, tasks-rouse, flags-se
 use Rattle.rules_laws.specs.WaitingLaws.{chains-wake, chains-set}
 use Rattle.rules_laws.specs.Serve.{load, serveFlag-load}
 
--- THE PRINCIPLE: what taking a value, waking and activating keep, a serving keeps
-module _ (r : Rig) (P : State → Type 0) (tk : (e : Entry) (s : State) → P s → P (takes r e s)) (wk : (c : ℕ) (s : State) → P s → P (wake c s))
+-- THE PRINCIPLE: what taking a value, waking a flag's chain and activating keep, a serving keeps
+module _ (r : Rig) (P : State → Type 0) (tk : (e : Entry) (s : State) → P s → P (takes r e s)) (wk : (f v : ℕ) (s : State) → P s → P (wake (chainOf f v) s))
     (ac : (t : ℕ) (w : Work) → stateOf (w .now) t ≡ 1 → P (w .now) → P (activate r t w .now)) where
   offer-keeps : (f t : ℕ) (w : Work) → P (w .now) → P (offer r f t w .now)
   unfolding offer
@@ -45,7 +45,7 @@ module _ (r : Rig) (P : State → Type 0) (tk : (e : Entry) (s : State) → P s 
   serving-keeps (suc k) s [] h = h
   serving-keeps (suc k) s (e ∷ q) h =
       serving-keeps k (serveFlag r e s q .now) (serveFlag r e s q .queue)
-      (offers-keeps (e .flag) 64 _ (wk (chainOf (e .flag) (e .value)) (takes r e s) (tk e s h)))
+      (offers-keeps (e .flag) 64 _ (wk (e .flag) (e .value) (takes r e s) (tk e s h)))
 
   pub serve-keeps : (w : Work) → P (w .now) → P (serve r w .now)
   unfolding serve
@@ -55,11 +55,11 @@ module _ (r : Rig) (P : State → Type 0) (tk : (e : Entry) (s : State) → P s 
 module _ (r : Rig) (w : Work) where
   pub serve-running : serve r w .now .running ≡ w .now .running
   unfolding takes wake activate
-  serve-running = serve-keeps r (λ s. s .running ≡ w .now .running) (λ e s h. h) (λ c s h. h) (λ t x g h. h) w refl
+  serve-running = serve-keeps r (λ s. s .running ≡ w .now .running) (λ e s h. h) (λ f v s h. h) (λ t x g h. h) w refl
 
   pub serve-count : serve r w .now .count ≡ w .now .count
   unfolding takes wake activate
-  serve-count = serve-keeps r (λ s. s .count ≡ w .now .count) (λ e s h. h) (λ c s h. h) (λ t x g h. h) w refl
+  serve-count = serve-keeps r (λ s. s .count ≡ w .now .count) (λ e s h. h) (λ f v s h. h) (λ t x g h. h) w refl
 
 -- a sound state with q queued, but for the running task and the range of the count
 pub record Good (r : Rig) (s : State) (q : List Entry) : Type 0 where
@@ -130,7 +130,7 @@ module _ (r : Rig) (ok : RigOk r) where
   unfolding offers
   offers-clean f k w c = iter-ind (λ i x. Clean r x) (offerNext r f) w c (λ i x g. offer-clean f (i + 1) x g) k
 
-  pub wake-good : (c : ℕ) (s : State) (q : List Entry) → Good r s q → Good r (wake c s) q
+  pub wake-good : (c : Chain) (s : State) (q : List Entry) → Good r s q → Good r (wake c s) q
   unfolding wake
   wake-good c s q g =
       record {
@@ -145,7 +145,7 @@ module _ (r : Rig) (ok : RigOk r) where
       }
 
   -- waking makes nobody inactive
-  wake-clear : (c : ℕ) (s : State) (q : List Entry) → Clear r (s .states) q → Clear r (wake c s .states) q
+  wake-clear : (c : Chain) (s : State) (q : List Entry) → Clear r (s .states) q → Clear r (wake c s .states) q
   unfolding wake
   wake-clear c s q h t nz e = h t nz (rouse-one t (s .chains c) (s .states) e)
 

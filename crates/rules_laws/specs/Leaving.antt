@@ -15,6 +15,7 @@ use Rattle.laws.specs.Laws.Tables.{set-le}
 use Rattle.laws.specs.Members.{In, without, keep}
 use Rattle.laws.specs.Laws.Members.{keep-same, keep-all, without-keep}
 use Rattle.laws.specs.Laws.Stores.{stores-keep, stores-hit, stores-miss}
+use Rattle.rules.specs.State.{Chain}
 use Rattle.rules.specs.Waiting.{leave}
 use Rattle.rules.specs.Family.{isMarked, cleared, leaveOne, deserted}
 
@@ -43,7 +44,7 @@ module _ (marks l : List ℕ) where
 
 -- ---- the chains after it
 
-module _ (marks : List ℕ) (X : ℕ → List ℕ) (c : ℕ) (own : (u : ℕ) → In u (X c) → (1 ≤ u) × (u ≤ 64)) where
+module _ (marks : List ℕ) (X : Chain → List ℕ) (c : Chain) (own : (u : ℕ) → In u (X c) → (1 ≤ u) × (u ≤ 64)) where
   -- u is not marked, or is not among the first k
   left : ℕ → ℕ → Bool
   left k u = not (isMarked marks u && leb u k)
@@ -72,7 +73,7 @@ module _ (marks : List ℕ) (X : ℕ → List ℕ) (c : ℕ) (own : (u : ℕ) �
       all-in : (u : ℕ) → u ≤ 64 → (isMarked marks u && leb u 64) ≡ isMarked marks u
       all-in u h = rw (le-leb u 64 h) (and-yes (isMarked marks u))
 
-      turn : (k : ℕ) (Y : ℕ → List ℕ) → Y c ≡ keep (left k) (X c) → (x : Bool) → isMarked marks (suc k) ≡ x → (cond x (leave (suc k) Y) Y) c ≡ keep (left (suc k)) (X c)
+      turn : (k : ℕ) (Y : Chain → List ℕ) → Y c ≡ keep (left k) (X c) → (x : Bool) → isMarked marks (suc k) ≡ x → (cond x (leave (suc k) Y) Y) c ≡ keep (left (suc k)) (X c)
       turn k Y e true m =
           ap (without (suc k)) e ∙ without-keep (suc k) (left k) (X c)
           ∙ keep-same (λ (u : ℕ). left k u && not (eqb u (suc k))) (left (suc k)) (X c) (λ u i. sym (left-step k u (own u i .0) true m))

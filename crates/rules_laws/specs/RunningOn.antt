@@ -15,7 +15,7 @@ use Rattle.laws.specs.Laws.Tables.{keeps, in-range}
 use Rattle.laws.specs.Members.{keep}
 use Rattle.rules.specs.Rig.{Rig}
 use Rattle.rules.specs.RigOk.{RigOk}
-use Rattle.rules.specs.State.{State, Work, stateOf, valueOf, withTables, timeChain}
+use Rattle.rules.specs.State.{timeChain, chainOf, State, Work, stateOf, valueOf, withTables}
 use Rattle.rules.specs.Conditions.{relax, met}
 use Rattle.rules.specs.Serving.{activate, takes, wake, serve}
 use Rattle.rules.specs.Waiting.{waitOn, waitUntilCount, wakeDue, isDue}
@@ -59,7 +59,7 @@ caller-unmarked r ok t a b n =
 pub serve-three : (r : Rig) (w : Work) (t : ℕ) → stateOf (w .now) t ≡ 3 → stateOf (serve r w .now) t ≡ 3
 unfolding takes wake activate
 serve-three r w t h =
-    serve-keeps r (λ s. stateOf s t ≡ 3) (λ e s k. k) (λ c s k. rouse-three t (s .chains c) (s .states) k)
+    serve-keeps r (λ s. stateOf s t ≡ 3) (λ e s k. k) (λ f v s k. rouse-three t (s .chains (chainOf f v)) (s .states) k)
     (λ u x g k. keeps (x .now .states) u t 3 k) w h
 
 -- who was running is running still and dispatchable when the queue is served, or is no longer the running task

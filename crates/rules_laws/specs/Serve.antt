@@ -12,7 +12,7 @@ use lib.ListN.{length, getD, set}
 use Rattle.laws.specs.Laws.Iter.{iter-ind}
 use Rattle.laws.specs.Laws.Tables.{over-set, over-store, in-range}
 use Rattle.rules.specs.Rig.{Rig}
-use Rattle.rules.specs.State.{State, Work, Entry, stateOf, chainOf}
+use Rattle.rules.specs.State.{Chain, chainOf, State, Work, Entry, stateOf}
 use Rattle.rules.specs.Serving.{push, isInactive, inactives, activate, offer, offerNext, offers, rouse, wake, takes, serveFlag, another, serving, serve, ready}
 
 -- what is left to do: the entries queued and the tasks that may yet be activated
@@ -50,7 +50,7 @@ unfolding rouse
 rouse-inactives [] l = le-refl _
 rouse-inactives (t ∷ ts) l = le-trans (rouse-inactives ts (set l t 3)) (over-store isInactive l t 3 refl)
 
-pub wake-load : (c : ℕ) (s : State) → inactives (wake c s .states) ≤ inactives (s .states)
+pub wake-load : (c : Chain) (s : State) → inactives (wake c s .states) ≤ inactives (s .states)
 unfolding wake
 wake-load c s = rouse-inactives (s .chains c) (s .states)
 

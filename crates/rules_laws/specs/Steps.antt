@@ -12,7 +12,7 @@ use Rattle.laws.specs.Cases.{or-false}
 use Rattle.laws.specs.Laws.Tables.{zeros}
 use Rattle.rules.specs.Rig.{Rig}
 use Rattle.rules.specs.RigOk.{RigOk}
-use Rattle.rules.specs.State.{State, Work, stateOf, valueOf, active, withRunning, blank}
+use Rattle.rules.specs.State.{Chain, State, Work, stateOf, valueOf, active, withRunning, blank}
 use Rattle.rules.specs.Conditions.{met, relax}
 use Rattle.rules.specs.Serving.{activate, serve}
 use Rattle.rules.specs.Waiting.{waitOn, waitUntilCount, wakeDue}
@@ -206,7 +206,7 @@ module _ (r : Rig) (ok : RigOk r) where
       conds = relax (r .present) (r .latched) (r .desired) 1 (replicate 1040 0)
 
       w : Work
-      w = quiet (record { count = 0; flags = replicate 129 0; conds = conds; states = set (replicate 65 0) 1 1; wakes = replicate 65 0; chains = λ (c : ℕ). []; running = 0 })
+      w = quiet (record { count = 0; flags = replicate 129 0; conds = conds; states = set (replicate 65 0) 1 1; wakes = replicate 65 0; chains = λ (c : Chain). []; running = 0 })
 
       go : (b : Bool) → (cond b (activate r 1 w) w) .now .count ≤ 2147483647
       go true = omega arith

@@ -1,7 +1,7 @@
 -- A task that waits for a count, and is spared, wakes at that count and no sooner: after any run from the start.
 use mathlib.Core.Path.{_≡_, refl, sym, ap, _∙_, subst}
 use mathlib.Core.Logic.{_≢_, _⊎_, inl, inr}
-use mathlib.Core.Bool.{Bool, true, false, not, cond, _&&_, true≢false}
+use mathlib.Core.Bool.{Bool, true, false, not, cond, true≢false}
 use mathlib.Core.List.{List, [], _∷_}
 use Prim.Native.Nat.{ℕ, zero, suc, _+_, _≤_, _<_}
 use native.Mathlib.Omega.{arith}
@@ -11,63 +11,31 @@ use lib.Dec.{eqb, leb, ltb}
 use lib.ListN.{length, getD, set}
 use lib.Seq.{getD-set-same, getD-set-other}
 use Rattle.laws.specs.Cases.{by}
-use Rattle.laws.specs.Iter.{iter}
-use Rattle.laws.specs.Laws.Iter.{iter-ind}
-use Rattle.laws.specs.Laws.Functions.{upd-same, upd-other}
 use Rattle.laws.specs.Laws.Tables.{in-range, keeps}
 use Rattle.laws.specs.Members.{In, keep}
 use Rattle.laws.specs.Laws.Members.{without-in, keep-in}
 use Rattle.laws.specs.Laws.Order.{place-new, place-old}
 use Rattle.rules.specs.Rig.{Rig}
 use Rattle.rules.specs.RigOk.{RigOk}
-use Rattle.rules.specs.State.{State, Work, Entry, stateOf, valueOf, wakeOf, withTables, timeChain, chainOf}
+use Rattle.rules.specs.State.{Chain, timeChain, chainOf, State, Work, Entry, stateOf, valueOf, wakeOf, withTables}
 use Rattle.rules.specs.Conditions.{met, relax}
-use Rattle.rules.specs.Serving.{activate, takes, wake, ready, offer, offerNext, offers, serveFlag, serving, serve}
+use Rattle.rules.specs.Serving.{activate, takes, wake, serve}
 use Rattle.rules.specs.Waiting.{waitOn, waitUntilCount, leave, isDue, wakeDue}
 use Rattle.rules.specs.Family.{Under, family, isMarked}
 use Rattle.rules.specs.Running.{dispatch}
 use Rattle.rules.specs.Calls.{Call, schedule, cancel, terminate, finish, tick, waitUntil, waitFor, latched, unlatched, signal, readFlag, readBlock, writeBlock}
-use Rattle.rules.specs.Calls.{scheduled, finished, terminated, cancelled, ticked, effect, isUninvoked, isMinor, lastCount, decide, refusal, refusals, accepted, after, step, run, start}
+use Rattle.rules.specs.Calls.{scheduled, finished, terminated, cancelled, ticked, effect, isUninvoked, lastCount, decide, refusal, refusals, accepted, after, step, run, start}
 use Rattle.rules.specs.Proper.{Proper, ProperRun}
 use Rattle.rules.specs.Soundness.{Sound}
-use Rattle.rules_laws.specs.Queued.{Fine, fine-push}
 use Rattle.rules_laws.specs.Rousing.{rouse-in, rouse-three}
-use Rattle.rules_laws.specs.Acceptance.{passed, somebody-runs, named-is, flagged-is}
+use Rattle.rules_laws.specs.Acceptance.{passed, somebody-runs, named-is}
 use Rattle.rules_laws.specs.FamilyLaws.{family-is}
 use Rattle.rules_laws.specs.Leaving.{deserted-is}
-use Rattle.rules_laws.specs.Good.{serve-count}
-use Rattle.rules_laws.specs.Steps.{effect-ready, step-sound, run-sound, always}
+use Rattle.rules_laws.specs.Good.{serve-keeps, serve-count}
+use Rattle.rules_laws.specs.Steps.{step-sound, run-sound, always}
 use Rattle.rules.specs.History.{nothing, onFlag, untilCount, begins}
 use Rattle.rules.specs.Waking.{Struck}
 use Rattle.rules_laws.specs.Waking.{Spared, WakesByRules}
-
--- ---- what a serving of flags keeps, that waking the time chain would not
-
-module _ (r : Rig) (ok : RigOk r) (P : State → Type 0) (tk : (e : Entry) (s : State) → P s → P (takes r e s))
-    (wk : (c : ℕ) (s : State) → c ≢ timeChain → P s → P (wake c s)) (ac : (t : ℕ) (w : Work) → P (w .now) → P (activate r t w .now)) where
-  -- all that is queued are flags
-  abbrev Both : Work → Type 0
-  Both w = Fine r (w .queue) × P (w .now)
-
-  offer-both : (f t : ℕ) (w : Work) → Both w → Both (offer r f t w)
-  unfolding offer activate
-  offer-both f t w h = go (eqb (stateOf (w .now) t) 1 && ready r f t (w .now))
-    where
-      go : (b : Bool) → Both (cond b (activate r t w) w)
-      go true = (fine-push r (r .activation t) 1 (w .queue) (ok .activation-le t) (omega arith) (h .0), ac t w (h .1))
-      go false = h
-
-  flags-keep : (k : ℕ) (s : State) (q : List Entry) → Fine r q → P s → P (serving r k s q .now)
-  unfolding serving serveFlag offers
-  flags-keep zero s q f h = h
-  flags-keep (suc k) s [] f h = h
-  flags-keep (suc k) s (e ∷ q) f h =
-      let w : Work = record { now = wake (chainOf (e .flag) (e .value)) (takes r e s); queue = q } in
-      let b : Both (iter 64 (offerNext r (e .flag)) w) =
-      iter-ind (λ i x. Both x) (offerNext r (e .flag)) w
-      (f .1, wk (chainOf (e .flag) (e .value)) (takes r e s) (λ z. omega (arith, z, f .0 .0)) (tk e s h))
-      (λ i x g. offer-both (e .flag) (i + 1) x g) 64 in
-      flags-keep k (iter 64 (offerNext r (e .flag)) w .now) (iter 64 (offerNext r (e .flag)) w .queue) (b .0) (b .1)
 
 -- ---- a task that waits for the count c
 
@@ -81,19 +49,15 @@ record Kept (s u : State) : Type 0 where
   due : (t c : ℕ) → Due t c s → Due t c u
   three : (t : ℕ) → stateOf s t ≡ 3 → stateOf u t ≡ 3
 
-module _ (r : Rig) (ok : RigOk r) (s : State) where
-  wake-kept : (c : ℕ) (u : State) → c ≢ timeChain → Kept s u → Kept s (wake c u)
+module _ (r : Rig) (s : State) where
+  -- to wake a flag's chain is not to wake the time chain
+  wake-kept : (f v : ℕ) (u : State) → Kept s u → Kept s (wake (chainOf f v) u)
   unfolding wake
-  wake-kept c u n k =
+  wake-kept f v u k =
       record {
         count = k .count;
-        due = λ t d m.
-            let x = k .due t d m in
-            record {
-              there = subst (λ (l : List ℕ). In t l) (sym (upd-other (u .chains) c [] timeChain (λ e. n (sym e)))) (x .there);
-              due = x .due;
-            };
-        three = λ t h. rouse-three t (u .chains c) (u .states) (k .three t h);
+        due = λ t d m. let x = k .due t d m in record { there = x .there; due = x .due };
+        three = λ t h. rouse-three t (u .chains (chainOf f v)) (u .states) (k .three t h);
       }
 
   activate-kept : (t : ℕ) (w : Work) → Kept s (w .now) → Kept s (activate r t w .now)
@@ -110,10 +74,10 @@ module _ (r : Rig) (ok : RigOk r) (s : State) where
   takes-kept e u k =
       record { count = k .count; due = λ t d m. let x = k .due t d m in record { there = x .there; due = x .due }; three = k .three }
 
-served-kept : (r : Rig) (ok : RigOk r) (w : Work) → Fine r (w .queue) → Kept (w .now) (dispatch r (serve r w .now))
-unfolding serve dispatch
-served-kept r ok w f =
-    let k = flags-keep r ok (λ u. Kept (w .now) u) (takes-kept r ok (w .now)) (wake-kept r ok (w .now)) (activate-kept r ok (w .now)) _ (w .now) (w .queue) f
+served-kept : (r : Rig) (w : Work) → Kept (w .now) (dispatch r (serve r w .now))
+unfolding dispatch
+served-kept r w =
+    let k = serve-keeps r (λ u. Kept (w .now) u) (takes-kept r (w .now)) (wake-kept r (w .now)) (λ t x e g. activate-kept r (w .now) t x g) w
     (record { count = refl; due = λ t c m. m; three = λ t h. h }) in
     record { count = k .count; due = λ t d m. let x = k .due t d m in record { there = x .there; due = x .due }; three = k .three }
 
@@ -140,7 +104,7 @@ module _ (r : Rig) (ok : RigOk r) (s : State) (sound : Sound r s) (t c : ℕ) (m
       inl (
         omega (arith, a),
         record {
-          there = subst (λ (X : ℕ → List ℕ). In t (X timeChain)) (sym b) (m .there);
+          there = subst (λ (X : Chain → List ℕ). In t (X timeChain)) (sym b) (m .there);
           due = ap (λ (l : List ℕ). getD l t 0) d ∙ m .due;
         },
       )
@@ -197,7 +161,7 @@ module _ (r : Rig) (ok : RigOk r) (s : State) (sound : Sound r s) (t c : ℕ) (m
       (λ e. inl (
         omega (arith, eqb-false (wakeOf s t) (suc (s .count)) e, m .due),
         record {
-          there = rw upd-same (keep-in (λ (u : ℕ). not (isDue (s .wakes) (suc (s .count)) u)) t (s .chains timeChain) (m .there) (ap not e));
+          there = keep-in (λ (u : ℕ). not (isDue (s .wakes) (suc (s .count)) u)) t (s .chains timeChain) (m .there) (ap not e);
           due = m .due;
         },
       ))
@@ -209,19 +173,19 @@ module _ (r : Rig) (ok : RigOk r) (s : State) (sound : Sound r s) (t c : ℕ) (m
       inl (
         low,
         record {
-          there = rw upd-same (place-old (λ (a : ℕ). getD (set (s .wakes) (s .running) x) a 0) (s .running) t (s .chains timeChain) (m .there));
+          there = place-old (λ (a : ℕ). getD (set (s .wakes) (s .running) x) a 0) (s .running) t (s .chains timeChain) (m .there);
           due = getD-set-other (s .wakes) (s .running) t x 0 (not-running n) ∙ m .due;
         },
       )
 
-  flagged-next : (b : Bool) (f v : ℕ) → 1 ≤ f → Next t c (cond b s (waitOn s f v))
+  flagged-next : (b : Bool) (f v : ℕ) → Next t c (cond b s (waitOn s f v))
   unfolding waitOn
-  flagged-next true f v a = here
-  flagged-next false f v a =
+  flagged-next true f v = here
+  flagged-next false f v =
       inl (
         low,
         record {
-          there = subst (λ (l : List ℕ). In t l) (sym (upd-other (s .chains) (chainOf f v) _ timeChain (λ e. omega arith))) (m .there);
+          there = m .there;
           due = m .due;
         },
       )
@@ -236,20 +200,20 @@ module _ (r : Rig) (ok : RigOk r) (s : State) (sound : Sound r s) (t c : ℕ) (m
   effect-next (tick buffer) e n = ticked-next
   effect-next (waitUntil x) e n = counted-next (leb x (s .count)) x (somebody-runs s _ e)
   effect-next (waitFor x) e n = counted-next (leb (s .count + x) (s .count)) (s .count + x) (somebody-runs s _ e)
-  effect-next (latched f v) e n = flagged-next (eqb (valueOf s f) v) f v (flagged-is r s f (isMinor (r .minor) f) e .flag .0)
-  effect-next (unlatched f v) e n = flagged-next false f v (flagged-is r s f (isMinor (r .minor) f) e .flag .0)
+  effect-next (latched f v) e n = flagged-next (eqb (valueOf s f) v) f v
+  effect-next (unlatched f v) e n = flagged-next false f v
   effect-next (signal f v) e n = here
   effect-next (readFlag f) e n = here
   effect-next (readBlock k area buffer) e n = here
   effect-next (writeBlock k area buffer) e n = here
 
   -- THE ONE-STEP LAW
-  pub step-next : (k : Call) → Proper k → (Struck r s k t → ⊥) → Next t c (step r s k .next)
+  pub step-next : (k : Call) → (Struck r s k t → ⊥) → Next t c (step r s k .next)
   unfolding step after accepted
-  step-next k p n = go (refusal r s k) refl
+  step-next k n = go (refusal r s k) refl
     where
       go : (x : ℕ) → refusal r s k ≡ x → Next t c (after x r s k .next)
-      go zero e = next-kept t c _ _ (served-kept r ok (effect r s k) (effect-ready r ok s sound k p e .good .fine)) (effect-next k e n)
+      go zero e = next-kept t c _ _ (served-kept r (effect r s k)) (effect-next k e n)
       go (suc x) e = here
 
 -- ---- counts
@@ -325,7 +289,7 @@ module _ (r : Rig) (ok : RigOk r) (t c : ℕ) where
   unfolding run Spared
   stays [] s sound m low p n e = m
   stays (k ∷ ks) s sound m low p n e =
-      go (step-next r ok s sound t c m low k (p .0) (n .0))
+      go (step-next r ok s sound t c m low k (n .0))
       (λ d y. stays ks (step r s k .next) (step-sound r ok s sound k (p .0)) d y (p .1) (n .1) e)
     where
       go : Next t c (step r s k .next) → (Due t c (step r s k .next) → step r s k .next .count < c → Due t c (run r s (k ∷ ks))) → Due t c (run r s (k ∷ ks))
@@ -341,7 +305,7 @@ module _ (r : Rig) (ok : RigOk r) (t c : ℕ) where
             let l : run r s ks .count < c = omega arith in
             let e = tick-accepted r (run r s ks) buffer (omega arith) b in
             let k = tick-count r (run r s ks) buffer e in
-            let x = step-next r ok (run r s ks) (run-sound r ok s sound ks p) t c (stays ks s sound m low p n l) l (tick buffer) tt (λ z. z) in
+            let x = step-next r ok (run r s ks) (run-sound r ok s sound ks p) t c (stays ks s sound m low p n l) l (tick buffer) (λ z. z) in
             (k .0, k .1 ∙ q, up (step r (run r s ks) (tick buffer) .next) (k .1 ∙ q) x);
       }
     where
@@ -404,14 +368,14 @@ begun-is r s (writeBlock k area buffer) c e b = absurd (nothing-begun c b)
 
 module _ (r : Rig) (ok : RigOk r) where
   -- then the running task is in the time chain for it
-  begun-due : (s : State) → Sound r s → (k : Call) (c : ℕ) → Proper k → refusal r s k ≡ 0 → Begun r s k c → Due (s .running) c (step r s k .next)
+  begun-due : (s : State) → Sound r s → (k : Call) (c : ℕ) → refusal r s k ≡ 0 → Begun r s k c → Due (s .running) c (step r s k .next)
   unfolding accepted waitUntilCount
-  begun-due s sound k c p e b =
+  begun-due s sound k c e b =
       rw (step-accepted r s k e)
-      (served-kept r ok (effect r s k) (effect-ready r ok s sound k p e .good .fine) .due (s .running) c
+      (served-kept r (effect r s k) .due (s .running) c
       (subst (λ (u : State). Due (s .running) c u) (sym (b .now))
       (record {
-        there = rw upd-same (place-new (λ (a : ℕ). getD (set (s .wakes) (s .running) c) a 0) (s .running) (s .chains timeChain));
+        there = place-new (λ (a : ℕ). getD (set (s .wakes) (s .running) c) a 0) (s .running) (s .chains timeChain);
         due = getD-set-same (s .wakes) (s .running) c 0
             (omega (arith, in-range (s .states) (s .running) 2 (sound .runs .up (b .runs)), sound .tasks .sized, sound .wakes .sized));
       })))
@@ -425,7 +389,7 @@ module _ (r : Rig) (ok : RigOk r) where
       → WakesByRules r (run r (start r) before .running) c (step r (run r (start r) before) k .next) between
   unfolding waitUntilCount
   waking before between k c p q u e b n =
-      due-wakes r ok (s .running) c (step r s k .next) (step-sound r ok s sound k q) (begun-due s sound k c q e g)
+      due-wakes r ok (s .running) c (step r s k .next) (step-sound r ok s sound k q) (begun-due s sound k c e g)
       (rw (step-accepted r s k e) (omega (arith, accepted-count r s k, ap (λ (x : State). x .count) (g .now), g .ahead))) (g .top) between u n
     where
       s : State

@@ -1,6 +1,7 @@
 -- DEMAND 3 OF THE CODE, said of the record: what holds of the record y to which any run ms led from the record x of an
 -- accepted start, refused calls among the run; and of any call m that is then made on y. A reader follows the links himself:
--- `chainAt` goes from a chain's anchor by the next links, `backAt` by the previous ones (crate chains, Read).
+-- `chainAt` goes from a chain's anchor (`anchorOf`, crate exec_family) by the next links, `backAt` by the previous ones (crate
+-- chains, Read). The chains are those of `IsChain` (rules, Soundness): the time chain, and each flag's for on and for off.
 use mathlib.Core.Path.{_≡_}
 use mathlib.Core.Logic.{_≢_, _⊎_, _↔_}
 use mathlib.Core.List.{List, reverse}
@@ -11,9 +12,11 @@ use Rattle.laws.specs.Ordered.{Ordered}
 use Rattle.chains.specs.Held.{at}
 use Rattle.chains.specs.Read.{chainAt, backAt}
 use Rattle.rules.specs.Sizes.{tickWords}
-use Rattle.rules.specs.State.{timeChain, lastChain, waiting, dispatchable, on}
+use Rattle.rules.specs.State.{Chain, timeChain, chainOf, waiting, dispatchable, on}
+use Rattle.rules.specs.Soundness.{IsChain}
 use Rattle.rules.specs.Calls.{tick, run, start}
 use Rattle.rules.specs.History.{Earlier, Sooner}
+use Rattle.exec_family.specs.Anchors.{anchorOf}
 use Rattle.exec.specs.Sound.{rigIn, view, SoundRecord}
 use Rattle.runs.specs.Runs.{Made, MadeOn, callsOf, codeOf, servedOf, historyIn}
 use Rattle.exec.specs.declared.Exec.{Exec}
@@ -25,15 +28,11 @@ stateIn y t = at (y .st .state) t
 abbrev pub wakeIn : Exec → ℕ → ℕ
 wakeIn y t = at (y .st .wake) t
 
-abbrev pub forwardIn : Exec → ℕ → List ℕ
-forwardIn y c = chainAt (y .st .links) c
+abbrev pub forwardIn : Exec → Chain → List ℕ
+forwardIn y c = chainAt (y .st .links) (anchorOf c)
 
-abbrev pub backwardIn : Exec → ℕ → List ℕ
-backwardIn y c = backAt (y .st .links) c
-
--- the numbers of the chains: the time chain's is the first, and `chainOf flag value`, of flag 1 to 128 and value 0 or 1, follow it
-abbrev pub Anchor : ℕ → Type 0
-Anchor c = (timeChain ≤ c) × (c ≤ lastChain)
+abbrev pub backwardIn : Exec → Chain → List ℕ
+backwardIn y c = backAt (y .st .links) (anchorOf c)
 
 -- every record of a run: "A fresh record is sound and every call keeps it so: 12 never follows from an accepted start."
 pub record Stands (x : Exec) (ms : List Made) (y : Exec) : Type 0 where
@@ -46,21 +45,21 @@ pub record Stands (x : Exec) (ms : List Made) (y : Exec) : Type 0 where
 
 -- "each wait chain read forward lists exactly the tasks that wait there, once each, in order, and backward the reverse"
 pub record Chained (x : Exec) (ms : List Made) (y : Exec) : Type 0 where
-  pub forward : (c : ℕ) → Anchor c → forwardIn y c ≡ run (rigIn x) (start (rigIn x)) (callsOf ms) .chains c
-  pub backward : (c : ℕ) → Anchor c → backwardIn y c ≡ reverse (forwardIn y c)
-  pub once : (c : ℕ) → Anchor c → Distinct (forwardIn y c)
+  pub forward : (c : Chain) → IsChain c → forwardIn y c ≡ run (rigIn x) (start (rigIn x)) (callsOf ms) .chains c
+  pub backward : (c : Chain) → IsChain c → backwardIn y c ≡ reverse (forwardIn y c)
+  pub once : (c : Chain) → IsChain c → Distinct (forwardIn y c)
   -- a task waits exactly when it is in a chain, and then in one alone
   pub waits :
       (t : ℕ) →
-      (stateIn y t ≡ waiting) ↔ ((c : ℕ) × Anchor c × In t (forwardIn y c) × ((d : ℕ) → Anchor d → In t (forwardIn y d) → d ≡ c))
+      (stateIn y t ≡ waiting) ↔ ((c : Chain) × IsChain c × In t (forwardIn y c) × ((d : Chain) → IsChain d → In t (forwardIn y d) → d ≡ c))
   -- it is in the chain in which its last wait began
-  pub lists : (t c : ℕ) → Anchor c → In t (forwardIn y c) ↔ ((stateIn y t ≡ waiting) × (historyIn x ms t .chain ≡ c))
+  pub lists : (t : ℕ) (c : Chain) → IsChain c → In t (forwardIn y c) ↔ ((stateIn y t ≡ waiting) × (historyIn x ms t .chain ≡ c))
   -- "Time chain order: waking count, then who began to wait earlier."
   pub time : Ordered (Sooner (historyIn x ms)) (forwardIn y timeChain)
   pub counts : (t : ℕ) → In t (forwardIn y timeChain) → wakeIn y t ≡ historyIn x ms t .count
   pub ahead : (t : ℕ) → In t (forwardIn y timeChain) → y .st .count < wakeIn y t
   -- "Each flag has a chain for on and one for off, in order of beginning."
-  pub flags : (c : ℕ) → Anchor c → c ≢ timeChain → Ordered (Earlier (historyIn x ms)) (forwardIn y c)
+  pub flags : (f v : ℕ) → IsChain (chainOf f v) → Ordered (Earlier (historyIn x ms)) (forwardIn y (chainOf f v))
 
 -- "each activation flag is on exactly when its task is active": "Active is 2 or 3."
 abbrev pub Activated : Exec → Type 0

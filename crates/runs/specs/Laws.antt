@@ -16,7 +16,8 @@ use Rattle.rig.specs.declared.Rig.{Rig}
 use Rattle.rules.specs.Rig as G
 use Rattle.rules.specs.RigOk.{RigOk}
 use Rattle.rules.specs.State as S
-use Rattle.rules.specs.State.{timeChain}
+use Rattle.rules.specs.State.{Chain, timeChain, chainOf}
+use Rattle.rules.specs.Soundness.{IsChain}
 use Rattle.rules.specs.Calls as R
 use Rattle.rules.specs.Calls.{tick, waitUntil, waitFor, refusal}
 use Rattle.rules.specs.Proper.{ProperRun}
@@ -31,6 +32,8 @@ use Rattle.rules_laws.specs.Waking.{Spared}
 use Rattle.rules_laws.specs.Waking as W
 use Rattle.rules_laws.specs.WakingLaws as WL
 use Rattle.rules_laws.specs.Activation.{BySchedule, ByService, activated-by}
+use Rattle.exec_family.specs.Anchors.{anchorOf}
+use Rattle.exec_family.specs.Laws.Anchors.{anchor-low, anchor-high}
 use Rattle.exec_state.specs.View.{rigOf}
 use Rattle.exec.specs.Sound.{rigIn, view, SoundRecord}
 use Rattle.exec.specs.Call.{Follows, Meets, Refuses, answerOf}
@@ -39,7 +42,7 @@ use Rattle.exec_sound.specs.Laws.RightRig.{rig-ok}
 use Rattle.exec.specs.Laws.Promises.{twelve-exactly}
 use Rattle.exec.specs.Starting.{Started, noExec, brokenRig}
 use Rattle.runs.specs.Runs.{Made, MadeOn, Ran, callsOf, codeOf, servedOf, AcceptedStart, noting, historyIn, SparedIn}
-use Rattle.runs.specs.Demands.{Anchor, Stands, Chained, Activated, Bounded, Demand, Wakes, forwardIn, stateIn}
+use Rattle.runs.specs.Demands.{Stands, Chained, Activated, Bounded, Demand, Wakes, forwardIn, stateIn}
 use Rattle.exec.specs.declared.Exec.{Exec}
 use Rattle.exec.specs.declared.Step.{Step}
 
@@ -148,18 +151,15 @@ module _ (y : Exec) (h : SoundRecord y) where
   sound-activated : Activated y
   sound-activated t n = flag-on (rigIn y) ok (view y) (h .state) t n
 
-  read : (c : ℕ) → Anchor c → chainsOf (y .st .links) c ≡ forwardIn y c
-  read c a = chains-at (y .st .links) c (omega (arith, a .0)) (omega (arith, a .1))
+  read : (c : Chain) → IsChain c → view y .chains c ≡ forwardIn y c
+  read c a = chains-at (y .st .links) (anchorOf c) (anchor-low c a) (anchor-high c a)
 
-  inside : (t c : ℕ) → In t (chainsOf (y .st .links) c) → Anchor c
-  inside t c i = h .state .chains .only t c i
-
-  sound-waits : (t : ℕ) → (stateIn y t ≡ 2) ↔ ((c : ℕ) × Anchor c × In t (forwardIn y c) × ((d : ℕ) → Anchor d → In t (forwardIn y d) → d ≡ c))
+  sound-waits : (t : ℕ) → (stateIn y t ≡ 2) ↔ ((c : Chain) × IsChain c × In t (forwardIn y c) × ((d : Chain) → IsChain d → In t (forwardIn y d) → d ≡ c))
   sound-waits t =
       let w = waits-in-one (rigIn y) ok (view y) (h .state) t in (
         (λ e.
             let k = w .0 e in
-            let a = inside t (k .0) (k .1) in
+            let a = h .state .chains .only t (k .0) (k .1) in
             (k .0, a, subst (In t) (read (k .0) a) (k .1), (λ d b i. k .2 d (subst (In t) (sym (read d b)) i)))),
         (λ k. h .state .chains .listed .two t (k .0, subst (In t) (sym (read (k .0) (k .1))) (k .2))),
       )
@@ -223,17 +223,17 @@ module _ (g : Rig) (table : List (List ℕ)) (x : Exec) (s : AcceptedStart g tab
     chained =
         let h = there .sound in
         let l = sound-chains (y .st .links) (h .links) in
-        let time : chainsOf (y .st .links) timeChain ≡ forwardIn y timeChain = read y h timeChain (omega arith, omega arith) in
+        let time : view y .chains timeChain ≡ forwardIn y timeChain = read y h timeChain tt in
         record {
           forward = λ c a. sym (read y h c a) ∙ ap (λ (z : S.State). z .chains c) (there .state);
-          backward = λ c a. read-backward (y .st .links) (chainsOf (y .st .links)) l c (omega (arith, a .0)) (omega (arith, a .1)) ∙ ap reverse (read y h c a);
+          backward = λ c a. read-backward (y .st .links) (chainsOf (y .st .links)) l (anchorOf c) (anchor-low c a) (anchor-high c a) ∙ ap reverse (read y h c a);
           once = λ c a. subst Distinct (read y h c a) (h .state .chains .once c);
           waits = sound-waits y h;
           lists = λ t c a. subst (λ (z : List ℕ). In t z ↔ ((stateIn y t ≡ 2) × (historyIn x ms t .chain ≡ c))) (read y h c a) (ordered .lists t c);
           time = subst (Ordered (H.Sooner (historyIn x ms))) time (ordered .time);
           counts = λ t i. ordered .counts t (subst (In t) (sym time) i);
           ahead = λ t i. h .state .chains .ahead t (subst (In t) (sym time) i);
-          flags = λ c a n. subst (Ordered (H.Earlier (historyIn x ms))) (read y h c a) (ordered .flags c n);
+          flags = λ f v a. subst (Ordered (H.Earlier (historyIn x ms))) (read y h (chainOf f v) a) (ordered .flags f v);
         }
 
     -- "A condition is tested for activation on schedule and on service of one of its flags.": a call that is made next and

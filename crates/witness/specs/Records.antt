@@ -1,13 +1,16 @@
 -- A RECORD FOR EVERY SOUND STATE: what start and every call owe can always be met, and by no other record (Unique, exec). So the
 -- statements about them are not empty: a right rig has an accepted start, and from it every run of calls has its steps.
-use mathlib.Core.Path.{_≡_, refl, sym, _∙_, ap, subst}
+use mathlib.Core.Path.{_≡_, refl, sym, _∙_, ap, subst, fun-ext}
 use mathlib.Core.Logic.{inl, inr}
-use mathlib.Core.Bool.{true≢false}
+use mathlib.Core.Bool.{cond, true≢false}
 use mathlib.Core.List.{List, [], _∷_}
-use Prim.Native.Nat.{ℕ, zero, suc}
+use Prim.Native.Nat.{ℕ, zero, suc, _<_}
 use native.Mathlib.Omega.{arith}
 use lib.ListN.{length, getD, drop}
 use Rattle.laws.specs.Cases.{by}
+use Rattle.laws.specs.Members.{In}
+use Rattle.chains.specs.Read.{chainsOf, inside}
+use Rattle.chains.specs.Laws.Read.{inside-low, inside-high, inside-is}
 use Rattle.rig.specs.Rules.{Right}
 use Rattle.rig_whole.specs.Tests.{rightB}
 use Rattle.rig_whole.specs.Laws.Whole.{right-is}
@@ -17,10 +20,13 @@ use Rattle.rig.specs.declared.Rig.{Rig}
 use Rattle.rules.specs.Rig as G
 use Rattle.rules.specs.RigOk.{RigOk}
 use Rattle.rules.specs.State as S
+use Rattle.rules.specs.State.{Chain}
 use Rattle.rules.specs.Soundness as Rules
 use Rattle.rules.specs.Proper.{Proper, ProperRun}
 use Rattle.rules_laws.specs.Steps.{step-sound, start-sound}
 use Rattle.rules.specs.Calls as R
+use Rattle.exec_family.specs.Anchors.{anchorOf, nameOf, byName}
+use Rattle.exec_family.specs.Laws.Anchors.{anchor-chain, anchor-low, anchor-high, name-anchor, anchor-name}
 use Rattle.exec_state.specs.View.{rigOf}
 use Rattle.exec_state.specs.declared.State.{State}
 use Rattle.exec.specs.Sound.{rigIn, view, SoundRecord}
@@ -38,6 +44,10 @@ use Rattle.witness.specs.Linking.{linksOf, Chainable, linked, linked-rea
 
 -- ---- the record that shows a state, and the answer that says what the rules' answer says
 
+-- the chains by anchor, of those by name
+abbrev pub byAnchor : (Chain → List ℕ) → ℕ → List ℕ
+byAnchor Z s = cond (inside s) (Z (nameOf s)) []
+
 abbrev pub stateOf : S.State → State
 stateOf s =
     record {
@@ -46,7 +56,7 @@ stateOf s =
       cond = s .conds;
       state = s .states;
       wake = s .wakes;
-      links = linksOf (s .chains);
+      links = linksOf (byAnchor (s .chains));
       running = s .running;
     }
 
@@ -95,23 +105,48 @@ answer-is r s k = by-number (R.refusal r s k) r s k
 
 -- ---- a sound state's chains can be linked
 
-chainable : (r : G.Rig) → RigOk r → (s : S.State) → Rules.Sound r s → Chainable (s .chains)
+module _ (Z : Chain → List ℕ) where
+  -- who is in a chain by anchor is in the one of that name
+  there : (t s : ℕ) → In t (byAnchor Z s) → In t (Z (nameOf s)) × (64 < s) × (s < 322)
+  there t s = by (inside s) (λ e. rw e (λ i. (i, inside-low s e, inside-high s e))) (λ e. rw e (λ i. absurd i))
+
+  -- nobody is in what is no chain
+  empty : Rules.Only Z → (c : Chain) → (Rules.IsChain c → ⊥) → Z c ≡ []
+  empty o c n = go (Z c) refl
+    where
+      go : (l : List ℕ) → Z c ≡ l → Z c ≡ []
+      go [] e = e
+      go (t ∷ ts) e = absurd (n (o t c (subst (In t) (sym e) (inl refl))))
+
+  -- each chain is at its anchor
+  at-anchors : Rules.Only Z → byName (byAnchor Z) ≡ Z
+  at-anchors o =
+      fun-ext λ c.
+      by (inside (anchorOf c))
+      (λ e. rw e (ap Z (anchor-name c (anchor-chain c (inside-low (anchorOf c) e)))))
+      (λ e. rw e (sym (empty o c (λ k. true≢false (sym (inside-is (anchorOf c) (anchor-low c k) (anchor-high c k)) ∙ e)))))
+
+chainable : (r : G.Rig) → RigOk r → (s : S.State) → Rules.Sound r s → Chainable (byAnchor (s .chains))
 chainable r ok s h =
     record {
-      tasks = λ t c i.
-          let e = h .chains .listed .two t (c, i) in
+      tasks = λ t a i.
+          let e = h .chains .listed .two t (nameOf a, there (s .chains) t a i .0) in
           let k = h .tasks .within t (λ z. omega (arith, e, z)) in
           (k .0, omega (arith, k .1, ok .tasks-le));
-      once = h .chains .once;
-      apart = h .chains .apart;
-      only = h .chains .only;
+      once = λ a. by (inside a) (λ e. rw e (h .chains .once (nameOf a))) (λ e. rw e tt);
+      apart = λ t a b i j.
+          let k = there (s .chains) t a i in
+          let l = there (s .chains) t b j in
+          sym (name-anchor a (k .1) (k .2)) ∙ ap anchorOf (h .chains .apart t (nameOf a) (nameOf b) (k .0) (l .0)) ∙ name-anchor b (l .1) (l .2);
+      only = λ t a i. let k = there (s .chains) t a i in (omega (arith, k .1), omega (arith, k .2));
     }
 
 module _ (g : Rig) (cycles : List Cycle) (right : Right g cycles) where
   -- the record shows the state, and is sound
   pub record-shows : (s : S.State) → Rules.Sound (rigOf g cycles) s → view (recordOf g cycles s) ≡ s
   record-shows s h =
-      let e = linked-read (s .chains) (chainable (rigOf g cycles) (rig-ok g cycles right) s h) in
+      let e : byName (chainsOf (linksOf (byAnchor (s .chains)))) ≡ s .chains =
+      ap byName (linked-read (byAnchor (s .chains)) (chainable (rigOf g cycles) (rig-ok g cycles right) s h)) ∙ at-anchors (s .chains) (h .chains .only) in
       λ i. record {
         count = s .count;
         flags = s .flags;
@@ -124,10 +159,10 @@ module _ (g : Rig) (cycles : List Cycle) (right : Right g cycles) where
 
   pub record-sound : (s : S.State) → Rules.Sound (rigOf g cycles) s → SoundRecord (recordOf g cycles s)
   record-sound s h =
-      let k = linked (s .chains) (chainable (rigOf g cycles) (rig-ok g cycles right) s h) in
+      let k = linked (byAnchor (s .chains)) (chainable (rigOf g cycles) (rig-ok g cycles right) s h) in
       record {
         rig = right;
-        links = (s .chains, k .0);
+        links = (byAnchor (s .chains), k .0);
         sized = k .1;
         state = subst (Rules.Sound (rigOf g cycles)) (sym (record-shows s h)) h;
       }

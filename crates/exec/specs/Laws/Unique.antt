@@ -12,6 +12,7 @@ use Rattle.chains.specs.Laws.Read.{sound-chains}
 use Rattle.chains.specs.Laws.Unique.{held-same}
 use Rattle.rules.specs.State as S
 use Rattle.rules.specs.Calls as R
+use Rattle.exec_family.specs.Laws.Anchors.{named-all}
 use Rattle.exec_state.specs.View.{viewOf}
 use Rattle.exec_state.specs.declared.State.{State}
 use Rattle.exec_refusals.specs.Numbers.{notSound}
@@ -27,7 +28,7 @@ use Rattle.exec.specs.declared.Answer.the-variants.{Accepted, Refused}
 pub state-same : (s t : State) → Sized (s .links) → Sized (t .links) → Links.HoldsChains (s .links) → Links.HoldsChains (t .links) → viewOf s ≡ viewOf t
     → s ≡ t
 state-same s t y z a b e =
-    let c : chainsOf (s .links) ≡ chainsOf (t .links) = ap (λ (v : S.State). v .chains) e in
+    let c : chainsOf (s .links) ≡ chainsOf (t .links) = named-all (s .links) (t .links) (ap (λ (v : S.State). v .chains) e) in
     let l : s .links ≡ t .links =
     held-same (s .links) (t .links) y z (chainsOf (t .links))
     (subst (λ (X : ℕ → List ℕ). Held (s .links) X) c (sound-chains (s .links) a)) (sound-chains (t .links) b) in

@@ -19,15 +19,19 @@ use Rattle.laws.specs.Functions.{upd}
 use Rattle.laws.specs.Laws.Functions.{on-upd}
 use Rattle.laws.specs.Members.{without}
 use Rattle.laws.specs.Laws.Members.{without-out}
+use Rattle.exec_family.specs.Anchors.{byName}
 use Rattle.exec_family.specs.Post.{Left, Deserted}
 
--- links that hold what is left hold nothing else
-left-of : (l r : Links) (t : ℕ) → Held r (leave t (chainsOf l)) → Left l t r
+-- links that hold the chains without t hold nothing else
+abbrev lacking : ℕ → (ℕ → List ℕ) → ℕ → List ℕ
+lacking t X s = without t (X s)
+
+left-of : (l r : Links) (t : ℕ) → Held r (lacking t (chainsOf l)) → Left l t r
 unfolding leave
 left-of l r t h =
     record {
-      is = held-chains r (leave t (chainsOf l)) h (λ s e. ap (without t) (only-of l s e));
-      sound = (leave t (chainsOf l), h);
+      is = ap byName (held-chains r (lacking t (chainsOf l)) h (λ s e. ap (without t) (only-of l s e)));
+      sound = (lacking t (chainsOf l), h);
     }
 
 -- t is in no chain but its own
@@ -35,22 +39,20 @@ elsewhere : (l : Links) (X : ℕ → List ℕ) → Held l X → (t s : ℕ) → 
 elsewhere l X h t s ls hs n = without-out t (X s) (λ i. n (sym (h .own s ls hs t i .2)))
 
 pub left-idle : (l : Links) → HoldsChains l → (t : ℕ) → at (l .on) t ≡ 0 → Left l t l
-unfolding leave
 left-idle l h t e =
     let X = chainsOf l in
     let k : Held l X = sound-chains l h in
     left-of l l t
-    (chains-ext 64 322 (at (l .next)) (at (l .prev)) (at (l .on)) X (leave t X) k
+    (chains-ext 64 322 (at (l .next)) (at (l .prev)) (at (l .on)) X (lacking t X) k
     (λ s ls hs. sym (elsewhere l X k t s ls hs (λ q. omega arith))))
 
 pub left-unlinked : (l : Links) → HoldsChains l → (t : ℕ) (r : Links) → Leaves l t r → Left l t r
-unfolding leave
 left-unlinked l h t r f =
     let X = chainsOf l in
     let k : Held l X = sound-chains l h in
     let o = at (l .on) t in
     left-of l r t
-    (chains-ext 64 322 (at (r .next)) (at (r .prev)) (at (r .on)) (upd X o (without t (X o))) (leave t X) (f X k)
+    (chains-ext 64 322 (at (r .next)) (at (r .prev)) (at (r .on)) (upd X o (without t (X o))) (lacking t X) (f X k)
     (λ s ls hs.
     on-upd (λ (ys : List ℕ). ys ≡ without t (X s)) X o (without t (X o)) s
     (λ q. ap (λ (a : ℕ). without t (X a)) (sym q)) (λ n. sym (elsewhere l X k t s ls hs n))))
@@ -58,7 +60,7 @@ left-unlinked l h t r f =
 -- ---- the loop over all tasks
 
 pub record Turned (l : Links) (marks : List ℕ) (k : Links) (i : ℕ) : Type 0 where
-  pub is : chainsOf k ≡ iter i (leaveOne marks) (chainsOf l)
+  pub is : byName (chainsOf k) ≡ iter i (leaveOne marks) (byName (chainsOf l))
   pub sound : HoldsChains k
 
 module _ (l : Links) (marks : List ℕ) where
@@ -66,8 +68,8 @@ module _ (l : Links) (marks : List ℕ) where
   turned-start h = record { is = sym (iter-zero _ _); sound = h }
 
   module _ (k : Links) (i : ℕ) (h : Turned l marks k i) where
-    next : leaveOne marks i (chainsOf k) ≡ iter (i + 1) (leaveOne marks) (chainsOf l)
-    next = iter-step i (leaveOne marks) (chainsOf l) (chainsOf k) (h .is)
+    next : leaveOne marks i (byName (chainsOf k)) ≡ iter (i + 1) (leaveOne marks) (byName (chainsOf l))
+    next = iter-step i (leaveOne marks) (byName (chainsOf l)) (byName (chainsOf k)) (h .is)
 
     pub turned-yes : getD marks (i + 1) 0 ≡ 1 → (r : Links) → Left k (i + 1) r → Turned l marks r (i + 1)
     turned-yes e r m = record { is = m .is ∙ sym (if-yes _ (eq-eqb _ _ e) refl) ∙ next; sound = m .sound }
@@ -78,4 +80,4 @@ module _ (l : Links) (marks : List ℕ) where
   pub turned-done : (k : Links) (i : ℕ) → Turned l marks k i → i ≡ 64 → Deserted l marks k
   unfolding deserted
   turned-done k i h e =
-      record { is = h .is ∙ ap (λ (n : ℕ). iter n (leaveOne marks) (chainsOf l)) e; sound = h .sound }
+      record { is = h .is ∙ ap (λ (n : ℕ). iter n (leaveOne marks) (byName (chainsOf l))) e; sound = h .sound }

@@ -7,7 +7,9 @@ use borrow.Author.Tests.{eqb-true, not-false}
 use lib.ListN.{getD, set}
 use Rattle.rig.specs.Forms.{noRig}
 use Rattle.rig.specs.declared.Rig.{Rig}
+use Rattle.rules.specs.State.{Chain, chainOf}
 use Rattle.rules_laws.specs.Serve.{load}
+use Rattle.exec_family.specs.Laws.Anchors.{anchor-flag}
 use Rattle.exec_state.specs.View.{workOf}
 use Rattle.exec_state.specs.Set.{putValue, putCond, putState}
 use Rattle.exec_offers.specs.Set.{withTables}
@@ -84,21 +86,23 @@ taken j =
 abbrev woken : tie.Joined1 Inv-loop μ-loop → State
 woken j = putState (j .if1 .st) (j .if1 .state)
 
-woken-so : (s : State) (c : ℕ) (x y : State) (a b : List ℕ) → x ≡ y → a ≡ b → Woken s c (putState y b) → Woken s c (putState x a)
+woken-so : (s : State) (c : Chain) (x y : State) (a b : List ℕ) → x ≡ y → a ≡ b → Woken s c (putState y b) → Woken s c (putState x a)
 woken-so s c x y a b e f h = rw (e, f) h
 
 -- who waited is woken, or nobody waited
-awoken : (j : tie.Joined1 Inv-loop μ-loop) → let e = turn j in Woken (taken j) (64 + 2 * flag e + value e) (woken j)
+awoken : (j : tie.Joined1 Inv-loop μ-loop) → let e = turn j in Woken (taken j) (chainOf (flag e) (value e)) (woken j)
 awoken j =
     let e = turn j in
     let d = e .before in
     let o = ok e in
+    let c = chainOf (flag e) (value e) in
+    let a = anchor-flag (flag e) (value e) (o .some, o .flag, o .value) in
     let p : 64 + 2 * flag e + value e < 322 = omega (arith, o .flag, o .value) in
     ⊎-elim
-    (λ w. woken-so (taken j) (64 + 2 * flag e + value e) _ _ _ _ (w .4) (w .5) (w .3 .ensures (taken j)))
-    (λ w. woken-so (taken j) (64 + 2 * flag e + value e) _ _ _ _ (w .1) (w .2)
+    (λ w. woken-so (taken j) c _ _ _ _ (w .4) (w .5) (w .3 .ensures (taken j) c a))
+    (λ w. woken-so (taken j) c _ _ _ _ (w .1) (w .2)
     (waking-none (64 + 2 * flag e + value e) (omega (arith, o .some)) p (d .loop .st .links) (d .loop .state) (d .loop .inv noRig .sound)
-    (eqb-true _ _ (not-false _ (sym (j .before .waited .ensures) ∙ w .0 .left))) (taken j)))
+    (eqb-true _ _ (not-false _ (sym (j .before .waited .ensures) ∙ w .0 .left))) (taken j) c a))
     (j .if1 .came)
 
 abbrev served : tie.After-offers Inv-loop μ-loop → Work

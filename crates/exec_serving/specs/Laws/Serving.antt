@@ -2,7 +2,7 @@
 use mathlib.Core.Path.{_≡_, sym, _∙_, ap, subst}
 use mathlib.Core.Bool.{Bool, true, false, cond, _&&_}
 use mathlib.Core.List.{List, [], _∷_}
-use Prim.Native.Nat.{ℕ, zero, suc, _+_, _*_, _≤_, _<_}
+use Prim.Native.Nat.{ℕ, zero, suc, _+_, _≤_, _<_}
 use native.Mathlib.Omega.{arith}
 use lib.Dec.{eqb}
 use lib.ListN.{length, getD, set}
@@ -13,7 +13,7 @@ use Rattle.rig.specs.declared.Cycle.{Cycle}
 use Rattle.rig.specs.declared.Rig.{Rig}
 use Rattle.rules.specs.Rig as G
 use Rattle.rules.specs.State as S
-use Rattle.rules.specs.State.{Entry, stateOf}
+use Rattle.rules.specs.State.{chainOf, Entry, stateOf}
 use Rattle.rules.specs.Conditions.{drive}
 use Rattle.rules.specs.Serving.{push, activate, ready, takes, wake, offer, offerNext, offers, serveFlag, another, serve, inactives}
 use Rattle.rules_laws.specs.Serve.{load, wake-load, serveFlag-load, serve-nil, serve-cons}
@@ -32,7 +32,7 @@ use Rattle.exec_serving.specs.declared.Done.{Done}
 
 module _ (s : State) (q : Queue) (g : Rig) (f v : ℕ) (c : List ℕ)
     (e : c ≡ drive (g .lines) (at (g .lineTask)) (at (g .linePos)) (at (g .lineFlag)) f v (s .cond)) (s2 : State)
-    (w : Woken (putCond (putValue s (set (s .value) f v)) c) (64 + 2 * f + v) s2) where
+    (w : Woken (putCond (putValue s (set (s .value) f v)) c) (chainOf f v) s2) where
   taken : (cycles : List Cycle) → viewOf (putCond (putValue s (set (s .value) f v)) c) ≡ takes (rigOf g cycles) (record { flag = f; value = v }) (viewOf s)
   unfolding takes
   taken cycles = ap (λ (x : List ℕ). viewOf (putCond (putValue s (set (s .value) f v)) x)) e
@@ -42,7 +42,7 @@ module _ (s : State) (q : Queue) (g : Rig) (f v : ℕ) (c : List ℕ)
       omega (
         arith,
         ap (λ (x : S.State). inactives (x .states)) (w .is),
-        wake-load (64 + 2 * f + v) (viewOf (putCond (putValue s (set (s .value) f v)) c)),
+        wake-load (chainOf f v) (viewOf (putCond (putValue s (set (s .value) f v)) c)),
       )
 
   pub served-is : (r : Work) → Offered (record { st = s2; queue = q }) g f r → Served s q g f v r
@@ -52,7 +52,7 @@ module _ (s : State) (q : Queue) (g : Rig) (f v : ℕ) (c : List ℕ)
         is = λ cycles.
             o .is cycles
             ∙ ap (λ (x : S.State). offers (rigOf g cycles) f 64 (record { now = x; queue = entriesOf q }))
-            (w .is ∙ ap (wake (64 + 2 * f + v)) (taken cycles));
+            (w .is ∙ ap (wake (chainOf f v)) (taken cycles));
         sound = subst (λ (l : Links). HoldsChains l) (sym (o .links)) (w .sound);
       }
 

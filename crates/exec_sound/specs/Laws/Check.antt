@@ -23,13 +23,15 @@ use Rattle.chain_tests.specs.Laws.Order.{rising-sorted, sorted-rising}
 use Rattle.rig.specs.Rules.{Right}
 use Rattle.rig.specs.declared.Cycle.{Cycle}
 use Rattle.rig.specs.declared.Rig.{Rig}
-use Rattle.rules.specs.State.{timeChain}
+use Rattle.rules.specs.State.{Chain, timeChain}
 use Rattle.rules.specs.Running.{chosen}
 use Rattle.rules.specs.Calls.{lastCount}
 use Rattle.rules_laws.specs.Ranks.{chosen-runs, runs-chosen}
 use Rattle.rules.specs.Soundness as R
 use Rattle.sound_tables.specs.Tests.{withinB, emptyB, condsB, treeB, waitsB, flagsB}
 use Rattle.sound_tables.specs.Exact.{within-facts, within-back, empty-facts, empty-back, conds-facts, conds-back, tree-facts, tree-back, waits-facts, waits-back, flags-facts, flags-back}
+use Rattle.exec_family.specs.Anchors.{anchorOf, nameOf, byName}
+use Rattle.exec_family.specs.Laws.Anchors.{anchor-chain, anchor-same, name-anchor}
 use Rattle.exec_state.specs.declared.State.{State}
 use Rattle.exec_sound.specs.Sound.{SoundParts}
 use Rattle.exec_sound.specs.Laws.RightRig.{rig-ok}
@@ -52,7 +54,7 @@ pub record Placed (tasks : ℕ) (controllers activations : List ℕ) : Type 0 wh
 pub record ChainsSound (count : ℕ) (wake : List ℕ) (l : Links) : Type 0 where
   pub sized : Sized l
   pub links : L.HoldsChains l
-  pub order : risingb (at wake) (count + 1) (chainsOf l 65) ≡ true
+  pub order : risingb (at wake) (count + 1) (byName (chainsOf l) timeChain) ≡ true
 
 -- who runs by the rules
 abbrev pub runner : Rig → State → ℕ
@@ -94,37 +96,44 @@ module _ (tasks flags : ℕ) (controller priority privileged activation present 
 -- ---- the chains that sound links show
 
 module _ (l : Links) (h : Held l (chainsOf l)) where
-  seen-inside : (t c : ℕ) → In t (chainsOf l c) → inside c ≡ true
-  seen-inside t c i = by (inside c) (λ e. e) (λ e. absurd (subst (λ (ys : List ℕ). In t ys) (only-of l c e) i))
+  seen-inside : (t s : ℕ) → In t (chainsOf l s) → inside s ≡ true
+  seen-inside t s i = by (inside s) (λ e. e) (λ e. absurd (subst (λ (ys : List ℕ). In t ys) (only-of l s e) i))
 
-  -- who is in a chain names it
-  pub seen : (t c : ℕ) → In t (chainsOf l c) → (t ≤ 64) × (at (l .on) t ≡ c) × (64 < c) × (c < 322)
+  abbrev shown : Chain → List ℕ
+  shown = byName (chainsOf l)
+
+  -- who is in a chain names its anchor
+  pub seen : (t : ℕ) (c : Chain) → In t (shown c) → (t ≤ 64) × (at (l .on) t ≡ anchorOf c) × (64 < anchorOf c)
   seen t c i =
-      let e = seen-inside t c i in
-      let k = h .own c (inside-low c e) (inside-high c e) t i in
-      (k .1, k .2, inside-low c e, inside-high c e)
+      let s = anchorOf c in
+      let e = seen-inside t s i in
+      let k = h .own s (inside-low s e) (inside-high s e) t i in
+      (k .1, k .2, inside-low s e)
 
-  seen-once : (c : ℕ) → Distinct (chainsOf l c)
-  seen-once c =
-      by (inside c) (λ e. read-once l (chainsOf l) h c (inside-low c e) (inside-high c e))
-      (λ e. rw (only-of l c e) tt)
+  seen-once : (s : ℕ) → Distinct (chainsOf l s)
+  seen-once s =
+      by (inside s) (λ e. read-once l (chainsOf l) h s (inside-low s e) (inside-high s e))
+      (λ e. rw (only-of l s e) tt)
 
-  seen-apart : R.Apart (chainsOf l)
-  seen-apart t c d i j = sym (seen t c i .1) ∙ seen t d j .1
+  seen-apart : R.Apart shown
+  seen-apart t c d i j = let k = seen t c i in anchor-same c d (k .2) (sym (k .1) ∙ seen t d j .1)
 
-  -- a task names a chain exactly when it is in one
-  pub named : (t : ℕ) → t < 65 → at (l .on) t ≢ 0 → R.Somewhere t (chainsOf l)
-  named t b n = ⊎-elim (λ q. absurd (n (q .0))) (λ q. (at (l .on) t, q .2)) (h .task t (omega arith))
+  -- a task names an anchor exactly when it is in a chain
+  pub named : (t : ℕ) → t < 65 → at (l .on) t ≢ 0 → R.Somewhere t shown
+  named t b n =
+      let s = at (l .on) t in
+      ⊎-elim (λ q. absurd (n (q .0)))
+      (λ q. (nameOf s, subst (λ (a : ℕ). In t (chainsOf l a)) (sym (name-anchor s (q .0) (q .1))) (q .2))) (h .task t (omega arith))
 
-  pub names : (t : ℕ) → R.Somewhere t (chainsOf l) → at (l .on) t ≢ 0
-  names t w = let s = seen t (w .0) (w .1) in λ q. omega (arith, s .1, s .2)
+  pub names : (t : ℕ) → R.Somewhere t shown → at (l .on) t ≢ 0
+  names t w = let k = seen t (w .0) (w .1) in λ q. omega (arith, k .1, k .2)
 
   pub chains-sound : (n : ℕ) (wakes states : List ℕ) → length states ≡ 65
       → ((t : ℕ) → t < 65 → (getD states t 0 ≡ 2) ↔ (at (l .on) t ≢ 0))
-      → risingb (at wakes) (n + 1) (chainsOf l timeChain) ≡ true
-      → R.Chains n wakes (chainsOf l) states
+      → risingb (at wakes) (n + 1) (shown timeChain) ≡ true
+      → R.Chains n wakes shown states
   chains-sound n wakes states z w e =
-      let k = rising-sorted (at wakes) (n + 1) (chainsOf l timeChain) e in
+      let k = rising-sorted (at wakes) (n + 1) (shown timeChain) e in
       record {
         listed =
             record {
@@ -132,8 +141,8 @@ module _ (l : Links) (h : Held l (chainsOf l)) where
               two = λ t s. w t (omega (arith, seen t (s .0) (s .1) .0)) .1 (names t s);
             };
         apart = seen-apart;
-        once = seen-once;
-        only = λ t c i. let s = seen t c i in (omega (arith, s .2), omega (arith, s .3));
+        once = λ c. seen-once (anchorOf c);
+        only = λ t c i. anchor-chain c (seen t c i .2);
         ordered = k .0;
         ahead = λ t i. omega (arith, k .1 t i);
       }
@@ -141,14 +150,14 @@ module _ (l : Links) (h : Held l (chainsOf l)) where
       waiting : (t : ℕ) → getD states t 0 ≡ 2 → t < 65
       waiting t q = omega (arith, has-place states t (λ y. omega (arith, q, y)))
 
-  pub waits-agree : (n : ℕ) (wakes states : List ℕ) → R.Chains n wakes (chainsOf l) states
+  pub waits-agree : (n : ℕ) (wakes states : List ℕ) → R.Chains n wakes shown states
       → (t : ℕ) → t < 65 → (getD states t 0 ≡ 2) ↔ (at (l .on) t ≢ 0)
   waits-agree n wakes states c t b = ((λ e. names t (c .listed .there t e)), (λ m. c .listed .two t (named t b m)))
 
 -- ---- the time chain's test
 
 module _ (count : ℕ) (wake : List ℕ) (l : Links) (h : L.HoldsChains l) (b : Bool) (e : b ≡ risingb (at wake) (count + 1) (chainAt l 65)) where
-  is : b ≡ risingb (at wake) (count + 1) (chainsOf l 65)
+  is : b ≡ risingb (at wake) (count + 1) (byName (chainsOf l) timeChain)
   is = e ∙ ap (risingb (at wake) (count + 1)) (sym (chains-at l 65 (omega arith) (omega arith)))
 
   pub order-facts : Sized l → b ≡ true → ChainsSound count wake l
@@ -224,7 +233,7 @@ sound-order g cycles s h =
       sized = h .sized;
       links = h .links;
       order =
-          sorted-rising (at (s .wake)) (s .count + 1) (chainsOf (s .links) 65) (h .state .chains .ordered)
+          sorted-rising (at (s .wake)) (s .count + 1) (byName (chainsOf (s .links)) timeChain) (h .state .chains .ordered)
           (λ a i. omega (arith, h .state .chains .ahead a i));
     }
 

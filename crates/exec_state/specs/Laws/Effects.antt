@@ -10,6 +10,7 @@ use Rattle.chains.specs.Held.{at, Empty, Sized}
 use Rattle.chains.specs.Read.{chainsOf}
 use Rattle.chains.specs.Laws.Read.{held-chains}
 use Rattle.chains.specs.declared.Links.{Links}
+use Rattle.exec_family.specs.Anchors.{byName}
 use Rattle.exec_family.specs.Post.{Left, Deserted}
 use Rattle.exec_queue.specs.Post.{Pushed}
 use Rattle.exec_queue.specs.View.{entriesOf}
@@ -17,7 +18,7 @@ use Rattle.exec_queue.specs.declared.Queue.{Queue}
 use Rattle.rig.specs.declared.Cycle.{Cycle}
 use Rattle.rig.specs.declared.Rig.{Rig}
 use Rattle.rules.specs.State as S
-use Rattle.rules.specs.State.{Entry, withTables, withChains, blank}
+use Rattle.rules.specs.State.{Chain, Entry, withTables, withChains, blank}
 use Rattle.rules.specs.Conditions.{relax, met}
 use Rattle.rules.specs.Serving.{push, activate}
 use Rattle.rules.specs.Running.{chosen, dispatch}
@@ -49,7 +50,7 @@ terminated-is s g t q e l m =
     record {
       is = λ cycles.
           ap (λ (x : List Entry). record { now = viewOf (putLinks (putState s (set (s .state) t 1)) l); queue = x }) e
-          ∙ ap (λ (X : ℕ → List ℕ). record { now = withChains (viewOf s) (set (s .state) t 1) X; queue = push (at (g .activation) t) 0 [] }) (m .is);
+          ∙ ap (λ (X : Chain → List ℕ). record { now = withChains (viewOf s) (set (s .state) t 1) X; queue = push (at (g .activation) t) 0 [] }) (m .is);
       sound = m .sound;
     }
 
@@ -61,9 +62,9 @@ cancelled-is s g t marks k q e l m states c =
     record {
       is = λ cycles.
           ap (λ (x : List Entry). record { now = viewOf (putLinks (putState s states) l); queue = x }) e
-          ∙ ap (λ (X : ℕ → List ℕ). record { now = withChains (viewOf s) states X; queue = offs (at (g .activation)) marks (s .state) }) (m .is)
-          ∙ ap (λ (x : List ℕ). record { now = withChains (viewOf s) x (deserted marks (chainsOf (s .links))); queue = offs (at (g .activation)) marks (s .state) }) c
-          ∙ ap (λ (x : List ℕ). record { now = withChains (viewOf s) (cleared x (s .state)) (deserted x (chainsOf (s .links))); queue = offs (at (g .activation)) x (s .state) }) k;
+          ∙ ap (λ (X : Chain → List ℕ). record { now = withChains (viewOf s) states X; queue = offs (at (g .activation)) marks (s .state) }) (m .is)
+          ∙ ap (λ (x : List ℕ). record { now = withChains (viewOf s) x (deserted marks (byName (chainsOf (s .links)))); queue = offs (at (g .activation)) marks (s .state) }) c
+          ∙ ap (λ (x : List ℕ). record { now = withChains (viewOf s) (cleared x (s .state)) (deserted x (byName (chainsOf (s .links)))); queue = offs (at (g .activation)) x (s .state) }) k;
       sound = m .sound;
     }
 
@@ -122,7 +123,7 @@ blank-is l h =
     record {
       is = ap
           (λ (X : ℕ → List ℕ).
-          record { count = 0; flags = replicate 129 0; conds = replicate 1040 0; states = replicate 65 0; wakes = replicate 65 0; chains = X; running = 0 })
+          record { count = 0; flags = replicate 129 0; conds = replicate 1040 0; states = replicate 65 0; wakes = replicate 65 0; chains = byName X; running = 0 })
           (held-chains l (λ (s : ℕ). []) h (λ s e. refl));
       sound = ((λ (s : ℕ). []), h);
     }

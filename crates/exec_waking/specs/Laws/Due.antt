@@ -18,13 +18,15 @@ use Rattle.chains.specs.Held.{at, HoldsChains, Leaves}
 use Rattle.chains.specs.Link.{first}
 use Rattle.chains.specs.Laws.Front.{Leaving, leaving-start, leaving-step, left-start, left-step}
 use Rattle.chains.specs.Read.{chainsOf}
-use Rattle.chains.specs.Laws.Read.{sound-chains, held-chains, only-of, only-upd}
+use Rattle.chains.specs.Laws.Read.{sound-chains}
 use Rattle.chains.specs.declared.Links.{Links}
+use Rattle.exec_family.specs.Anchors.{byName}
+use Rattle.exec_family.specs.Laws.Anchors.{named-put}
 use Rattle.exec_queue.specs.View.{entriesOf, minorOf}
 use Rattle.exec_queue.specs.declared.Queue.{Queue}
 use Rattle.rig.specs.declared.Cycle.{Cycle}
 use Rattle.rules.specs.State as S
-use Rattle.rules.specs.State.{Entry, withChains, withCount}
+use Rattle.rules.specs.State.{Chain, timeChain, withChain, Entry, withChains, withCount}
 use Rattle.rules.specs.Serving.{rouse}
 use Rattle.rules.specs.Waiting.{isDue, wakeDue}
 use Rattle.rules.specs.Calls.{ticked, cycleQueue}
@@ -135,12 +137,12 @@ module _ (e : State) where
         let g = none-due W (e .count) ys (first-later W (e .count) v 65 ys (w .ordered) own (w .leaving .front) b) in
         let r : rest W (e .count) (X 65) ≡ ys = w .stays ∙ g .1 in
         let l : rouse (due W (e .count) (X 65)) (e .state) ≡ q .state = w .states ∙ ap (λ (xs : List ℕ). rouse xs (q .state)) (g .0) in
-        let c : chainsOf k ≡ upd X 65 ys = held-chains k (upd X 65 ys) (w .leaving .held) (only-upd X 65 ys low high (only-of (e .links))) in
+        let c : byName (chainsOf k) ≡ withChain (byName X) timeChain ys = named-put timeChain tt ys (e .links) k (w .leaving .held) in
         record {
           is =
               ap (λ (x : State). viewOf (putLinks x k)) (w .kept)
-              ∙ ap (λ (xs : List ℕ). withChains (viewOf e) xs (chainsOf k)) (sym l)
-              ∙ ap (λ (Y : ℕ → List ℕ). withChains (viewOf e) (rouse (due W (e .count) (X 65)) (e .state)) Y) (c ∙ ap (upd X 65) (sym r));
+              ∙ ap (λ (xs : List ℕ). withChains (viewOf e) xs (byName (chainsOf k))) (sym l)
+              ∙ ap (λ (Y : Chain → List ℕ). withChains (viewOf e) (rouse (due W (e .count) (X 65)) (e .state)) Y) (c ∙ ap (withChain (byName X) timeChain) (sym r));
           sound = (upd X 65 ys, w .leaving .held);
         }
 

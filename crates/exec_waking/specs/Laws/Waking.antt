@@ -1,16 +1,19 @@
 -- All who wait in a chain become dispatchable: the loop, turn by turn.
-use mathlib.Core.Path.{_≡_, sym, _∙_, ap}
+use mathlib.Core.Path.{_≡_, sym, _∙_, ap, subst}
 use mathlib.Core.Logic.{_≢_}
 use mathlib.Core.List.{List, []}
 use Prim.Native.Nat.{ℕ, _<_}
+use native.Mathlib.Omega.{arith}
 use lib.ListN.{set}
 use Rattle.laws.specs.Functions.{upd}
 use Rattle.chains.specs.Held.{at, Held, HoldsChains, Leaves}
 use Rattle.chains.specs.Laws.Front.{Leaving, leaving-start, leaving-step, leaving-none, left-start, left-step, left-none}
 use Rattle.chains.specs.Read.{chainsOf}
-use Rattle.chains.specs.Laws.Read.{sound-chains, held-chains, only-of, only-upd}
+use Rattle.chains.specs.Laws.Read.{sound-chains}
 use Rattle.chains.specs.declared.Links.{Links}
-use Rattle.rules.specs.State.{withChains}
+use Rattle.exec_family.specs.Anchors.{anchorOf, byName}
+use Rattle.exec_family.specs.Laws.Anchors.{anchor-chain, named-put}
+use Rattle.rules.specs.State.{Chain, withChain, withChains}
 use Rattle.rules.specs.Serving.{rouse, wake}
 use Rattle.exec_state.specs.View.{viewOf}
 use Rattle.exec_waking.specs.Post.{Awoken}
@@ -43,15 +46,16 @@ module _ (s : ℕ) (ls : 64 < s) (hs : s < 322) (l : Links) (a : List ℕ) where
 
   pub waking-done : (b : List ℕ) (k : Links) (v : ℕ) → Waking l a s b k v → v ≡ s → Awoken l a s k b
   unfolding rouse wake X
-  waking-done b k v w d e =
+  waking-done b k v w d e c q =
       let h : Held k (upd X s []) = leaving-none s ls hs X k v (w .leaving) d in
-      let c : chainsOf k ≡ upd X s [] = held-chains k (upd X s []) h (only-upd X s [] ls hs (only-of l)) in
-      let r : rouse (X s) a ≡ b =
-      w .states ∙ ap (λ (ys : List ℕ). rouse ys b) (left-none s ls hs X k v (w .leaving) d) in
+      let n : byName (chainsOf k) ≡ withChain (byName X) c [] =
+      named-put c (anchor-chain c (omega (arith, ls, q))) [] l k (subst (λ (x : ℕ). Held k (upd X x [])) (sym q) h) in
+      let r : rouse (X (anchorOf c)) a ≡ b =
+      ap (λ (x : ℕ). rouse (X x) a) q ∙ w .states ∙ ap (λ (ys : List ℕ). rouse ys b) (left-none s ls hs X k v (w .leaving) d) in
       record {
         is =
-            ap (λ (ys : List ℕ). withChains (viewOf e) ys (chainsOf k)) (sym r)
-            ∙ ap (λ (Y : ℕ → List ℕ). withChains (viewOf e) (rouse (X s) a) Y) c;
+            ap (λ (ys : List ℕ). withChains (viewOf e) ys (byName (chainsOf k))) (sym r)
+            ∙ ap (λ (Y : Chain → List ℕ). withChains (viewOf e) (rouse (X (anchorOf c)) a) Y) n;
         sound = (upd X s [], h);
       }
 
