@@ -13,8 +13,8 @@ use borrow.Author.Tests.{eq-eqb, ne-eqb}
 use Rattle.laws.specs.Cases.{if-yes, if-no}
 use Rattle.text.specs.Split.{part}
 use Rattle.bench_script.specs.Input.{rigEnd}
-use Rattle.bench_script.specs.Wrote.{Wrote}
-use Rattle.bench_script.specs.Laws.Wrote.{wrote-then, wrote-as, wrote-none, wrote-same}
+use Rattle.put_text.specs.Wrote.{Wrote}
+use Rattle.put_text.specs.Laws.Wrote.{wrote-then, wrote-as, wrote-none, wrote-same}
 use Rattle.rig_build.specs.declared.Answer.{Answer}
 use Rattle.rig_build.specs.Read.{readOf}
 use Rattle.rig_shapes.specs.Shape.{reasonOf}

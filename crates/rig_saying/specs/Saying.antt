@@ -12,7 +12,7 @@ use Rattle.rig_build.specs.declared.Answer.{Answer}
 use Rattle.rig_build.specs.Read.{readOf}
 use Rattle.text.specs.Split.{part}
 use Rattle.bench_script.specs.Input.{rigEnd}
-use Rattle.bench_script.specs.Wrote.{Wrote}
+use Rattle.put_text.specs.Wrote.{Wrote}
 use Rattle.rig_shapes.specs.Shape.{reasonOf}
 use Rattle.rig_culprits.specs.declared.Culprit.{Culprit}
 use Rattle.rig_culprits.specs.Culprits.{culpritOf, aLineOfTheFile, aTask}

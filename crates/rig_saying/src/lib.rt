@@ -4,7 +4,7 @@ mod counts;
 ghost use mathlib.Core.Path.{_≡_};
 ghost use Prim.Native.Nat.{_+_, _≤_};
 ghost use lib.ListN.{length};
-ghost use Rattle.bench_script.specs.Wrote.{Wrote};
+ghost use Rattle.put_text.specs.Wrote.{Wrote};
 ghost use Rattle.rig_saying.specs.Saying.{lineText, headText, culpritText, whyText, refusedText, rightText, rigPart, Said, CountsOf};
 
 // More than the longest saying has.

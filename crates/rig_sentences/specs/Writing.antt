@@ -1,7 +1,7 @@
 -- Numbers and counts as they are said; and laws of texts that are written one behind the other.
 -- Assumes nothing.
 use Prim.Native.Nat.{ℕ, _+_, _≤_, _<_}
-use mathlib.Core.Path.{_≡_, refl, sym, ap, subst, _∙_}
+use mathlib.Core.Path.{_≡_, sym, subst}
 use mathlib.Core.Bool.{Bool, true, false, cond}
 use mathlib.Core.List.{List, [], _++_}
 use native.Mathlib.Omega.{arith}
@@ -9,11 +9,9 @@ use lib.Dec.{eqb, ltb}
 use lib.ListN.{length, length-append}
 use borrow.Author.Tests.{lt-ltb, le-ltb}
 use Rattle.laws.specs.Cases.{by}
-use Rattle.laws.specs.Put.{put}
-use Rattle.laws.specs.Laws.Put.{length-put}
 use Rattle.decimal.specs.Decimal.{cap, dec}
-use Rattle.bench_script.specs.Wrote.{Wrote}
-use Rattle.bench_script.specs.Laws.Wrote.{wrote-then, wrote-as, wrote-none}
+use Rattle.put_text.specs.Wrote.{Wrote}
+use Rattle.put_text.specs.Laws.Wrote.{wrote-then, wrote-as, wrote-none}
 use Rattle.bench_script.specs.Laws.Written.{dec-length}
 
 -- a number in decimal; one of more than ten digits, to which no file leads, is left out
@@ -30,10 +28,6 @@ pub number-length : (n : ℕ) → length (numberText n) ≤ 10
 unfolding numberText
 number-length n = by (ltb n cap) (λ e. rw e (dec-length n)) (λ e. rw e (omega arith))
 
--- a text was put
-pub put-wrote : (l m t : List ℕ) (at p : ℕ) → at + length t ≤ length l → p ≡ at + length t → m ≡ put l at t → Wrote l at t m p
-put-wrote l m t at p h e q = record { place = e; text = q; size = ap length q ∙ length-put l at t h }
-
 pub number-wrote : (l m : List ℕ) (at n p : ℕ) → n < cap → Wrote l at (dec n) m p → Wrote l at (numberText n) m p
 unfolding numberText
 number-wrote l m at n p h w = rw (lt-ltb n cap h) w
@@ -41,10 +35,6 @@ number-wrote l m at n p h w = rw (lt-ltb n cap h) w
 pub number-left : (l : List ℕ) (at n : ℕ) → cap ≤ n → Wrote l at (numberText n) l at
 unfolding numberText
 number-left l at n h = rw (le-ltb n cap h) (wrote-none l at)
-
--- the room that is left behind what was written
-pub room-left : (l m t : List ℕ) (at p k n : ℕ) → Wrote l at t m p → length t ≤ k → at + (k + n) ≤ length l → p + n ≤ length m
-room-left l m t at p k n w h r = omega (arith, w .place, w .size)
 
 counted-is : (lead : List ℕ) (n : ℕ) (one more : List ℕ) (b : Bool) → eqb n 1 ≡ b → (lead ++ numberText n) ++ cond b one more ≡ countedText lead n one more
 unfolding countedText

@@ -1,7 +1,7 @@
 // Which sentence is said: by the reason of a wrong shape, by the refusal of a line or of the length, by the rule.
 ghost use Prim.Native.Nat.{_+_, _≤_};
 ghost use lib.ListN.{length};
-ghost use Rattle.bench_script.specs.Wrote.{Wrote};
+ghost use Rattle.put_text.specs.Wrote.{Wrote};
 ghost use Rattle.rig_sentences.specs.Sentences.{shapeSentence, lineSentence, ruleSentence};
 use crate::sentences;
 

@@ -2,7 +2,7 @@ use mathlib.Core.Path.{sym, refl}
 use borrow.Author.Tests.{eq-eqb, ne-eqb}
 use Rattle.laws.specs.Cases.{if-yes, if-no}
 use Rattle.rig_sentences.specs.Sentences.{lineSentence}
-use Rattle.bench_script.specs.Laws.Wrote.{wrote-as}
+use Rattle.put_text.specs.Laws.Wrote.{wrote-as}
 use borrow.Author.Needs.{needs}
 use Rattle.rig_sentences.proofs.choice.of_line.Statement.{statement}
 use Rattle.rig_sentences.proofs.choice.of_line.Tie as tie

@@ -1,6 +1,6 @@
 use native.Mathlib.Omega.{arith}
 use Rattle.rig_sentences.specs.Sentences.{shapeSentence, no-other-shape}
-use Rattle.bench_script.specs.Laws.Wrote.{wrote-as}
+use Rattle.put_text.specs.Laws.Wrote.{wrote-as}
 use Rattle.rig_sentences.specs.Writing.{chosen}
 use borrow.Author.Needs.{needs}
 use Rattle.rig_sentences.proofs.choice.of_shape.Statement.{statement}

@@ -1,7 +1,6 @@
 use native.Mathlib.Omega.{arith}
-use Rattle.decimal.specs.Decimal.{dec}
 use Rattle.bench_script.specs.Laws.Written.{dec-length}
-use Rattle.rig_sentences.specs.Writing.{put-wrote, number-wrote, number-left}
+use Rattle.rig_sentences.specs.Writing.{number-wrote, number-left}
 use borrow.Author.Needs.{needs}
 use Rattle.rig_sentences.proofs.writing.put_number.Statement.{statement}
 use Rattle.rig_sentences.proofs.writing.put_number.Tie as tie
@@ -17,9 +16,8 @@ same-length c = search needs
 returns : tie.Need-returns
 returns c =
     let a = c .before .before .before .before .before .before .args in
-    let d = dec-length (a .n) in
     let w = c .before .before .put-number in
-    number-wrote _ _ _ (a .n) _ (c .before .before .before .before .if1 .taken) (put-wrote (a .out .now) (w .last .0) (dec (a .n)) (a .at) (w .result) (omega (arith, d, c .before .before .before .before .before .before .pre)) (w .ensures .0) (w .ensures .1))
+    number-wrote _ _ _ (a .n) _ (c .before .before .before .before .if1 .taken) (w .ensures)
 
 returns-2 : tie.Need-returns-2
 returns-2 c = number-left (c .before .before .args .out .now) (c .before .before .args .at) (c .before .before .args .n) (c .if1 .left)
