@@ -16,9 +16,10 @@ use Rattle.put_text.specs.Wrote.{Wrote}
 use Rattle.rig_shapes.specs.Shape.{reasonOf}
 use Rattle.rig_culprits.specs.declared.Culprit.{Culprit}
 use Rattle.rig_culprits.specs.Culprits.{culpritOf, aLineOfTheFile, aTask}
-use Rattle.rig_sentences.specs.Sentences.{refusedByText, atLineText, colonText, culpritLineText, culpritTaskText, endText, shapeSentence, lineSentence, ruleSentence}
-use Rattle.rig_sentences.specs.Writing.{numberText}
-use Rattle.rig_sentences.specs.Counts.{tasksText, flagsText, conditionsText, rowsText}
+use Rattle.rig_phrases.specs.Phrases.{refusedByText, atLineText, colonText, culpritLineText, culpritTaskText, endText}
+use Rattle.rig_sentences.specs.Sentences.{shapeSentence, lineSentence, ruleSentence}
+use Rattle.rig_phrases.specs.Writing.{numberText}
+use Rattle.rig_phrases.specs.Counts.{tasksText, flagsText, conditionsText, rowsText}
 
 -- ---- a file that is right
 

@@ -1,3 +1,2 @@
 pub mod Sentences
-pub mod Writing
-pub mod Counts
+pub mod Laws

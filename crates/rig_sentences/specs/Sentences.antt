@@ -1,33 +1,10 @@
 -- THE SENTENCES that are said of a refused rig file: one table.
 use Prim.Native.Nat.{ℕ}
-use mathlib.Core.Path.{_≡_}
-use mathlib.Core.Logic.{_≢_}
 use mathlib.Core.Bool.{cond}
 use mathlib.Core.List.{List}
 use lib.Dec.{eqb}
-use borrow.Author.Tests.{ne-eqb}
 use Rattle.put_text.specs.Text.{ascii}
 use Rattle.rig_shapes.specs.Shape.{emptyFile, noLineEnd, byteOrderMark, carriageReturn, emptyLine, space, unknownKind, tooFewFields, tooManyFields, spareZero}
-
--- ---- around the sentences
-
-abbrev pub refusedByText : List ℕ
-refusedByText = ascii "refused by "
-
-abbrev pub atLineText : List ℕ
-atLineText = ascii " at line "
-
-abbrev pub colonText : List ℕ
-colonText = ascii ": "
-
-abbrev pub culpritLineText : List ℕ
-culpritLineText = ascii ": line "
-
-abbrev pub culpritTaskText : List ℕ
-culpritTaskText = ascii ": task "
-
-abbrev pub endText : List ℕ
-endText = ascii ".\n"
 
 -- ---- refusal 1: why the line has the wrong shape
 
@@ -149,15 +126,3 @@ ruleSentence rule =
     (cond (eqb rule 25) noALineText
     (cond (eqb rule 26) minorConditionText
     (cond (eqb rule 27) sameAddressText otherRuleText)))))))))))
-
--- ---- laws: a number that the tables do not have
-
-pub no-other-shape : (n : ℕ) → n ≢ 1 → n ≢ 2 → n ≢ 3 → n ≢ 4 → n ≢ 5 → n ≢ 6 → n ≢ 7 → n ≢ 8 → n ≢ 9 → n ≢ 10 → noDecimalText ≡ shapeSentence n
-unfolding shapeSentence
-no-other-shape n a1 a2 a3 a4 a5 a6 a7 a8 a9 a10 =
-    rw (ne-eqb n 1 a1, ne-eqb n 2 a2, ne-eqb n 3 a3, ne-eqb n 4 a4, ne-eqb n 5 a5, ne-eqb n 6 a6, ne-eqb n 7 a7, ne-eqb n 8 a8, ne-eqb n 9 a9, ne-eqb n 10 a10)
-
-pub no-other-rule : (n : ℕ) → n ≢ 1 → n ≢ 2 → n ≢ 3 → n ≢ 4 → n ≢ 5 → n ≢ 21 → n ≢ 22 → n ≢ 23 → n ≢ 24 → n ≢ 25 → n ≢ 26 → n ≢ 27 → otherRuleText ≡ ruleSentence n
-unfolding ruleSentence
-no-other-rule n a1 a2 a3 a4 a5 a21 a22 a23 a24 a25 a26 a27 =
-    rw (ne-eqb n 1 a1, ne-eqb n 2 a2, ne-eqb n 3 a3, ne-eqb n 4 a4, ne-eqb n 5 a5, ne-eqb n 21 a21, ne-eqb n 22 a22, ne-eqb n 23 a23, ne-eqb n 24 a24, ne-eqb n 25 a25, ne-eqb n 26 a26, ne-eqb n 27 a27)

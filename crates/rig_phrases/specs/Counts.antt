@@ -2,7 +2,7 @@
 use Prim.Native.Nat.{ℕ}
 use mathlib.Core.List.{List}
 use Rattle.put_text.specs.Text.{ascii}
-use Rattle.rig_sentences.specs.Writing.{countedText}
+use Rattle.rig_phrases.specs.Writing.{countedText}
 
 abbrev pub tasksText : ℕ → List ℕ
 tasksText n = countedText (ascii "right: ") n (ascii " task") (ascii " tasks")

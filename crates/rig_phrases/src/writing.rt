@@ -3,7 +3,7 @@ use put_text::put_text;
 ghost use Prim.Native.Nat.{_+_, _≤_};
 ghost use lib.ListN.{length};
 ghost use Rattle.put_text.specs.Wrote.{Wrote};
-ghost use Rattle.rig_sentences.specs.Writing.{numberText, countedText};
+ghost use Rattle.rig_phrases.specs.Writing.{numberText, countedText};
 
 // A number in decimal. One of more than ten digits, to which no file leads, is left out.
 pub fn put_number(out: &mut [u8], at: usize, n: u64) -> usize

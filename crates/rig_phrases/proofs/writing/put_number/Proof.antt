@@ -1,9 +1,9 @@
 use native.Mathlib.Omega.{arith}
 use Rattle.bench_script.specs.Laws.Written.{dec-length}
-use Rattle.rig_sentences.specs.Writing.{number-wrote, number-left}
+use Rattle.rig_phrases.specs.Writing.{number-wrote, number-left}
 use borrow.Author.Needs.{needs}
-use Rattle.rig_sentences.proofs.writing.put_number.Statement.{statement}
-use Rattle.rig_sentences.proofs.writing.put_number.Tie as tie
+use Rattle.rig_phrases.proofs.writing.put_number.Statement.{statement}
+use Rattle.rig_phrases.proofs.writing.put_number.Tie as tie
 
 put-number-requires : tie.Need-put-number-requires
 put-number-requires c κs =

@@ -1,9 +1,9 @@
 use native.Mathlib.Omega.{arith}
 use borrow.Author.Tests.{eq-eqb, ne-eqb}
-use Rattle.rig_sentences.specs.Writing.{number-length, counted-one, counted-more}
+use Rattle.rig_phrases.specs.Writing.{number-length, counted-one, counted-more}
 use borrow.Author.Needs.{needs}
-use Rattle.rig_sentences.proofs.writing.put_counted.Statement.{statement}
-use Rattle.rig_sentences.proofs.writing.put_counted.Tie as tie
+use Rattle.rig_phrases.proofs.writing.put_counted.Statement.{statement}
+use Rattle.rig_phrases.proofs.writing.put_counted.Tie as tie
 
 put-text-requires : tie.Need-put-text-requires
 put-text-requires c κs = search needs

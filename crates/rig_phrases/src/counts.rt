@@ -3,7 +3,7 @@ use crate::writing::put_counted;
 ghost use Prim.Native.Nat.{_+_, _≤_};
 ghost use lib.ListN.{length};
 ghost use Rattle.put_text.specs.Wrote.{Wrote};
-ghost use Rattle.rig_sentences.specs.Counts.{tasksText, flagsText, conditionsText, rowsText};
+ghost use Rattle.rig_phrases.specs.Counts.{tasksText, flagsText, conditionsText, rowsText};
 
 pub fn tasks(out: &mut [u8], at: usize, n: u64) -> usize
     requires { ⌜ at + 64 ≤ length (now out) ⌝ }
