@@ -1,7 +1,7 @@
 -- Numbers and counts as they are said; and laws of texts that are written one behind the other.
 -- Assumes nothing.
 use Prim.Native.Nat.{ℕ, _+_, _≤_, _<_}
-use mathlib.Core.Path.{_≡_}
+use mathlib.Core.Path.{_≡_, sym, subst}
 use mathlib.Core.Bool.{Bool, true, false, cond}
 use mathlib.Core.List.{List, [], _++_}
 use native.Mathlib.Omega.{arith}
@@ -65,3 +65,7 @@ counted-length lead n one more a b c =
     by (eqb n 1)
     (λ e. rw e (let k = length-append (lead ++ numberText n) one in omega (arith, k)))
     (λ e. rw e (let k = length-append (lead ++ numberText n) more in omega (arith, k)))
+
+-- a text that is chosen by a number
+pub chosen : (f : ℕ → List ℕ) (l m : List ℕ) (at p n k : ℕ) → n ≡ k → Wrote l at (f k) m p → Wrote l at (f n) m p
+chosen f l m at p n k e w = subst (λ (x : ℕ). Wrote l at (f x) m p) (sym e) w

@@ -21,7 +21,8 @@ use Rattle.rig_shapes.specs.Shape.{reasonOf}
 use Rattle.rig_culprits.specs.declared.Culprit.{Culprit}
 use Rattle.rig_culprits.specs.Culprits.{culpritOf}
 use Rattle.rig_phrases.specs.Phrases.{refusedByText, atLineText, colonText, culpritLineText, culpritTaskText, endText}
-use Rattle.rig_sentences.specs.Sentences.{shapeSentence, lineSentence, ruleSentence}
+use Rattle.rig_line_sentences.specs.Sentences.{shapeSentence, lineSentence}
+use Rattle.rig_rule_sentences.specs.Sentences.{ruleSentence}
 use Rattle.rig_phrases.specs.Writing.{numberText, number-length, counted-length}
 use Rattle.rig_phrases.specs.Counts.{tasksText, flagsText, conditionsText, rowsText}
 use Rattle.rig_saying.specs.Saying.{countTo, conditionCount, lineText, headText, culpritText, whyText, refusedText, rightText, answered, sayingOf, rigPart, Said, CountsOf}

@@ -54,15 +54,15 @@ fn why(out: &mut [u8], at: usize, file: &[u8], number: u8, line: usize, rule: u1
     ensures { λ r. ⌜ Wrote (now (out .entry)) at (whyText (now (file .entry)) number line rule) (now (out .exit)) r ⌝ }
 {
     if number == 4 {
-        let a = rig_sentences::of_rule(&mut *out, at, rule);
+        let a = rig_rule_sentences::of_rule(&mut *out, at, rule);
         let who = rig_culprits::culprit_of(file, rule);
         return culprit(out, a, who);
     }
     if number == 1 {
         let reason = rig_shapes::reason(file, line);
-        return rig_sentences::of_shape(out, at, reason);
+        return rig_line_sentences::of_shape(out, at, reason);
     }
-    rig_sentences::of_line(out, at, number, line)
+    rig_line_sentences::of_line(out, at, number, line)
 }
 
 fn refused(out: &mut [u8], file: &[u8], number: u8, line: usize, rule: u16) -> usize
