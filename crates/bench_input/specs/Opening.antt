@@ -8,7 +8,7 @@ use lib.Dec.{eqb}
 use lib.ListN.{length, take, drop}
 use Rattle.bench_script.specs.Letters.{lf}
 use Rattle.bench_script.specs.Input.{isRun}
-use Rattle.bench_script.specs.Wrote.{Wrote}
+use Rattle.put_text.specs.Wrote.{Wrote}
 use Rattle.bench_input.specs.declared.Kept.{Kept}
 
 -- the line RUN has three letters and LF

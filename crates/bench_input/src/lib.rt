@@ -3,7 +3,7 @@ use bench_script::LF;
 ghost use mathlib.Core.Path.{_≡_};
 ghost use Prim.Native.Nat.{_≤_, _<_};
 ghost use lib.ListN.{length, take};
-ghost use Rattle.bench_script.specs.Wrote.{Wrote};
+ghost use Rattle.put_text.specs.Wrote.{Wrote};
 ghost use Rattle.bench_input.specs.Opening.{full, runEnds, lineStart, Scans};
 ghost use Rattle.bench_input.specs.Line.{lineRoom, lastText, lineNumber, Holds};
 

@@ -1,6 +1,7 @@
 // Standard input and output that may fail, be interrupted or have to wait.
 use libc::EAGAIN;
 use libc::EINTR;
+ghost use Prim.Native.Nat.{_≤_};
 ghost use lib.ListN.{length};
 ghost use Rattle.bench_io.specs.Brought.{Brings};
 
@@ -46,23 +47,25 @@ pub fn read_in(fd: i32, input: &mut [u8]) -> Input
     Input::Failed
 }
 
-// Every byte is written, once and in order; or a write fails, which errno names.
-pub fn write_out(fd: i32, out: &[u8]) -> bool {
+// How many of the bytes went out, from the first on, each once. They are fewer than all only where a write failed, which errno names.
+pub fn write_out(fd: i32, out: &[u8]) -> usize
+    ensures { λ r. ⌜ r ≤ length (now (out .entry)) ⌝ }
+{
     let mut turns = u64::MAX;
     let mut done: usize = 0;
     while done < out.len() {
         if turns == 0 {
-            return false;
+            return done;
         }
         turns -= 1;
         let rest = &out[done..];
         let put = libc::write(fd, rest);
         if put < 0 {
             if !again() {
-                return false;
+                return done;
             }
         }
         done += io::count(put, rest);
     }
-    true
+    done
 }

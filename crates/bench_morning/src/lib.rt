@@ -8,7 +8,7 @@ ghost use Prim.Native.Nat.{_≤_};
 ghost use lib.ListN.{length};
 ghost use Rattle.bench_script.specs.Letters.{startName};
 ghost use Rattle.bench_script.specs.Output.{startRoom, lineText, turnRoom};
-ghost use Rattle.bench_script.specs.Wrote.{Wrote};
+ghost use Rattle.put_text.specs.Wrote.{Wrote};
 ghost use Rattle.bench_morning.specs.Stream.{fresh, beginning, nothingMore, HoldsBy, HoldsIn};
 ghost use Rattle.bench_morning.specs.Laws.Steps.{Begins, Opens};
 ghost use Rattle.bench_morning.specs.declared.Phase.the-variants.{Opening};

@@ -1,6 +1,5 @@
 pub mod Letters
 pub mod Script
 pub mod Output
-pub mod Wrote
 pub mod Input
 pub mod Laws

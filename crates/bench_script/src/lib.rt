@@ -7,7 +7,7 @@ ghost use lib.ListN.{length};
 ghost use Rattle.bench_script.specs.Script.{verbOf, alone, withNumber, withValue, saidOf};
 ghost use Rattle.bench_script.specs.Output.{fieldsText, wrongText, fieldRoom, turnRoom};
 ghost use Rattle.bench_script.specs.Letters.{startName};
-ghost use Rattle.bench_script.specs.Wrote.{Wrote};
+ghost use Rattle.put_text.specs.Wrote.{Wrote};
 ghost use Rattle.bench_script.specs.Laws.Written.{Begun};
 ghost use Rattle.bench_script.specs.Input.{isRun, rigEnd};
 
@@ -223,10 +223,7 @@ pub fn put_wrong(out: &mut [u8], at: usize) -> usize
     requires { ⌜ at + 2 ≤ length (now out) ⌝ }
     ensures { λ r. ⌜ Wrote (now (out .entry)) at wrongText (now (out .exit)) r ⌝ }
 {
-    let a = at + 1;
-    out[at] = b'?';
-    out[a] = LF;
-    a + 1
+    put_text::put_text(out, at, b"?\n")
 }
 
 // The name of the first output line.
@@ -234,11 +231,7 @@ fn put_name(out: &mut [u8])
     requires { ⌜ 5 ≤ length (now out) ⌝ }
     ensures { λ r. ⌜ Wrote (now (out .entry)) 0 startName (now (out .exit)) 5 ⌝ }
 {
-    out[0] = b'S';
-    out[1] = b'T';
-    out[2] = b'A';
-    out[3] = b'R';
-    out[4] = b'T';
+    put_text::put_text(out, 0, b"START");
 }
 
 // The first output line of an accepted rig: 0, the count, the running task. It needs 64 bytes; with fewer nothing is written.

@@ -5,7 +5,7 @@ use mathlib.Core.Logic.{_⊎_}
 use mathlib.Core.List.{List}
 use lib.ListN.{length, take}
 use Rattle.bench_script.specs.Output.{turnRoom}
-use Rattle.bench_script.specs.Wrote.{Wrote}
+use Rattle.put_text.specs.Wrote.{Wrote}
 use Rattle.bench_morning.specs.Desk.{deskAfter, said, lastSaid}
 use Rattle.bench_morning.specs.Stream.{deskOf, HoldsIn}
 use Rattle.bench_morning.specs.declared.Stream.{Stream}

@@ -6,7 +6,7 @@ use mathlib.Core.List.{List}
 use lib.ListN.{length, take}
 use Rattle.exec.specs.Sound.{rigIn, view, SoundRecord}
 use Rattle.bench_script.specs.Output.{turnRoom}
-use Rattle.bench_script.specs.Wrote.{Wrote}
+use Rattle.put_text.specs.Wrote.{Wrote}
 use Rattle.bench_input.specs.Line.{lineRoom}
 use Rattle.bench_morning.specs.Desk.{talking, deskAfter, said}
 use Rattle.bench_morning.specs.declared.Stream.{Stream}

@@ -18,7 +18,7 @@ use Rattle.exec.specs.declared.Step.{Step}
 use Rattle.bench_script.specs.Script.{saidOf}
 use Rattle.bench_script.specs.Letters.{question, scheduleVerb, cancelVerb, terminateVerb, finishVerb, tickVerb, untilVerb, cyclesVerb, latchedVerb, unlatchedVerb, signalVerb, askVerb}
 use Rattle.bench_script.specs.Output.{lineText, wrongText, turnRoom}
-use Rattle.bench_script.specs.Wrote.{Wrote}
+use Rattle.put_text.specs.Wrote.{Wrote}
 use Rattle.bench_script.specs.declared.Said.{Said}
 use Rattle.bench_script.specs.declared.Said.the-variants.{Schedule, Cancel, Terminate, Finish, Tick, Until, Cycles, Latched, Unlatched, Signal, Ask, Wrong}
 use Rattle.bench_turn.specs.declared.Turn.{Turn}

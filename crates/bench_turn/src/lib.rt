@@ -8,7 +8,7 @@ use exec_state::State;
 ghost use mathlib.Core.Path.{_≡_};
 ghost use Prim.Native.Nat.{_+_, _≤_, _<_, min};
 ghost use lib.ListN.{length};
-ghost use Rattle.bench_script.specs.Wrote.{Wrote};
+ghost use Rattle.put_text.specs.Wrote.{Wrote};
 ghost use Rattle.bench_script.specs.Output.{fieldsText, turnRoom};
 ghost use Rattle.exec.specs.Call.{reportOf, answerOf, ProperAnswer};
 ghost use Rattle.bench_turn.specs.Turn.{letterOf, extraRoom, extra, textOf, wordsLent, Turns};

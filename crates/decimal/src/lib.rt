@@ -3,7 +3,7 @@ ghost use mathlib.Core.Path.{_≡_};
 ghost use Prim.Native.Nat.{_+_, _≤_, _<_};
 ghost use lib.ListN.{length};
 ghost use Rattle.decimal.specs.Decimal.{cap, readByte, number, dec};
-ghost use Rattle.laws.specs.Put.{put};
+ghost use Rattle.put_text.specs.Wrote.{Wrote};
 
 pub const CAP: u64 = 4294967296;
 
@@ -73,7 +73,7 @@ pub fn number_in(f: &[u8]) -> u64
 // Writes the decimal of `n` at `at`, and answers the place after it. It goes by the last digit, as the decimal is defined.
 pub fn put_number(buf: &mut [u8], at: usize, n: u64) -> usize
     requires { ⌜ (n < cap) × (at + length (dec n) ≤ length (now buf)) ⌝ }
-    ensures { λ r. ⌜ (r ≡ at + length (dec n)) × (now (buf .exit) ≡ put (now (buf .entry)) at (dec n)) ⌝ }
+    ensures { λ r. ⌜ Wrote (now (buf .entry)) at (dec n) (now (buf .exit)) r ⌝ }
 {
     if n < 10 {
         buf[at] = b'0' + (n as u8);

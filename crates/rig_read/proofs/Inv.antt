@@ -15,7 +15,7 @@ use mir.Val.{Fits}
 use mir.Syntax.{w8, w64}
 use Rattle.laws.specs.Cases.{by, and-no, and-true}
 use Rattle.laws.specs.Put.{put}
-use Rattle.laws.specs.Laws.Put.{length-put}
+use Rattle.laws.specs.Laws.Put.{length-put, put-none}
 use Rattle.laws.specs.Laws.Tables.{zeros-at}
 use Rattle.decimal.specs.Decimal.{cap, number}
 use Rattle.text.specs.Split.{split, part, rest}
@@ -26,7 +26,7 @@ use Rattle.rig_lines.specs.File.{Fault, fault, firstFault, faultOf, linesIn, li
 use Rattle.rig_lines.specs.Laws.Judged.{Faultless, judged-one, judged-two, judged-three, sound-judged, shaped-if, fits-small}
 use Rattle.rig_lines.specs.Laws.Order.{first-rig}
 use Rattle.rig_lines.specs.Laws.RoundTrip.{written, some-line}
-use Rattle.rig_lines.specs.Laws.Turns.{said, fault-line, lines-line, lines-end, end-clean, end-empty, end-open, rest-turn, decimals-turn, decimals-bad, put-turn, put-none, put-at, timed-same, rank-same}
+use Rattle.rig_lines.specs.Laws.Turns.{said, fault-line, lines-line, lines-end, end-clean, end-empty, end-open, rest-turn, decimals-turn, decimals-bad, put-turn, put-at, timed-same, rank-same}
 use Rattle.rig_held.specs.Held.{heldLine, held}
 use Rattle.rig_held.specs.Laws.Lines.{held-none, held-put, held-first, held-kind}
 

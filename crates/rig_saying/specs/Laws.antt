@@ -13,16 +13,18 @@ use borrow.Author.Tests.{eq-eqb, ne-eqb}
 use Rattle.laws.specs.Cases.{if-yes, if-no}
 use Rattle.text.specs.Split.{part}
 use Rattle.bench_script.specs.Input.{rigEnd}
-use Rattle.bench_script.specs.Wrote.{Wrote}
-use Rattle.bench_script.specs.Laws.Wrote.{wrote-then, wrote-as, wrote-none, wrote-same}
+use Rattle.put_text.specs.Wrote.{Wrote}
+use Rattle.put_text.specs.Laws.Wrote.{wrote-then, wrote-as, wrote-none, wrote-same}
 use Rattle.rig_build.specs.declared.Answer.{Answer}
 use Rattle.rig_build.specs.Read.{readOf}
 use Rattle.rig_shapes.specs.Shape.{reasonOf}
 use Rattle.rig_culprits.specs.declared.Culprit.{Culprit}
 use Rattle.rig_culprits.specs.Culprits.{culpritOf}
-use Rattle.rig_sentences.specs.Sentences.{refusedByText, atLineText, colonText, culpritLineText, culpritTaskText, endText, shapeSentence, lineSentence, ruleSentence}
-use Rattle.rig_sentences.specs.Writing.{numberText, number-length, counted-length}
-use Rattle.rig_sentences.specs.Counts.{tasksText, flagsText, conditionsText, rowsText}
+use Rattle.rig_phrases.specs.Phrases.{refusedByText, atLineText, colonText, culpritLineText, culpritTaskText, endText}
+use Rattle.rig_line_sentences.specs.Sentences.{shapeSentence, lineSentence}
+use Rattle.rig_rule_sentences.specs.Sentences.{ruleSentence}
+use Rattle.rig_phrases.specs.Writing.{numberText, number-length, counted-length}
+use Rattle.rig_phrases.specs.Counts.{tasksText, flagsText, conditionsText, rowsText}
 use Rattle.rig_saying.specs.Saying.{countTo, conditionCount, lineText, headText, culpritText, whyText, refusedText, rightText, answered, sayingOf, rigPart, Said, CountsOf}
 
 -- ---- lengths

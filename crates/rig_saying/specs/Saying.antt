@@ -12,13 +12,15 @@ use Rattle.rig_build.specs.declared.Answer.{Answer}
 use Rattle.rig_build.specs.Read.{readOf}
 use Rattle.text.specs.Split.{part}
 use Rattle.bench_script.specs.Input.{rigEnd}
-use Rattle.bench_script.specs.Wrote.{Wrote}
+use Rattle.put_text.specs.Wrote.{Wrote}
 use Rattle.rig_shapes.specs.Shape.{reasonOf}
 use Rattle.rig_culprits.specs.declared.Culprit.{Culprit}
 use Rattle.rig_culprits.specs.Culprits.{culpritOf, aLineOfTheFile, aTask}
-use Rattle.rig_sentences.specs.Sentences.{refusedByText, atLineText, colonText, culpritLineText, culpritTaskText, endText, shapeSentence, lineSentence, ruleSentence}
-use Rattle.rig_sentences.specs.Writing.{numberText}
-use Rattle.rig_sentences.specs.Counts.{tasksText, flagsText, conditionsText, rowsText}
+use Rattle.rig_phrases.specs.Phrases.{refusedByText, atLineText, colonText, culpritLineText, culpritTaskText, endText}
+use Rattle.rig_line_sentences.specs.Sentences.{shapeSentence, lineSentence}
+use Rattle.rig_rule_sentences.specs.Sentences.{ruleSentence}
+use Rattle.rig_phrases.specs.Writing.{numberText}
+use Rattle.rig_phrases.specs.Counts.{tasksText, flagsText, conditionsText, rowsText}
 
 -- ---- a file that is right
 

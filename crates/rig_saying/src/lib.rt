@@ -4,7 +4,7 @@ mod counts;
 ghost use mathlib.Core.Path.{_≡_};
 ghost use Prim.Native.Nat.{_+_, _≤_};
 ghost use lib.ListN.{length};
-ghost use Rattle.bench_script.specs.Wrote.{Wrote};
+ghost use Rattle.put_text.specs.Wrote.{Wrote};
 ghost use Rattle.rig_saying.specs.Saying.{lineText, headText, culpritText, whyText, refusedText, rightText, rigPart, Said, CountsOf};
 
 // More than the longest saying has.
@@ -16,11 +16,11 @@ fn line_part(out: &mut [u8], at: usize, line: usize) -> usize
     ensures { λ r. ⌜ Wrote (now (out .entry)) at (lineText line) (now (out .exit)) r ⌝ }
 {
     if line == 0 {
-        return rig_sentences::colon(out, at);
+        return rig_phrases::colon(out, at);
     }
-    let a = rig_sentences::at_line(&mut *out, at);
-    let b = rig_sentences::put_number(&mut *out, a, line as u64);
-    rig_sentences::colon(out, b)
+    let a = rig_phrases::at_line(&mut *out, at);
+    let b = rig_phrases::put_number(&mut *out, a, line as u64);
+    rig_phrases::colon(out, b)
 }
 
 // The refusal's number, and its line where it has one.
@@ -28,8 +28,8 @@ fn head(out: &mut [u8], number: u8, line: usize) -> usize
     requires { ⌜ 1024 ≤ length (now out) ⌝ }
     ensures { λ r. ⌜ Wrote (now (out .entry)) 0 (headText number line) (now (out .exit)) r ⌝ }
 {
-    let a = rig_sentences::refused_by(&mut *out, 0);
-    let b = rig_sentences::put_number(&mut *out, a, number as u64);
+    let a = rig_phrases::refused_by(&mut *out, 0);
+    let b = rig_phrases::put_number(&mut *out, a, number as u64);
     line_part(out, b, line)
 }
 
@@ -39,12 +39,12 @@ fn culprit(out: &mut [u8], at: usize, who: rig_culprits::Culprit) -> usize
     ensures { λ r. ⌜ Wrote (now (out .entry)) at (culpritText who) (now (out .exit)) r ⌝ }
 {
     if who.what == rig_culprits::LINE {
-        let a = rig_sentences::culprit_line(&mut *out, at);
-        return rig_sentences::put_number(out, a, who.number as u64);
+        let a = rig_phrases::culprit_line(&mut *out, at);
+        return rig_phrases::put_number(out, a, who.number as u64);
     }
     if who.what == rig_culprits::TASK {
-        let a = rig_sentences::culprit_task(&mut *out, at);
-        return rig_sentences::put_number(out, a, who.number as u64);
+        let a = rig_phrases::culprit_task(&mut *out, at);
+        return rig_phrases::put_number(out, a, who.number as u64);
     }
     at
 }
@@ -54,15 +54,15 @@ fn why(out: &mut [u8], at: usize, file: &[u8], number: u8, line: usize, rule: u1
     ensures { λ r. ⌜ Wrote (now (out .entry)) at (whyText (now (file .entry)) number line rule) (now (out .exit)) r ⌝ }
 {
     if number == 4 {
-        let a = rig_sentences::of_rule(&mut *out, at, rule);
+        let a = rig_rule_sentences::of_rule(&mut *out, at, rule);
         let who = rig_culprits::culprit_of(file, rule);
         return culprit(out, a, who);
     }
     if number == 1 {
         let reason = rig_shapes::reason(file, line);
-        return rig_sentences::of_shape(out, at, reason);
+        return rig_line_sentences::of_shape(out, at, reason);
     }
-    rig_sentences::of_line(out, at, number, line)
+    rig_line_sentences::of_line(out, at, number, line)
 }
 
 fn refused(out: &mut [u8], file: &[u8], number: u8, line: usize, rule: u16) -> usize
@@ -71,17 +71,17 @@ fn refused(out: &mut [u8], file: &[u8], number: u8, line: usize, rule: u16) -> u
 {
     let a = head(&mut *out, number, line);
     let b = why(&mut *out, a, file, number, line, rule);
-    rig_sentences::end(out, b)
+    rig_phrases::end(out, b)
 }
 
 fn right(out: &mut [u8], tasks: u64, flags: u64, conditions: u64, rows: u64) -> usize
     requires { ⌜ 1024 ≤ length (now out) ⌝ }
     ensures { λ r. ⌜ Wrote (now (out .entry)) 0 (rightText tasks flags conditions rows) (now (out .exit)) r ⌝ }
 {
-    let a = rig_sentences::tasks(&mut *out, 0, tasks);
-    let b = rig_sentences::flags(&mut *out, a, flags);
-    let c = rig_sentences::conditions(&mut *out, b, conditions);
-    rig_sentences::rows(out, c, rows)
+    let a = rig_phrases::tasks(&mut *out, 0, tasks);
+    let b = rig_phrases::flags(&mut *out, a, flags);
+    let c = rig_phrases::conditions(&mut *out, b, conditions);
+    rig_phrases::rows(out, c, rows)
 }
 
 // Says it: one line that begins with `right` or with `refused`, and its length. With less than ROOM bytes nothing is written.

@@ -2,7 +2,7 @@
 ghost use mathlib.Core.Path.{_≡_};
 ghost use Prim.Native.Nat.{_+_, _≤_, _<_};
 ghost use lib.ListN.{length};
-ghost use Rattle.laws.specs.Put.{put};
+ghost use Rattle.put_text.specs.Wrote.{Wrote};
 ghost use Rattle.rig_lines.specs.Text.{text};
 ghost use Rattle.rig_write.specs.Kept.{kept, ended};
 ghost use Rattle.rig_write.specs.Written.{writtenReport, writtenOf, bufferOf};
@@ -17,7 +17,7 @@ fn byte(x: usize) -> u8
 
 fn put_rig(buf: &mut [u8], at: usize, g: rig::Rig) -> usize
     requires { ⌜ at + length (ended (rigLine g)) ≤ length (now buf) ⌝ }
-    ensures { λ r. ⌜ (r ≡ at + length (ended (rigLine g))) × (now (buf .exit) ≡ put (now (buf .entry)) at (ended (rigLine g))) ⌝ }
+    ensures { λ r. ⌜ Wrote (now (buf .entry)) at (ended (rigLine g)) (now (buf .exit)) r ⌝ }
 {
     rig_print::put_line(
         &mut *buf,
@@ -29,7 +29,7 @@ fn put_rig(buf: &mut [u8], at: usize, g: rig::Rig) -> usize
 
 fn put_tasks(buf: &mut [u8], at: usize, g: rig::Rig) -> usize
     requires { ⌜ at + length (text (kept 65 (isTask g) (taskLine g))) ≤ length (now buf) ⌝ }
-    ensures { λ r. ⌜ (r ≡ at + length (text (kept 65 (isTask g) (taskLine g)))) × (now (buf .exit) ≡ put (now (buf .entry)) at (text (kept 65 (isTask g) (taskLine g)))) ⌝ }
+    ensures { λ r. ⌜ Wrote (now (buf .entry)) at (text (kept 65 (isTask g) (taskLine g))) (now (buf .exit)) r ⌝ }
 {
     let tasks = decimal::wide(g.tasks);
     let mut p = at;
@@ -61,7 +61,7 @@ fn put_tasks(buf: &mut [u8], at: usize, g: rig::Rig) -> usize
 
 fn put_conditions(buf: &mut [u8], at: usize, g: rig::Rig) -> usize
     requires { ⌜ at + length (text (kept 1040 (isCondition g) (conditionLine g))) ≤ length (now buf) ⌝ }
-    ensures { λ r. ⌜ (r ≡ at + length (text (kept 1040 (isCondition g) (conditionLine g)))) × (now (buf .exit) ≡ put (now (buf .entry)) at (text (kept 1040 (isCondition g) (conditionLine g)))) ⌝ }
+    ensures { λ r. ⌜ Wrote (now (buf .entry)) at (text (kept 1040 (isCondition g) (conditionLine g))) (now (buf .exit)) r ⌝ }
 {
     let mut p = at;
     let mut i: usize = 0;
@@ -89,7 +89,7 @@ fn put_conditions(buf: &mut [u8], at: usize, g: rig::Rig) -> usize
 
 fn put_lines(buf: &mut [u8], at: usize, g: rig::Rig) -> usize
     requires { ⌜ at + length (text (kept 1024 (isLine g) (flagLine g))) ≤ length (now buf) ⌝ }
-    ensures { λ r. ⌜ (r ≡ at + length (text (kept 1024 (isLine g) (flagLine g)))) × (now (buf .exit) ≡ put (now (buf .entry)) at (text (kept 1024 (isLine g) (flagLine g)))) ⌝ }
+    ensures { λ r. ⌜ Wrote (now (buf .entry)) at (text (kept 1024 (isLine g) (flagLine g))) (now (buf .exit)) r ⌝ }
 {
     let n = decimal::wide16(g.lines);
     let mut p = at;
@@ -108,7 +108,7 @@ fn put_lines(buf: &mut [u8], at: usize, g: rig::Rig) -> usize
 
 fn put_cycles(buf: &mut [u8], at: usize, table: [[u8; 15]; 64]) -> usize
     requires { ⌜ at + length (text (kept 960 (isFlag table) (cycleLine table))) ≤ length (now buf) ⌝ }
-    ensures { λ r. ⌜ (r ≡ at + length (text (kept 960 (isFlag table) (cycleLine table)))) × (now (buf .exit) ≡ put (now (buf .entry)) at (text (kept 960 (isFlag table) (cycleLine table)))) ⌝ }
+    ensures { λ r. ⌜ Wrote (now (buf .entry)) at (text (kept 960 (isFlag table) (cycleLine table))) (now (buf .exit)) r ⌝ }
 {
     let mut p = at;
     let mut i: usize = 0;
@@ -132,7 +132,7 @@ fn put_cycles(buf: &mut [u8], at: usize, table: [[u8; 15]; 64]) -> usize
 
 fn put_rows(buf: &mut [u8], at: usize, g: rig::Rig) -> usize
     requires { ⌜ at + length (text (kept 64 (isRow g) (rowLine g))) ≤ length (now buf) ⌝ }
-    ensures { λ r. ⌜ (r ≡ at + length (text (kept 64 (isRow g) (rowLine g)))) × (now (buf .exit) ≡ put (now (buf .entry)) at (text (kept 64 (isRow g) (rowLine g)))) ⌝ }
+    ensures { λ r. ⌜ Wrote (now (buf .entry)) at (text (kept 64 (isRow g) (rowLine g))) (now (buf .exit)) r ⌝ }
 {
     let n = decimal::wide(g.rows);
     let mut p = at;
@@ -163,7 +163,7 @@ fn put_rows(buf: &mut [u8], at: usize, g: rig::Rig) -> usize
 // The whole file, from the buffer's start.
 fn put_file(buf: &mut [u8], g: rig::Rig, table: [[u8; 15]; 64]) -> usize
     requires { ⌜ length (fileOf g table) ≤ length (now buf) ⌝ }
-    ensures { λ r. ⌜ (r ≡ length (fileOf g table)) × (now (buf .exit) ≡ put (now (buf .entry)) 0 (fileOf g table)) ⌝ }
+    ensures { λ r. ⌜ Wrote (now (buf .entry)) 0 (fileOf g table) (now (buf .exit)) r ⌝ }
 {
     let a = put_rig(&mut *buf, 0, g);
     let b = put_tasks(&mut *buf, a, g);
@@ -200,6 +200,6 @@ pub fn write(buf: &mut [u8], g: rig::Rig, cycles: [rig::Cycle; 64]) -> Written
     if buf.len() < n {
         return Written::Refused(WRONG_LENGTH);
     }
-    rig_print::copy_in(&mut *buf, &own, n);
+    put_text::put_text(&mut *buf, 0, &own[..n]);
     Written::Done(n)
 }

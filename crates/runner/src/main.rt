@@ -31,7 +31,7 @@ fn take(s: Stream, keep: &mut [u8], piece: &[u8], out: &mut [u8]) -> Stream
     while from < piece.len() {
         let fed = bench_stream::feed(stream, &mut *keep, &piece[from..], &mut *out);
         let n = fed.wrote;
-        if !bench_io::write_out(libc::STDOUT_FILENO, &out[..n]) {
+        if bench_io::write_out(libc::STDOUT_FILENO, &out[..n]) < n {
             return failed(b"runner: standard output");
         }
         stream = fed.stream;
@@ -43,7 +43,7 @@ fn take(s: Stream, keep: &mut [u8], piece: &[u8], out: &mut [u8]) -> Stream
 // The input has ended: what is left to say is written.
 fn finish(s: Stream, keep: &[u8], out: &mut [u8]) {
     let n = bench_stream::end(s, keep, &mut *out);
-    if !bench_io::write_out(libc::STDOUT_FILENO, &out[..n]) {
+    if bench_io::write_out(libc::STDOUT_FILENO, &out[..n]) < n {
         os::fail(b"runner: standard output");
     }
 }

@@ -4,7 +4,7 @@ use Prim.Native.Nat.{ℕ, _<_, _≤_}
 use native.Mathlib.Omega.{arith}
 use lib.ListN.{length}
 use Rattle.bench_script.specs.Output.{wrongText}
-use Rattle.bench_script.specs.Laws.Wrote.{wrote-as, wrote-none}
+use Rattle.put_text.specs.Laws.Wrote.{wrote-as, wrote-none}
 use Rattle.bench_input.specs.Line.{lastText}
 use borrow.Author.Needs.{needs}
 use Rattle.bench_input.proofs.put_last.Statement.{statement}

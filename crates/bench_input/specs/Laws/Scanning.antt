@@ -11,8 +11,8 @@ use lib.Seq.{take-suc, drop-cons, take-suc-set, take-add, drop-at, length-take-l
 use borrow.Author.Tests.{eq-eqb, ne-eqb}
 use Rattle.laws.specs.Cases.{by, if-yes, if-no}
 use Rattle.bench_script.specs.Letters.{lf}
-use Rattle.bench_script.specs.Wrote.{Wrote}
-use Rattle.bench_script.specs.Laws.Wrote.{wrote-then, wrote-as, wrote-none, byte-wrote}
+use Rattle.put_text.specs.Wrote.{Wrote}
+use Rattle.put_text.specs.Laws.Wrote.{wrote-then, wrote-as, wrote-none, byte-wrote}
 use Rattle.bench_input.specs.Opening.{full, Opening, whole, runEnds, lineStart, withByte, opens, onward, scanned, Scans}
 
 -- the bytes from a place up to another, in either order of cutting

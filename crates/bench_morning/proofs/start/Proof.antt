@@ -3,7 +3,7 @@ use mathlib.Core.Path.{_≡_, _∙_, subst}
 use mathlib.Core.List.{[], _∷_}
 use Rattle.bench_script.specs.Letters.{startName}
 use Rattle.bench_script.specs.Output.{lineText}
-use Rattle.bench_script.specs.Wrote.{Wrote}
+use Rattle.put_text.specs.Wrote.{Wrote}
 use Rattle.bench_morning.specs.Laws.Start.{printed, begins-refused, never-refused, begins-accepted}
 use borrow.Author.Needs.{needs}
 use Rattle.bench_morning.proofs.start.Statement.{statement}

@@ -24,8 +24,8 @@ use Rattle.rig_build.specs.declared.Answer.{Answer}
 use Rattle.rig_build.specs.Read.{readOf}
 use Rattle.bench_script.specs.Letters.{startName}
 use Rattle.bench_script.specs.Output.{lineText, startRoom}
-use Rattle.bench_script.specs.Wrote.{Wrote}
-use Rattle.bench_script.specs.Laws.Wrote.{wrote-as}
+use Rattle.put_text.specs.Wrote.{Wrote}
+use Rattle.put_text.specs.Laws.Wrote.{wrote-as}
 use Rattle.bench_script.specs.Laws.Written.{Begun}
 use Rattle.bench_input.specs.Line.{lineNumber}
 use Rattle.bench_morning.specs.Morning.{fileRig, startText}

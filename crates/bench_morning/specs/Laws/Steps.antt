@@ -7,7 +7,7 @@ use lib.ListN.{length, take}
 use Rattle.exec.specs.Sound.{rigIn, view, SoundRecord}
 use Rattle.rig_build.specs.Read.{readOf}
 use Rattle.bench_script.specs.Output.{turnRoom}
-use Rattle.bench_script.specs.Wrote.{Wrote}
+use Rattle.put_text.specs.Wrote.{Wrote}
 use Rattle.bench_input.specs.Line.{lineRoom}
 use Rattle.bench_morning.specs.Morning.{startText}
 use Rattle.bench_morning.specs.Desk.{talking, deskStarted, deskAfter, said}

@@ -22,13 +22,13 @@ same-length : tie.Need-same-length
 same-length c =
     let s = c .before .before .before .before .before in
     let p = c .before .before .put-number in
-    field-wrote (s .args .out .now) (p .last .0) (s .args .at) (s .args .n) (p .result) (s .pre) (p .ensures .0) (p .ensures .1) .size
+    field-wrote (s .args .out .now) (p .last .0) (s .args .at) (s .args .n) (p .result) (s .pre) (p .ensures) .size
 
 returns : tie.Need-returns
 returns c =
     let s = c .before .before .before .before .before in
     let p = c .before .before .put-number in
-    field-wrote (s .args .out .now) (p .last .0) (s .args .at) (s .args .n) (p .result) (s .pre) (p .ensures .0) (p .ensures .1)
+    field-wrote (s .args .out .now) (p .last .0) (s .args .at) (s .args .n) (p .result) (s .pre) (p .ensures)
 
 pub put-field-spec : {M : Type 1} → statement M
 put-field-spec = tie.close (tie.spec add-a slice-write-out put-number-requires same-length returns)

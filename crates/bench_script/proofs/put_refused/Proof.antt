@@ -5,7 +5,7 @@ use Prim.Native.Nat.{ℕ, _<_}
 use native.Mathlib.Omega.{arith}
 use lib.ListN.{length, length-set}
 use Rattle.bench_script.specs.Output.{fieldsText}
-use Rattle.bench_script.specs.Wrote.{Wrote}
+use Rattle.put_text.specs.Wrote.{Wrote}
 use Rattle.bench_script.specs.Laws.Written.{begun-room, begun-done, two-fields-wrote, fields-length}
 use borrow.Author.Needs.{needs}
 use Rattle.bench_script.proofs.put_refused.Statement.{statement}

@@ -5,7 +5,7 @@ use Prim.Native.Nat.{ℕ, _-_, _≤_}
 use native.Mathlib.Omega.{arith}
 use lib.ListN.{length}
 use Rattle.bench_script.specs.Output.{fieldsText}
-use Rattle.bench_script.specs.Wrote.{Wrote}
+use Rattle.put_text.specs.Wrote.{Wrote}
 use Rattle.bench_script.specs.Laws.Written.{Listing, listing-start, listing-room, listing-step, listing-end}
 use Rattle.bench_script.proofs.put_words.Statement.{statement}
 use Rattle.bench_script.proofs.put_words.Tie as tie

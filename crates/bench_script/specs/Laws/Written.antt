@@ -2,21 +2,20 @@
 use Prim.Native.Nat.{ℕ, zero, suc, _+_, _*_, _/_, _%_, _≤_, _<_}
 use mathlib.Core.Path.{_≡_, refl, sym, ap, _∙_}
 use mathlib.Core.Logic.{_⊎_, inl, ⊎-elim}
-use mathlib.Core.List.{List, [], _∷_, _++_, map, append-assoc, append-nil}
+use mathlib.Core.List.{List, [], _∷_, _++_, map, map-append, append-assoc, append-nil}
 use native.Mathlib.Omega.{arith}
 use native.Mathlib.Numerals.{add-one}
 use lib.Dec.{ltb}
-use lib.ListN.{length, getD, take, set, length-append, length-set, length-take}
+use lib.ListN.{length, getD, take, set, length-append, length-take}
 use lib.Seq.{take-suc, take-all}
 use Rattle.laws.specs.Cases.{by}
-use Rattle.laws.specs.Put.{put}
-use Rattle.laws.specs.Laws.Put.{put-one, put-put, length-put}
+use Rattle.put_text.specs.Wrote.{Wrote}
+use Rattle.put_text.specs.Laws.Wrote.{wrote-same, wrote-then, wrote-as, wrote-none, byte-then, then-byte, room-left}
 use Rattle.decimal.specs.Decimal.{decBy, dec}
 use Rattle.text.specs.Split.{led}
-use Rattle.bench_script.specs.Letters.{lf, question, startName}
-use Rattle.bench_script.specs.Output.{fieldsText, lineText, wrongText, startRoom}
-use Rattle.bench_script.specs.Wrote.{Wrote}
-use Rattle.bench_script.specs.Laws.Wrote.{wrote-same, wrote-then, wrote-as, wrote-none, byte-wrote}
+use Rattle.text.specs.Laws.Split.{led-append}
+use Rattle.bench_script.specs.Letters.{startName}
+use Rattle.bench_script.specs.Output.{fieldsText, lineText, startRoom}
 
 length-take-most : (i : ℕ) (l : List ℕ) → length (take i l) ≤ i
 length-take-most i l = rw length-take (omega arith)
@@ -33,15 +32,6 @@ decBy-length (suc k) n =
 pub dec-length : (n : ℕ) → length (dec n) ≤ 10
 unfolding dec
 dec-length n = decBy-length 9 n
-
-map-append : (a b : List ℕ) → map dec (a ++ b) ≡ map dec a ++ map dec b
-map-append [] b = refl
-map-append (x ∷ xs) b = ap (λ r. dec x ∷ r) (map-append xs b)
-
-led-append : (a b : List (List ℕ)) → led 9 (a ++ b) ≡ led 9 a ++ led 9 b
-unfolding led
-led-append [] b = refl
-led-append (p ∷ ps) b = rw (led-append ps b, append-assoc)
 
 pub fields-append : (a b : List ℕ) → fieldsText (a ++ b) ≡ fieldsText a ++ fieldsText b
 unfolding fieldsText
@@ -63,16 +53,10 @@ fields-length (x ∷ xs) =
     omega (arith, e, dec-length x, fields-length xs)
 
 -- a tab is written, then a number
-pub field-wrote : (l m : List ℕ) (at n p : ℕ) → at + 11 ≤ length l → p ≡ (at + 1) + length (dec n)
-    → m ≡ put (set l at 9) (at + 1) (dec n) → Wrote l at (fieldsText (n ∷ [])) m p
-field-wrote l m at n p h e q =
-    let k = fields-one n in
-    let j : length (fieldsText (n ∷ [])) ≡ suc (length (dec n)) = ap length k in
+pub field-wrote : (l m : List ℕ) (at n p : ℕ) → at + 11 ≤ length l → Wrote (set l at 9) (at + 1) (dec n) m p → Wrote l at (fieldsText (n ∷ [])) m p
+field-wrote l m at n p h w =
     let d = dec-length n in
-    let o : set l at 9 ≡ put l at (9 ∷ []) = put-one l at 9 (omega arith) in
-    let t : m ≡ put l at (fieldsText (n ∷ [])) =
-    q ∙ ap (λ (x : List ℕ). put x (at + 1) (dec n)) o ∙ put-put l at (9 ∷ []) (dec n) (omega arith) ∙ ap (put l at) (sym k) in
-    record { place = omega arith; text = t; size = ap length t ∙ length-put l at (fieldsText (n ∷ [])) (omega arith) }
+    wrote-as l m (9 ∷ dec n) (fieldsText (n ∷ [])) at p (sym (fields-one n)) (byte-then l m (dec n) at 9 p (omega arith) w)
 
 -- ---- words, one field each
 
@@ -113,26 +97,26 @@ module _ (l : List ℕ) (at : ℕ) (ws : List ℕ) where
   pub listing-end : (m : List ℕ) (p i : ℕ) → Listing l at ws m p i → length ws ≤ i → Wrote l at (fieldsText ws) m p
   listing-end m p i w h = wrote-as l m (fieldsText (take i ws)) (fieldsText ws) at p (ap fieldsText (take-all i ws h)) (w .wrote)
 
--- ---- three fields
+-- ---- two and three fields
+
+pub two-fields-wrote : (l m o : List ℕ) (at a b p q : ℕ) → at + 22 ≤ length l → Wrote l at (fieldsText (a ∷ [])) m p → Wrote m p (fieldsText (b ∷ [])) o q
+    → Wrote l at (fieldsText (a ∷ b ∷ [])) o q
+two-fields-wrote l m o at a b p q h u v =
+    let f = fields-length (a ∷ []) in
+    let g = fields-length (b ∷ []) in
+    wrote-as l o (fieldsText (a ∷ []) ++ fieldsText (b ∷ [])) (fieldsText (a ∷ b ∷ [])) at q (sym (fields-append (a ∷ []) (b ∷ [])))
+    (wrote-then l m o (fieldsText (a ∷ [])) (fieldsText (b ∷ [])) at p q (omega arith) u v)
 
 module _ (l : List ℕ) (at a : ℕ) (h : at + 33 ≤ length l) (m : List ℕ) (p : ℕ) (u : Wrote l at (fieldsText (a ∷ [])) m p) where
   pub second-room : p + 11 ≤ length m
-  second-room = let f = fields-length (a ∷ []) in let e = u .place in let s = u .size in omega arith
+  second-room = room-left l m (fieldsText (a ∷ [])) at p 11 11 u (fields-length (a ∷ [])) (omega arith)
 
   module _ (b : ℕ) (n : List ℕ) (q : ℕ) (v : Wrote m p (fieldsText (b ∷ [])) n q) where
     two-wrote : Wrote l at (fieldsText (a ∷ b ∷ [])) n q
-    two-wrote =
-        let f = fields-length (a ∷ []) in
-        let g = fields-length (b ∷ []) in
-        wrote-as l n (fieldsText (a ∷ []) ++ fieldsText (b ∷ [])) (fieldsText (a ∷ b ∷ [])) at q (sym (fields-append (a ∷ []) (b ∷ [])))
-        (wrote-then l m n (fieldsText (a ∷ [])) (fieldsText (b ∷ [])) at p q (omega arith) u v)
+    two-wrote = two-fields-wrote l m n at a b p q (omega arith) u v
 
     pub third-room : q + 11 ≤ length n
-    third-room =
-        let f = fields-length (a ∷ b ∷ []) in
-        let e = two-wrote .place in
-        let s = two-wrote .size in
-        omega arith
+    third-room = room-left l n (fieldsText (a ∷ b ∷ [])) at q 22 11 two-wrote (fields-length (a ∷ b ∷ [])) (omega arith)
 
     pub three-wrote : (c : ℕ) (o : List ℕ) (r : ℕ) → Wrote n q (fieldsText (c ∷ [])) o r → Wrote l at (fieldsText (a ∷ b ∷ c ∷ [])) o r
     three-wrote c o r w =
@@ -154,23 +138,6 @@ begun-same out numbers m n p q a b =
     (λ x. ⊎-elim (λ y. absurd (omega (arith, x .0, y .0))) (λ y. (x .1 ∙ sym (y .1), x .2 ∙ sym (y .2))) (b .is))
     (a .is)
 
-name-is : (l : List ℕ) → 5 ≤ length l → set (set (set (set (set l 0 83) 1 84) 2 65) 3 82) 4 84 ≡ put l 0 startName
-unfolding put
-name-is [] h = absurd (let z : ⊥ = omega arith in z)
-name-is (a ∷ []) h = absurd (let z : ⊥ = omega arith in z)
-name-is (a ∷ b ∷ []) h = absurd (let z : ⊥ = omega arith in z)
-name-is (a ∷ b ∷ c ∷ []) h = absurd (let z : ⊥ = omega arith in z)
-name-is (a ∷ b ∷ c ∷ d ∷ []) h = absurd (let z : ⊥ = omega arith in z)
-name-is (a ∷ b ∷ c ∷ d ∷ e ∷ l) h = refl
-
-pub set-lengths : (l : List ℕ)
-    → (length (set (set l 0 83) 1 84) ≡ length l) × (length (set (set (set l 0 83) 1 84) 2 65) ≡ length l) × (length (set (set (set (set l 0 83) 1 84) 2 65) 3 82) ≡ length l)
-set-lengths l = (simp length-set, simp length-set, simp length-set)
-
-pub name-wrote : (l : List ℕ) → 5 ≤ length l → Wrote l 0 startName (set (set (set (set (set l 0 83) 1 84) 2 65) 3 82) 4 84) 5
-name-wrote l h =
-    record { place = refl; text = name-is l h; size = ap length (name-is l h) ∙ length-put l 0 startName (omega arith) }
-
 module _ (out numbers m o : List ℕ) (p : ℕ) (h : 64 ≤ length out) (few : length numbers ≤ 3) (n : Wrote out 0 startName m 5) (w : Wrote m 5 (fieldsText numbers) o p) where
   named : Wrote out 0 (startName ++ fieldsText numbers) o p
   named =
@@ -189,30 +156,12 @@ module _ (out numbers m o : List ℕ) (p : ℕ) (h : 64 ≤ length out) (few : l
   unfolding lineText
   begun-done =
       let f = fields-length numbers in
-      let a = named .place in
       let l = length-append startName (fieldsText numbers) in
       record {
         is = inl (
           h,
           wrote-as out (set o p 10) ((startName ++ fieldsText numbers) ++ (10 ∷ [])) (lineText startName numbers) 0 (p + 1)
               (append-assoc startName (fieldsText numbers) (10 ∷ []))
-              (wrote-then out o (set o p 10) (startName ++ fieldsText numbers) (10 ∷ []) 0 p (p + 1) (omega arith) named (byte-wrote o p 10 begun-room)),
+              (then-byte out o (startName ++ fieldsText numbers) 0 10 p (omega arith) named),
         );
       }
-
-pub two-fields-wrote : (l m o : List ℕ) (at a b p q : ℕ) → at + 22 ≤ length l → Wrote l at (fieldsText (a ∷ [])) m p → Wrote m p (fieldsText (b ∷ [])) o q
-    → Wrote l at (fieldsText (a ∷ b ∷ [])) o q
-two-fields-wrote l m o at a b p q h u v =
-    let f = fields-length (a ∷ []) in
-    let g = fields-length (b ∷ []) in
-    wrote-as l o (fieldsText (a ∷ []) ++ fieldsText (b ∷ [])) (fieldsText (a ∷ b ∷ [])) at q (sym (fields-append (a ∷ []) (b ∷ [])))
-    (wrote-then l m o (fieldsText (a ∷ [])) (fieldsText (b ∷ [])) at p q (omega arith) u v)
-
--- ---- a line that is none
-
-pub wrong-wrote : (out : List ℕ) (at : ℕ) → at + 2 ≤ length out
-    → Wrote out at wrongText (set (set out at question) (at + 1) lf) (at + 1 + 1)
-wrong-wrote out at h =
-    let l = length-set out at question in
-    wrote-then out (set out at question) (set (set out at question) (at + 1) lf) (question ∷ []) (lf ∷ []) at (at + 1) (at + 1 + 1) (omega arith)
-    (byte-wrote out at question (omega arith)) (byte-wrote (set out at question) (at + 1) lf (omega arith))

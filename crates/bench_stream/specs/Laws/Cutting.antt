@@ -12,8 +12,8 @@ use borrow.Author.Tests.{ltb-true, ltb-false}
 use Rattle.laws.specs.Cases.{by}
 use Rattle.laws.specs.Put.{put}
 use Rattle.bench_script.specs.Output.{turnRoom}
-use Rattle.bench_script.specs.Wrote.{Wrote}
-use Rattle.bench_script.specs.Laws.Wrote.{wrote-same}
+use Rattle.put_text.specs.Wrote.{Wrote}
+use Rattle.put_text.specs.Laws.Wrote.{wrote-same}
 use Rattle.bench_input.specs.Opening.{full}
 use Rattle.bench_morning.specs.Morning.{morningText}
 use Rattle.bench_morning.specs.Desk.{Desk, begun, deskAfter, said, lastSaid}

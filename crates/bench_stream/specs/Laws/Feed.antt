@@ -10,8 +10,8 @@ use lib.Seq.{take-add}
 use borrow.Author.Tests.{ltb-true, ltb-false}
 use Rattle.laws.specs.Cases.{by}
 use Rattle.bench_script.specs.Output.{turnRoom}
-use Rattle.bench_script.specs.Wrote.{Wrote}
-use Rattle.bench_script.specs.Laws.Wrote.{wrote-then, wrote-as, wrote-none, wrote-fits}
+use Rattle.put_text.specs.Wrote.{Wrote}
+use Rattle.put_text.specs.Laws.Wrote.{wrote-then, wrote-as, wrote-none, wrote-fits}
 use Rattle.rig_build.specs.Read.{readOf}
 use Rattle.bench_input.specs.Line.{lastText}
 use Rattle.bench_morning.specs.Morning.{startText}

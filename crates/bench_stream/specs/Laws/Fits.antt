@@ -9,8 +9,8 @@ use lib.ListN.{length, take}
 use borrow.Author.Tests.{ltb-true, ltb-false}
 use Rattle.laws.specs.Cases.{by}
 use Rattle.bench_script.specs.Output.{turnRoom}
-use Rattle.bench_script.specs.Wrote.{Wrote}
-use Rattle.bench_script.specs.Laws.Wrote.{wrote-fits}
+use Rattle.put_text.specs.Wrote.{Wrote}
+use Rattle.put_text.specs.Laws.Wrote.{wrote-fits}
 use Rattle.bench_morning.specs.Desk.{said, lastSaid}
 use Rattle.bench_morning.specs.Stream.{deskOf, HoldsIn}
 use Rattle.bench_stream.specs.Feeding.{Ready, Moves, Feeds, Ends}

@@ -14,8 +14,8 @@ use Rattle.exec.specs.Call.{withState}
 use Rattle.exec.specs.declared.Exec.{Exec}
 use Rattle.bench_script.specs.Letters.{lf}
 use Rattle.bench_script.specs.Output.{turnRoom}
-use Rattle.bench_script.specs.Wrote.{Wrote}
-use Rattle.bench_script.specs.Laws.Wrote.{wrote-then, wrote-as, wrote-none, wrote-fits}
+use Rattle.put_text.specs.Wrote.{Wrote}
+use Rattle.put_text.specs.Laws.Wrote.{wrote-then, wrote-as, wrote-none, wrote-fits}
 use Rattle.bench_input.specs.Line.{lineRoom, withMore, Holds}
 use Rattle.bench_turn.specs.Turn.{turnText, turnNext, Turns}
 use Rattle.bench_turn.specs.Laws.Ruled.{turn-ruled}

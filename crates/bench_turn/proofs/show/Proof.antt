@@ -4,7 +4,7 @@ use Prim.Native.Nat.{ℕ, _+_, _≤_, _<_}
 use native.Mathlib.Omega.{arith}
 use lib.ListN.{length, set, length-set}
 use Rattle.bench_script.specs.Output.{fieldsText}
-use Rattle.bench_script.specs.Wrote.{Wrote}
+use Rattle.put_text.specs.Wrote.{Wrote}
 use Rattle.bench_turn.specs.Laws.Turn.{headOf, after-head, shown-refused, after-extra, shown-accepted}
 use borrow.Author.Needs.{needs}
 use Rattle.bench_turn.proofs.show.Statement.{statement}

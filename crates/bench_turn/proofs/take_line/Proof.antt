@@ -7,7 +7,7 @@ use lib.ListN.{length}
 use borrow.Author.Tests.{leb-true, leb-false}
 use Rattle.bench_script.specs.declared.Said.{Said}
 use Rattle.bench_script.specs.Output.{turnRoom}
-use Rattle.bench_script.specs.Wrote.{Wrote}
+use Rattle.put_text.specs.Wrote.{Wrote}
 use Rattle.bench_turn.specs.Turn.{Takes, letterOf, askedBy, answerText}
 use Rattle.bench_turn.specs.Laws.Turn.{made-proper, answered, unasked}
 use borrow.Author.Needs.{needs}

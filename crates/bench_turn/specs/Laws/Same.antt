@@ -10,8 +10,8 @@ use Rattle.exec.specs.declared.Exec.{Exec}
 use Rattle.exec.specs.declared.Step.{Step}
 use Rattle.bench_script.specs.Script.{saidOf}
 use Rattle.bench_script.specs.Output.{wrongText}
-use Rattle.bench_script.specs.Wrote.{Wrote}
-use Rattle.bench_script.specs.Laws.Wrote.{wrote-same}
+use Rattle.put_text.specs.Wrote.{Wrote}
+use Rattle.put_text.specs.Laws.Wrote.{wrote-same}
 use Rattle.bench_turn.specs.Turn.{letterOf, Asked, call, none, askedBy, answerText, Takes, Turns}
 use Rattle.bench_turn.specs.declared.Turn.{Turn}
 

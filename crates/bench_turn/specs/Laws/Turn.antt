@@ -20,8 +20,8 @@ use Rattle.exec.specs.declared.Answer.{Answer}
 use Rattle.exec.specs.declared.Answer.the-variants.{Accepted, Refused}
 use Rattle.bench_script.specs.Letters.{lf, question, tickVerb, askVerb}
 use Rattle.bench_script.specs.Output.{fieldsText, lineText, wrongText, turnRoom}
-use Rattle.bench_script.specs.Wrote.{Wrote}
-use Rattle.bench_script.specs.Laws.Wrote.{wrote-then, wrote-as, wrote-none, byte-wrote}
+use Rattle.put_text.specs.Wrote.{Wrote}
+use Rattle.put_text.specs.Laws.Wrote.{wrote-then, wrote-as, wrote-none, byte-wrote}
 use Rattle.bench_script.specs.Laws.Written.{fields-none, fields-append, fields-length}
 use Rattle.bench_script.specs.declared.Said.{Said}
 use Rattle.bench_script.specs.declared.Said.the-variants.{Schedule, Cancel, Terminate, Finish, Tick, Until, Cycles, Latched, Unlatched, Signal, Ask, Wrong}

@@ -1,12 +1,7 @@
 -- `decimal::put_number` meets its contract: it calls itself on the number without its last digit, as `dec` is defined. Measure: the number. Assumes nothing.
-use mathlib.Core.Path.{_≡_, ap, _∙_}
-use mathlib.Core.List.{[], _∷_}
-use Prim.Native.Nat.{_+_, _/_, _%_}
 use native.Mathlib.Omega.{arith}
-use lib.ListN.{length, length-set, length-append}
-use Rattle.decimal.specs.Decimal.{dec}
-use Rattle.decimal.specs.Laws.{dec-tens}
-use Rattle.decimal.specs.Write.{write-small, write-tens}
+use lib.ListN.{length-set}
+use Rattle.decimal.specs.Write.{write-small, tens-room, write-tens}
 use Prim.Native.Nat.{ℕ, _<_}
 use borrow.Fn.Kinds.{In}
 use borrow.Fn.PlainCycle.{Measures, is, falls, and}
@@ -47,7 +42,9 @@ put-number-slice-write-buf : (t : ℕ) → put-number-lts.Need-slice-write-buf (
   put-number-below t,
   put-number.Post,
 ) (put-number-at t) put-number.Post
-put-number-slice-write-buf t c = let w = write-small (c .before .before .args .buf .now) (c .before .before .args .at) (c .before .before .args .n) (c .if1 .taken) (c .before .before .pre .1 .1) in w .0
+put-number-slice-write-buf t c =
+    let a = c .before .before .args in
+    write-small (a .buf .now) (a .at) (a .n) (c .before .before .pre .1 .1) (c .if1 .taken) .0
 
 put-number-add-result : (t : ℕ) → put-number-lts.Need-add-result (
   put-number-below t,
@@ -67,7 +64,9 @@ put-number-returns :
     (put-number-below t, put-number.Post)
     (put-number-at t)
     put-number.Post
-put-number-returns t c = let w = write-small (c .before .before .args .buf .now) (c .before .before .args .at) (c .before .before .args .n) (c .if1 .taken) (c .before .before .pre .1 .1) in (w .1, w .2)
+put-number-returns t c =
+    let a = c .before .before .args in
+    write-small (a .buf .now) (a .at) (a .n) (c .before .before .pre .1 .1) (c .if1 .taken) .1
 
 put-number-put-number-requires : (t : ℕ) → put-number-lts.Need-put-number-requires (
   put-number-below t,
@@ -75,8 +74,8 @@ put-number-put-number-requires : (t : ℕ) → put-number-lts.Need-put-number-re
 ) (put-number-at t) put-number.Post
 put-number-put-number-requires t c κs =
     let a = c .before .before .before .args in
-    let e = dec-tens (a .n) (c .before .if1 .left) (c .before .before .before .pre .1 .0) in
-    let k : length (dec (a .n)) ≡ length (dec (a .n / 10)) + 1 = ap length e ∙ length-append (dec (a .n / 10)) ((48 + a .n % 10) ∷ []) in
+    let p = c .before .before .before .pre .1 in
+    let r = tens-room (a .buf .now) (a .at) (a .n) (p .1) (c .before .if1 .left) (p .0) in
     (omega arith, (omega arith, omega arith))
 
 put-number-cast-buf-2 : (t : ℕ) → put-number-lts.Need-cast-buf-2 (
@@ -95,25 +94,36 @@ put-number-slice-write-buf-2 : (t : ℕ) → put-number-lts.Need-slice-write-buf
   put-number-below t,
   put-number.Post,
 ) (put-number-at t) put-number.Post
-put-number-slice-write-buf-2 t c = let w = write-tens (c .before .before .before .before .before .before .args .buf .now) (c .before .before .before .before .before .before .args .at) (c .before .before .before .before .before .before .args .n) (c .before .before .put-number .result) (c .before .before .put-number .last .0) (c .before .before .before .before .if1 .left) (c .before .before .before .before .before .before .pre .1 .0) (c .before .before .before .before .before .before .pre .1 .1) (c .before .before .put-number .ensures .0) (c .before .before .put-number .ensures .1) in w .0
+put-number-slice-write-buf-2 t c =
+    let s = c .before .before .before .before .before .before in
+    let w = c .before .before .put-number in
+    let r = tens-room (s .args .buf .now) (s .args .at) (s .args .n) (s .pre .1 .1) (c .before .before .before .before .if1 .left) (s .pre .1 .0) in
+    omega (arith, r, w .ensures .place, w .ensures .size)
 
 put-number-add-result-2 : (t : ℕ) → put-number-lts.Need-add-result-2 (
   put-number-below t,
   put-number.Post,
 ) (put-number-at t) put-number.Post
-put-number-add-result-2 t c = let w = write-tens (c .before .before .before .before .before .before .args .buf .now) (c .before .before .before .before .before .before .args .at) (c .before .before .before .before .before .before .args .n) (c .before .before .put-number .result) (c .before .before .put-number .last .0) (c .before .before .before .before .if1 .left) (c .before .before .before .before .before .before .pre .1 .0) (c .before .before .before .before .before .before .pre .1 .1) (c .before .before .put-number .ensures .0) (c .before .before .put-number .ensures .1) in omega arith
+put-number-add-result-2 t c =
+    let s = c .before .before .before .before .before .before in
+    let w = c .before .before .put-number in
+    let r = tens-room (s .args .buf .now) (s .args .at) (s .args .n) (s .pre .1 .1) (c .before .before .before .before .if1 .left) (s .pre .1 .0) in
+    omega (arith, r, w .ensures .place)
 
 put-number-same-length-2 : (t : ℕ) → put-number-lts.Need-same-length-2 (
   put-number-below t,
   put-number.Post,
 ) (put-number-at t) put-number.Post
-put-number-same-length-2 t c = let w = write-tens (c .before .before .before .before .before .before .args .buf .now) (c .before .before .before .before .before .before .args .at) (c .before .before .before .before .before .before .args .n) (c .before .before .put-number .result) (c .before .before .put-number .last .0) (c .before .before .before .before .if1 .left) (c .before .before .before .before .before .before .pre .1 .0) (c .before .before .before .before .before .before .pre .1 .1) (c .before .before .put-number .ensures .0) (c .before .before .put-number .ensures .1) in simp length-set (w .3)
+put-number-same-length-2 t c = simp length-set (c .before .before .put-number .ensures .size)
 
 put-number-returns-2 : (t : ℕ) → put-number-lts.Need-returns-2 (
   put-number-below t,
   put-number.Post,
 ) (put-number-at t) put-number.Post
-put-number-returns-2 t c = let w = write-tens (c .before .before .before .before .before .before .args .buf .now) (c .before .before .before .before .before .before .args .at) (c .before .before .before .before .before .before .args .n) (c .before .before .put-number .result) (c .before .before .put-number .last .0) (c .before .before .before .before .if1 .left) (c .before .before .before .before .before .before .pre .1 .0) (c .before .before .before .before .before .before .pre .1 .1) (c .before .before .put-number .ensures .0) (c .before .before .put-number .ensures .1) in (w .1, w .2)
+put-number-returns-2 t c =
+    let s = c .before .before .before .before .before .before in
+    let w = c .before .before .put-number in
+    write-tens (s .args .buf .now) (s .args .at) (s .args .n) (s .pre .1 .1) (c .before .before .before .before .if1 .left) (s .pre .1 .0) (w .last .0) (w .result) (w .ensures)
 
 pub +put-number-spec : {M : Type 1} → statement M
 +put-number-spec = close μ-put-number λ t. put-number-lts.spec (

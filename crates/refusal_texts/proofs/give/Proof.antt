@@ -15,7 +15,7 @@ same-length c = search needs
 returns : tie.Need-returns
 returns c =
     let w = c .before .before .put-text in
-    given-written (c .before .before .before .before .before .before .before .args .text .now) (c .before .before .before .before .before .before .before .args .out .now) _ (w .result) (c .before .before .before .before .if1 .taken) (w .ensures .0) (w .ensures .1)
+    given-written (c .before .before .before .before .before .before .before .args .text .now) (c .before .before .before .before .before .before .before .args .out .now) _ (w .result) (c .before .before .before .before .if1 .taken) (w .ensures .place) (w .ensures .text)
 
 returns-2 : tie.Need-returns-2
 returns-2 c = given-narrow (c .before .before .before .args .text .now) (c .before .before .before .args .out .now) (c .if1 .left)

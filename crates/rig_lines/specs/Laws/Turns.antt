@@ -6,9 +6,8 @@ use mathlib.Core.Bool.{Bool, true, false, cond, _&&_}
 use mathlib.Core.List.{List, [], _∷_, _++_, map, append-assoc}
 use native.Mathlib.Omega.{arith}
 use native.Mathlib.Numerals.{add-one}
-use native.Mathlib.Nat.{add-zero}
 use lib.Dec.{ltb, eqb}
-use lib.ListN.{length, getD, drop, take, set, take-append-drop, drop-of-length-le}
+use lib.ListN.{length, getD, drop, take, set, drop-of-length-le}
 use lib.Seq.{take-suc-set, drop-set-lt, drop-cons, getD-take, length-take-le}
 use borrow.Author.Tests.{lt-ltb, le-ltb, le-leb, lt-leb, ne-eqb}
 use Rattle.laws.specs.Put.{put}
@@ -99,10 +98,6 @@ put-turn v f x ns h =
     let e : (f + 1) + length ns ≡ f + suc (length ns) = omega arith in
     let i : f < f + suc (length ns) = omega arith in
     rw (e, add-one, take-suc-set v f x h, drop-set-lt _ v f x i, append-assoc)
-
-pub put-none : (v : List ℕ) (f : ℕ) → put v f [] ≡ v
-unfolding put
-put-none v f = rw (add-zero, take-append-drop)
 
 -- zeros behind numbers are not seen
 pub padded-at : (m : ℕ) (ns zs : List ℕ) → ((i : ℕ) → getD zs i 0 ≡ 0) → (i : ℕ) → getD (ns ++ drop m zs) i 0 ≡ getD ns i 0

@@ -1,8 +1,10 @@
 use borrow.Author.Needs.{needs}
 use native.Mathlib.Omega.{arith}
-use Prim.Native.Nat.{_-_}
-use mathlib.Core.Path.{_≡_}
-use lib.ListN.{length}
+use Prim.Native.Nat.{ℕ, _+_, _-_}
+use mathlib.Core.Path.{_≡_, subst}
+use lib.ListN.{length, set}
+use Rattle.put_text.specs.Wrote.{Wrote}
+use Rattle.decimal.specs.Decimal.{dec}
 use Rattle.rig_print.specs.Laws.Line.{InFields, fields-start, fields-end, field-room, fields-turn}
 use Rattle.rig_print.proofs.put_fields.Statement.{statement}
 use Rattle.rig_print.proofs.put_fields.Tie as tie
@@ -38,10 +40,15 @@ loop-less : tie.Need-loop-less Inv-loop μ-loop
 loop-less c = search needs
 
 loop-again : tie.Need-loop-again Inv-loop μ-loop
-loop-again c = fields-turn _ _ _ _ _ _ _ (c .before .before .before .before .before .before .loop .inv) (c .before .before .before .before .before .loop-test .taken) _ _ _ (c .before .before .before .before .wide64 .ensures .0) (c .before .before .put-number .ensures .0) (c .before .before .put-number .ensures .1) (c .before .before .put-number .kept .0)
+loop-again c =
+    let l = c .before .before .before .before .before .before .loop in
+    let x = c .before .before .before .before .wide64 .ensures .0 in
+    let u = c .before .before .put-number in
+    fields-turn _ _ _ _ _ _ _ (l .inv) (c .before .before .before .before .before .loop-test .taken) _ _
+    (subst (λ (n : ℕ). Wrote (set (l .buf) (l .p) 9) (l .p + 1) (dec n) (u .last .0) (u .result)) x (u .ensures))
 
 same-length : tie.Need-same-length Inv-loop μ-loop
-same-length c = c .before .loop .inv .size
+same-length c = c .before .loop .inv .wrote .size
 
 returns : tie.Need-returns Inv-loop μ-loop
 returns c = fields-end _ _ _ _ _ _ _ (c .before .loop .inv) (c .loop-test .left)

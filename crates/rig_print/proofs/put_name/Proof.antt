@@ -1,63 +1,53 @@
-use native.Mathlib.Omega.{arith}
-use lib.ListN.{length-set}
-use Rattle.rig_print.specs.Laws.Line.{name-letter, name-three}
+use Rattle.rig_print.specs.Laws.Line.{name-letter, name-three, name-three-room}
 use borrow.Author.Needs.{needs}
 use Rattle.rig_print.proofs.put_name.Statement.{statement}
 use Rattle.rig_print.proofs.put_name.Tie as tie
 
-add-b : tie.Need-add-b
-add-b c = search needs
+slice-aggregate-put-text : tie.Need-slice-aggregate-put-text
+slice-aggregate-put-text c = search needs
 
-add-c : tie.Need-add-c
-add-c c = search needs
-
-slice-write-buf : tie.Need-slice-write-buf
-slice-write-buf c = let w = name-three (c .before .before .args .buf .now) (c .before .before .args .at) (c .before .before .args .k) (c .if1 .taken) (c .before .before .pre) in omega arith
-
-slice-write-buf-2 : tie.Need-slice-write-buf-2
-slice-write-buf-2 c = let w = name-three (c .before .before .args .buf .now) (c .before .before .args .at) (c .before .before .args .k) (c .if1 .taken) (c .before .before .pre) in simp length-set (omega arith)
-
-slice-write-buf-3 : tie.Need-slice-write-buf-3
-slice-write-buf-3 c = let w = name-three (c .before .before .args .buf .now) (c .before .before .args .at) (c .before .before .args .k) (c .if1 .taken) (c .before .before .pre) in simp length-set (omega arith)
-
-add-result : tie.Need-add-result
-add-result c = search needs
+put-text-requires : tie.Need-put-text-requires
+put-text-requires c κs =
+    let a = c .before .before .before .before .args in
+    name-three-room (a .buf .now) (a .at) (a .k) (c .before .before .if1 .taken) (c .before .before .before .before .pre)
 
 same-length : tie.Need-same-length
 same-length c = search needs
 
 returns : tie.Need-returns
-returns c = let w = name-three (c .before .before .args .buf .now) (c .before .before .args .at) (c .before .before .args .k) (c .if1 .taken) (c .before .before .pre) in (w .1, w .2)
+returns c =
+    let a = c .before .before .before .before .before .before .before .args in
+    name-three (a .buf .now) _ (a .at) (a .k) _ (c .before .before .before .before .before .if1 .taken) (c .before .before .put-text .ensures)
 
 letter-requires : tie.Need-letter-requires
 letter-requires c κs = search needs
 
-slice-write-buf-4 : tie.Need-slice-write-buf-4
-slice-write-buf-4 c = name-letter (c .before .before .before .args .buf .now) (c .before .before .before .args .at) (c .before .before .before .args .k) _ (c .letter .ensures) (c .before .before .before .pre) .0
+slice-write-buf : tie.Need-slice-write-buf
+slice-write-buf c =
+    let s = c .before .before .before in
+    name-letter (s .args .buf .now) (s .args .at) (s .args .k) _ (c .letter .ensures) (s .pre) .0
 
-add-result-2 : tie.Need-add-result-2
-add-result-2 c = search needs
+add-result : tie.Need-add-result
+add-result c = search needs
 
 same-length-2 : tie.Need-same-length-2
 same-length-2 c = search needs
 
 returns-2 : tie.Need-returns-2
-returns-2 c = let w = name-letter (c .before .before .before .args .buf .now) (c .before .before .before .args .at) (c .before .before .before .args .k) _ (c .letter .ensures) (c .before .before .before .pre) in (w .1, w .2)
+returns-2 c =
+    let s = c .before .before .before in
+    name-letter (s .args .buf .now) (s .args .at) (s .args .k) _ (c .letter .ensures) (s .pre) .1
 
 pub put-name-spec : {M : Type 1} → statement M
 put-name-spec =
     tie.close
     (tie.spec
-    add-b
-    add-c
-    slice-write-buf
-    slice-write-buf-2
-    slice-write-buf-3
-    add-result
+    slice-aggregate-put-text
+    put-text-requires
     same-length
     returns
     letter-requires
-    slice-write-buf-4
-    add-result-2
+    slice-write-buf
+    add-result
     same-length-2
     returns-2)

@@ -1,5 +1,5 @@
 use native.Mathlib.Omega.{arith}
-use Rattle.rig_sentences.specs.Writing.{number-length}
+use Rattle.rig_phrases.specs.Writing.{number-length}
 use Rattle.rig_saying.specs.Laws.{head-wrote}
 use borrow.Author.Needs.{needs}
 use Rattle.rig_saying.proofs.head.Statement.{statement}

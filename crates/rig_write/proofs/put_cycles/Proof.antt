@@ -1,8 +1,7 @@
 use borrow.Author.Needs.{needs}
 use native.Mathlib.Omega.{arith}
 use Prim.Native.Nat.{_-_}
-use Rattle.rig_write.specs.Kept.{ended}
-use Rattle.rig_write.specs.Laws.Kept.{InKept, kept-start, kept-end, kept-skip, line-room, kept-turn, room-as}
+use Rattle.rig_write.specs.Laws.Kept.{InKept, Due, kept-start, kept-end, kept-skip, kept-due}
 use Rattle.rig_write.specs.File.{isFlag, cycleLine}
 use Rattle.rig_write.specs.Laws.Lines.{two-text, flag-no, flag-yes}
 use Rattle.rig_write.proofs.put_cycles.Statement.{statement}
@@ -38,17 +37,22 @@ loop-again c = kept-skip _ _ _ _ _ _ _ _ (c .before .before .before .loop .inv) 
 byte-requires : tie.Need-byte-requires Inv-loop μ-loop
 byte-requires c κs = omega (arith, c .before .before .before .loop-test .taken)
 
+due : (c : tie.After-byte Inv-loop μ-loop) → Due (c .before .before .before .before .before .before .before .args .buf .now) (c .before .before .before .before .before .loop .buf) (c .before .before .before .before .before .before .before .args .at) 960 (isFlag (c .before .before .before .before .before .before .before .args .t3)) (cycleLine (c .before .before .before .before .before .before .before .args .t3)) (c .before .before .before .before .before .loop .p) (c .before .before .before .before .before .loop .i)
+due c =
+    let s = c .before .before .before .before .before in
+    kept-due _ _ _ _ _ _ _ _ (s .loop .inv) (c .before .before .before .before .loop-test .taken) (flag-yes _ (c .before .before .if1 .left))
+
 put-line-requires : tie.Need-put-line-requires Inv-loop μ-loop
-put-line-requires c κs = (omega arith, room-as _ (ended (cycleLine (c .before .before .before .before .before .before .before .args .t3) (c .before .before .before .before .before .loop .i))) _ _ (two-text _ _ _ (c .byte .ensures)) (line-room _ _ _ _ _ _ _ _ (c .before .before .before .before .before .loop .inv) (c .before .before .before .before .loop-test .taken) (flag-yes _ (c .before .before .if1 .left))))
+put-line-requires c κs = (omega arith, due c .room _ (two-text _ _ _ (c .byte .ensures)))
 
 loop-less-2 : tie.Need-loop-less-2 Inv-loop μ-loop
 loop-less-2 c = search needs
 
 loop-again-2 : tie.Need-loop-again-2 Inv-loop μ-loop
-loop-again-2 c = kept-turn _ _ _ _ _ _ _ _ (c .before .before .before .before .before .before .before .before .loop .inv) (c .before .before .before .before .before .before .before .loop-test .taken) (flag-yes _ (c .before .before .before .before .before .if1 .left)) _ _ _ (two-text _ _ _ (c .before .before .before .byte .ensures)) (c .before .before .put-line .ensures .0) (c .before .before .put-line .ensures .1)
+loop-again-2 c = due (c .before .before .before) .on _ (two-text _ _ _ (c .before .before .before .byte .ensures)) _ _ (c .before .before .put-line .ensures)
 
 same-length : tie.Need-same-length Inv-loop μ-loop
-same-length c = c .before .loop .inv .size
+same-length c = c .before .loop .inv .wrote .size
 
 returns : tie.Need-returns Inv-loop μ-loop
 returns c = kept-end _ _ _ _ _ _ _ _ (c .before .loop .inv) (c .loop-test .left)

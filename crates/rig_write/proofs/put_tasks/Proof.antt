@@ -1,8 +1,7 @@
 use borrow.Author.Needs.{needs}
 use native.Mathlib.Omega.{arith}
 use Prim.Native.Nat.{_-_}
-use Rattle.rig_write.specs.Kept.{ended}
-use Rattle.rig_write.specs.Laws.Kept.{InKept, kept-start, kept-end, kept-skip, line-room, kept-turn, room-as}
+use Rattle.rig_write.specs.Laws.Kept.{InKept, Due, kept-start, kept-end, kept-skip, kept-due}
 use Rattle.rig_write.specs.File.{isTask, taskLine}
 use Rattle.rig_write.specs.Laws.Lines.{five-text, task-yes, task-low, task-high}
 use Rattle.rig_write.proofs.put_tasks.Statement.{statement}
@@ -50,17 +49,22 @@ element-copy-out-t21 c = c .before .before .before .before .before .loop-test .t
 element-copy-out-t24 : tie.Need-element-copy-out-t24 Inv-loop μ-loop
 element-copy-out-t24 c = c .before .before .before .before .before .before .loop-test .taken
 
+due : (c : tie.After-put-line-arg Inv-loop μ-loop) → Due (c .before .before .before .before .before .before .before .before .before .before .before .before .args .buf .now) (c .before .before .before .before .before .before .before .before .before .loop .buf) (c .before .before .before .before .before .before .before .before .before .before .before .before .args .at) 65 (isTask (c .before .before .before .before .before .before .before .before .before .before .before .before .args .t3)) (taskLine (c .before .before .before .before .before .before .before .before .before .before .before .before .args .t3)) (c .before .before .before .before .before .before .before .before .before .loop .p) (c .before .before .before .before .before .before .before .before .before .loop .i)
+due c =
+    let s = c .before .before .before .before .before .before .before .before .before in
+    kept-due _ _ _ _ _ _ _ _ (s .loop .inv) (c .before .before .before .before .before .before .before .before .loop-test .taken) (task-yes (s .before .before .before .args .t3) (s .loop .i) (s .before .wide .result) (s .before .wide .ensures .0) (c .before .before .before .before .before .before .before .if1 .left) (c .before .before .before .before .before .before .if2 .left))
+
 put-line-requires : tie.Need-put-line-requires Inv-loop μ-loop
-put-line-requires c κs = (omega arith, room-as _ (ended (taskLine (c .before .before .before .before .before .before .before .before .before .before .before .before .args .t3) (c .before .before .before .before .before .before .before .before .before .loop .i))) _ _ (five-text _ _ _ _ _ _ (c .before .before .before .before .before .byte .ensures)) (line-room _ _ _ _ _ _ _ _ (c .before .before .before .before .before .before .before .before .before .loop .inv) (c .before .before .before .before .before .before .before .before .loop-test .taken) (task-yes (c .before .before .before .before .before .before .before .before .before .before .before .before .args .t3) (c .before .before .before .before .before .before .before .before .before .loop .i) (c .before .before .before .before .before .before .before .before .before .before .wide .result) (c .before .before .before .before .before .before .before .before .before .before .wide .ensures .0) (c .before .before .before .before .before .before .before .if1 .left) (c .before .before .before .before .before .before .if2 .left))))
+put-line-requires c κs = (omega arith, due c .room _ (five-text _ _ _ _ _ _ (c .before .before .before .before .before .byte .ensures)))
 
 loop-less-3 : tie.Need-loop-less-3 Inv-loop μ-loop
 loop-less-3 c = search needs
 
 loop-again-3 : tie.Need-loop-again-3 Inv-loop μ-loop
-loop-again-3 c = kept-turn _ _ _ _ _ _ _ _ (c .before .before .before .before .before .before .before .before .before .before .before .before .loop .inv) (c .before .before .before .before .before .before .before .before .before .before .before .loop-test .taken) (task-yes (c .before .before .before .before .before .before .before .before .before .before .before .before .before .before .before .args .t3) (c .before .before .before .before .before .before .before .before .before .before .before .before .loop .i) (c .before .before .before .before .before .before .before .before .before .before .before .before .before .wide .result) (c .before .before .before .before .before .before .before .before .before .before .before .before .before .wide .ensures .0) (c .before .before .before .before .before .before .before .before .before .before .if1 .left) (c .before .before .before .before .before .before .before .before .before .if2 .left)) _ _ _ (five-text _ _ _ _ _ _ (c .before .before .before .before .before .before .before .before .byte .ensures)) (c .before .before .put-line .ensures .0) (c .before .before .put-line .ensures .1)
+loop-again-3 c = due (c .before .before .before) .on _ (five-text _ _ _ _ _ _ (c .before .before .before .before .before .before .before .before .byte .ensures)) _ _ (c .before .before .put-line .ensures)
 
 same-length : tie.Need-same-length Inv-loop μ-loop
-same-length c = c .before .loop .inv .size
+same-length c = c .before .loop .inv .wrote .size
 
 returns : tie.Need-returns Inv-loop μ-loop
 returns c = kept-end _ _ _ _ _ _ _ _ (c .before .loop .inv) (c .loop-test .left)

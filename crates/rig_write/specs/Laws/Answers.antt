@@ -12,6 +12,7 @@ use lib.Seq.{take-at}
 use borrow.Author.Tests.{lt-ltb, le-ltb, ltb-true}
 use Rattle.laws.specs.Cases.{by}
 use Rattle.laws.specs.Put.{put}
+use Rattle.put_text.specs.Wrote.{Wrote}
 use Rattle.rig.specs.declared.Cycle.{Cycle}
 use Rattle.rig.specs.declared.Rig.{Rig}
 use Rattle.rig.specs.Rules.{Right}
@@ -38,23 +39,26 @@ module _ (g : Rig) (cycles : List Cycle) (b : List ℕ) where
     pub own-room : (own : List ℕ) → length own ≡ 40960 → length (fileOf g table) ≤ length own
     own-room own l = rw (t, l) (file-fits g cycles (right-is g cycles .0 e))
 
-    pub too-short : (n : ℕ) → n ≡ length (fileOf g table) → length b < n → (writtenReport (Refused 10) ≡ writtenOf g cycles (length b)) × (b ≡ bufferOf g cycles b)
+    pub too-short : (n : ℕ) → n ≡ 0 + length (fileOf g table) → length b < n → (writtenReport (Refused 10) ≡ writtenOf g cycles (length b)) × (b ≡ bufferOf g cycles b)
     unfolding writtenOf bufferOf
     too-short n d h =
-        let z : ltb (length b) (length (fileOf g (tableOf cycles))) ≡ true = lt-ltb (length b) (length (fileOf g (tableOf cycles))) (rw (← t, ← d) h) in
+        let k : length (fileOf g table) ≡ n = omega arith in
+        let z : ltb (length b) (length (fileOf g (tableOf cycles))) ≡ true = lt-ltb (length b) (length (fileOf g (tableOf cycles))) (rw (← t, k) h) in
         (rw (e, z), rw (e, z))
 
-    pub in-own : (own₀ own : List ℕ) (n : ℕ) → length own₀ ≡ 40960 → length own ≡ length own₀ → n ≡ length (fileOf g table) → n ≤ length own
-    in-own own₀ own n l k d = let z = own-room own₀ l in omega arith
+    pub in-own : (own₀ own : List ℕ) (n : ℕ) → length own₀ ≡ 40960 → Wrote own₀ 0 (fileOf g table) own n → n ≤ length own
+    in-own own₀ own n l w = let z = own-room own₀ l in let p = w .place in let k = w .size in omega arith
 
-    pub done : (own₀ own : List ℕ) (n : ℕ) (c : List ℕ) → n ≡ length (fileOf g table) → n ≤ length b → own ≡ put own₀ 0 (fileOf g table) → c ≡ put b 0 (take n own) →
+    pub done : (own₀ own : List ℕ) (n : ℕ) (c : List ℕ) (p : ℕ) → Wrote own₀ 0 (fileOf g table) own n → n ≤ length b → Wrote b 0 (take n own) c p →
         (writtenReport (Done n) ≡ writtenOf g cycles (length b)) × (c ≡ bufferOf g cycles b)
     unfolding writtenOf bufferOf
-    done own₀ own n c d h o q =
-        let f : length (fileOf g (tableOf cycles)) ≡ n = sym (d ∙ ap (λ (x : List (List ℕ)). length (fileOf g x)) t) in
+    done own₀ own n c p o h q =
+        let e₀ = o .place in
+        let f₀ : length (fileOf g table) ≡ n = omega arith in
+        let f : length (fileOf g (tableOf cycles)) ≡ n = ap (λ (x : List (List ℕ)). length (fileOf g x)) (sym t) ∙ f₀ in
         let z : ltb (length b) (length (fileOf g (tableOf cycles))) ≡ false = le-ltb (length b) (length (fileOf g (tableOf cycles))) (omega arith) in
-        let k : take n own ≡ fileOf g (tableOf cycles) = rw (o, t) (front own₀ (fileOf g (tableOf cycles)) n f) in
-        (rw (e, z, f), q ∙ rw (e, z, k))
+        let k : take n own ≡ fileOf g (tableOf cycles) = rw (o .text, t) (front own₀ (fileOf g (tableOf cycles)) n f) in
+        (rw (e, z, f), q .text ∙ rw (e, z, k))
 
 -- two answers with one report are one answer
 pub written-same : (a b : Written) → writtenReport a ≡ writtenReport b → a ≡ b

@@ -25,7 +25,7 @@ use Rattle.rig_lines.specs.Text.{lineBytes, text}
 use Rattle.rig_write.specs.Kept.{kept, ended}
 use Rattle.rig_write.specs.Laws.Kept.{text-append}
 use Rattle.rig_write.specs.File.{rigLine, isTask, taskLine, isCondition, conditionLine, isLine, flagLine, isFlag, cycleLine, isRow, rowLine, fileOf}
-use Rattle.rig_write.specs.Laws.Chain.{tasksText, conditionsText, linesText, cyclesText, rowsText, file-parts}
+use Rattle.rig_write.specs.Laws.Chain.{tasksText, conditionsText, linesText, cyclesText, rowsText, fromCycles, fromLines, fromConditions, fromTasks, file-parts}
 use Rattle.rig_write.specs.Laws.Sized.{Good, rig-good, task-good, condition-good, line-good, cycle-good, row-good}
 
 -- how many digits a number below 1,000 has
@@ -127,9 +127,9 @@ module _ (g : Rig) (cycles : List Cycle) (r : Right g cycles) where
   pub file-fits : length (fileOf g (tableOf cycles)) ≤ 40960
   file-fits =
       let a = rig-length in let b = tasks-length in let c = conditions-length in let d = lines-length in let e = cycles-length in let f = rows-length in
-      let l0 = length-append (ended (rigLine g)) (tasksText g) in
-      let l1 = length-append ((ended (rigLine g)) ++ tasksText g) (conditionsText g) in
-      let l2 = length-append (((ended (rigLine g)) ++ tasksText g) ++ conditionsText g) (linesText g) in
-      let l3 = length-append ((((ended (rigLine g)) ++ tasksText g) ++ conditionsText g) ++ linesText g) (cyclesText (tableOf cycles)) in
-      let l4 = length-append (((((ended (rigLine g)) ++ tasksText g) ++ conditionsText g) ++ linesText g) ++ cyclesText (tableOf cycles)) (rowsText g) in
+      let l0 = length-append (ended (rigLine g)) (fromTasks g (tableOf cycles)) in
+      let l1 = length-append (tasksText g) (fromConditions g (tableOf cycles)) in
+      let l2 = length-append (conditionsText g) (fromLines g (tableOf cycles)) in
+      let l3 = length-append (linesText g) (fromCycles g (tableOf cycles)) in
+      let l4 = length-append (cyclesText (tableOf cycles)) (rowsText g) in
       rw (← file-parts g (tableOf cycles)) (omega arith)

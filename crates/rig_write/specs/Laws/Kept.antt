@@ -2,13 +2,13 @@
 -- Assumes nothing.
 use Prim.Native.Nat.{ℕ, zero, suc, _+_, _-_, _≤_, _<_}
 use mathlib.Core.Path.{_≡_, refl, sym, ap, _∙_}
-use mathlib.Core.Bool.{Bool, true, false, cond}
+use mathlib.Core.Bool.{Bool, true, false}
 use mathlib.Core.List.{List, [], _∷_, _++_, append-assoc, append-nil}
 use native.Mathlib.Omega.{arith}
 use native.Mathlib.Numerals.{add-one}
 use lib.ListN.{length, length-append}
-use Rattle.laws.specs.Put.{put}
-use Rattle.laws.specs.Laws.Put.{put-put, put-none, length-put}
+use Rattle.put_text.specs.Wrote.{Wrote}
+use Rattle.put_text.specs.Laws.Wrote.{wrote-as, wrote-none, wrote-then}
 use Rattle.rig_lines.specs.Line.{Line}
 use Rattle.rig_lines.specs.Text.{text}
 use Rattle.rig_write.specs.Kept.{kept, ended}
@@ -43,93 +43,60 @@ kept-within i n p f h = let e : (n - i) + i ≡ n = omega arith in rw e at (kept
 -- what a loop that writes them keeps
 pub record InKept (b₀ b : List ℕ) (at n : ℕ) (p : ℕ → Bool) (f : ℕ → Line) (q i : ℕ) : Type 0 where
   pub few : i ≤ n
-  pub place : q ≡ at + length (text (kept i p f))
-  pub written : b ≡ put b₀ at (text (kept i p f))
-  pub size : length b ≡ length b₀
+  pub wrote : Wrote b₀ at (text (kept i p f)) b q
   pub room : at + length (text (kept n p f)) ≤ length b₀
 
 pub kept-start : (b₀ : List ℕ) (at n : ℕ) (p : ℕ → Bool) (f : ℕ → Line) → at + length (text (kept n p f)) ≤ length b₀ → InKept b₀ b₀ at n p f at 0
 kept-start b₀ at n p f r =
-    let z : text (kept 0 p f) ≡ [] = unfold kept text in refl in
-    record { few = omega arith; place = rw z (omega arith); written = rw z (sym (put-none b₀ at)); size = refl; room = r }
+    let z : [] ≡ text (kept 0 p f) = unfold kept text in refl in
+    record { few = omega arith; wrote = wrote-as b₀ b₀ [] (text (kept 0 p f)) at at z (wrote-none b₀ at); room = r }
 
 module _ (b₀ b : List ℕ) (at n : ℕ) (p : ℕ → Bool) (f : ℕ → Line) (q i : ℕ) (w : InKept b₀ b at n p f q i) where
-  pub kept-end : n ≤ i → (q ≡ at + length (text (kept n p f))) × (b ≡ put b₀ at (text (kept n p f)))
+  pub kept-end : n ≤ i → Wrote b₀ at (text (kept n p f)) b q
   kept-end h =
       let e : i ≡ n = let a = w .few in omega arith in
-      (w .place ∙ ap (λ (j : ℕ). at + length (text (kept j p f))) e, w .written ∙ ap (λ (j : ℕ). put b₀ at (text (kept j p f))) e)
+      wrote-as b₀ b (text (kept i p f)) (text (kept n p f)) at q (ap (λ (j : ℕ). text (kept j p f)) e) (w .wrote)
 
+  -- a line that is left out
   pub kept-skip : i < n → p i ≡ false → InKept b₀ b at n p f q (i + 1)
   kept-skip h e =
-      let k = kept-no i p f e in
       record {
         few = omega arith;
-        place = w .place ∙ ap (λ (t : List ℕ). at + length t) (sym k);
-        written = w .written ∙ ap (put b₀ at) (sym k);
-        size = w .size;
+        wrote = wrote-as b₀ b (text (kept i p f)) (text (kept (i + 1) p f)) at q (sym (kept-no i p f e)) (w .wrote);
         room = w .room;
       }
 
-  module _ (h : i < n) (e : p i ≡ true) where
-    longer : length (text (kept (i + 1) p f)) ≡ length (text (kept i p f)) + length (ended (f i))
-    longer = ap length (kept-yes i p f e) ∙ length-append (text (kept i p f)) (ended (f i))
+-- the line of number i is to be written, by its text l: there is room for it, and behind it the loop goes on
+pub record Due (b₀ b : List ℕ) (at n : ℕ) (p : ℕ → Bool) (f : ℕ → Line) (q i : ℕ) : Type 0 where
+  pub room : (l : List ℕ) → l ≡ ended (f i) → q + length l ≤ length b
+  pub on : (l : List ℕ) → l ≡ ended (f i) → (c : List ℕ) (r : ℕ) → Wrote b q l c r → InKept b₀ c at n p f r (i + 1)
 
-    pub line-room : q + length (ended (f i)) ≤ length b
-    line-room =
-        let j = longer in
+module _ (b₀ b : List ℕ) (at n : ℕ) (p : ℕ → Bool) (f : ℕ → Line) (q i : ℕ) (w : InKept b₀ b at n p f q i) (h : i < n) (e : p i ≡ true) where
+  module _ (l : List ℕ) (d : l ≡ ended (f i)) where
+    grown : text (kept i p f) ++ l ≡ text (kept (i + 1) p f)
+    grown = ap (λ (t : List ℕ). text (kept i p f) ++ t) d ∙ sym (kept-yes i p f e)
+
+    longer : length (text (kept i p f)) + length l ≤ length (text (kept n p f))
+    longer =
+        let j = length-append (text (kept i p f)) l in
+        let g = ap length grown in
         let k = kept-within (i + 1) n p f (omega arith) in
-        let r = w .place in let s = w .room in let t = w .size in
         omega arith
 
-    pub kept-turn : (l : List ℕ) (r : ℕ) (c : List ℕ) → l ≡ ended (f i) → r ≡ q + length l → c ≡ put b q l → InKept b₀ c at n p f r (i + 1)
-    kept-turn l r c d x t =
+    line-room : q + length l ≤ length b
+    line-room = let j = longer in let r = w .wrote .place in let s = w .room in let t = w .wrote .size in omega arith
+
+    line-on : (c : List ℕ) (r : ℕ) → Wrote b q l c r → InKept b₀ c at n p f r (i + 1)
+    line-on c r u =
         let j = longer in
-        let g = w .place in
-        let o = line-room in
-        let u = w .size in
-        let x₁ : r ≡ q + length (ended (f i)) = rw (← d) x in
-        let t₁ : c ≡ put b q (ended (f i)) = rw (← d) t in
-        let a : at + length (text (kept i p f) ++ ended (f i)) ≤ length b₀ =
-        let y = length-append (text (kept i p f)) (ended (f i)) in omega arith in
+        let s = w .room in
         record {
           few = omega arith;
-          place = omega arith;
-          written = t₁ ∙ rw (w .written, g, put-put b₀ at (text (kept i p f)) (ended (f i)) a, kept-yes i p f e);
-          size = ap length t₁ ∙ (length-put b q (ended (f i)) o ∙ u);
+          wrote =
+              wrote-as b₀ c (text (kept i p f) ++ l) (text (kept (i + 1) p f)) at r grown
+              (wrote-then b₀ b c (text (kept i p f)) l at q r (omega arith) (w .wrote) u);
           room = w .room;
         }
 
--- room for one text is room for the same text
-pub room-as : (l m : List ℕ) (q n : ℕ) → l ≡ m → q + length m ≤ n → q + length l ≤ n
-room-as l m q n e h = rw e h
-
--- a text written in parts, one behind the other
-pub record Wrote (b₀ b : List ℕ) (l : List ℕ) (q : ℕ) : Type 0 where
-  pub place : q ≡ length l
-  pub written : b ≡ put b₀ 0 l
-  pub size : length b ≡ length b₀
-
-module _ (b₀ b : List ℕ) (a : List ℕ) (q : ℕ) (w : Wrote b₀ b a q) where
-  pub part-room : (c : List ℕ) → length (a ++ c) ≤ length b₀ → q + length c ≤ length b
-  part-room c h = let k = length-append a c in let e = w .place in let s = w .size in omega arith
-
-  pub part-on : (c : List ℕ) (r : ℕ) (d : List ℕ) → length (a ++ c) ≤ length b₀ → r ≡ q + length c → d ≡ put b q c → Wrote b₀ d (a ++ c) r
-  part-on c r d h e t =
-      let k = length-append a c in
-      let p = w .place in
-      let s = w .size in
-      let z : 0 + length a ≡ q = omega arith in
-      let o : 0 + length (a ++ c) ≤ length b₀ = omega arith in
-      record {
-        place = omega arith;
-        written = t ∙ (ap (λ (x : List ℕ). put x q c) (w .written) ∙ (ap (λ (x : ℕ). put (put b₀ 0 a) x c) (sym z) ∙ put-put b₀ 0 a c o));
-        size = ap length t ∙ (length-put b q c (omega arith) ∙ s);
-      }
-
-pub part-first : (b₀ b : List ℕ) (l : List ℕ) (q : ℕ) → length l ≤ length b₀ → q ≡ 0 + length l → b ≡ put b₀ 0 l → Wrote b₀ b l q
-part-first b₀ b l q h e t =
-    record { place = omega arith; written = t; size = ap length t ∙ length-put b₀ 0 l (omega arith) }
-
--- what is a part of a text is no longer than it
-pub part-short : (a c : List ℕ) (n : ℕ) → length (a ++ c) ≤ n → length a ≤ n
-part-short a c n h = let k = length-append a c in omega arith
+  pub kept-due : Due b₀ b at n p f q i
+  kept-due = record { room = line-room; on = line-on }

@@ -3,10 +3,11 @@
 --     split-piece    a piece up to its end, and what is left
 --     split-last     a text without the byte is one piece
 --     split-join     pieces without the byte come back
+--     led-append     pieces with the byte before each, and others behind them
 -- Assumes nothing.
 use Prim.Native.Nat.{ℕ}
 use mathlib.Core.Path.{_≡_, refl, ap, _∙_}
-use mathlib.Core.List.{List, [], _∷_, _++_, append-nil}
+use mathlib.Core.List.{List, [], _∷_, _++_, append-nil, append-assoc}
 use lib.Dec.{eqb}
 use borrow.Author.Tests.{eqb-true, eq-eqb, ne-eqb}
 use Rattle.laws.specs.Cases.{by}
@@ -59,3 +60,8 @@ pub split-join : (c : ℕ) (p : List ℕ) (ps : List (List ℕ)) → Free c p �
 unfolding led
 split-join c p [] h g = rw append-nil (split-last c p h)
 split-join c p (q ∷ qs) h g = split-piece c p (q ++ led c qs) h ∙ ap (λ (l : List (List ℕ)). p ∷ l) (split-join c q qs (g .0) (g .1))
+
+pub led-append : (c : ℕ) (a b : List (List ℕ)) → led c (a ++ b) ≡ led c a ++ led c b
+unfolding led
+led-append c [] b = refl
+led-append c (p ∷ ps) b = rw (led-append c ps b, append-assoc)

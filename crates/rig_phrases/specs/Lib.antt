@@ -1,0 +1,3 @@
+pub mod Phrases
+pub mod Writing
+pub mod Counts

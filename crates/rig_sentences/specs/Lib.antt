@@ -1,3 +1,0 @@
-pub mod Sentences
-pub mod Writing
-pub mod Counts
