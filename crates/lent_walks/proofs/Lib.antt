@@ -1,0 +1,9 @@
+pub mod Lent
+pub mod Alone
+pub mod FreshBytes
+pub mod FreshValueValue
+pub mod LentWords
+pub mod Value
+pub mod ValueLentWordsWords
+pub mod ValueValue
+pub mod ValueWordsLentWords
