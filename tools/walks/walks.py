@@ -8,13 +8,14 @@ program reads all that it needs from the entry's own source:
     pub fn NAME(e: &mut Exec, PARAMETERS) -> ANSWER
         ensures { λ r. ⌜ STATEMENT ⌝ }
     {
-        let s = (*e).METHOD(ARGUMENTS);       or PATH(*e, ARGUMENTS), or PATH(ARGUMENTS) that makes a fresh record
+        let s = (*e).METHOD(ARGUMENTS);       or PATH(ARGUMENTS) that makes a fresh record, or TELLER((*e).METHOD(ARGUMENTS))
         *e = s.RECORD;
         s.ANSWER
     }
 
 The callee takes the record by value and then the parameters in their order, has no `requires`, and ensures STATEMENT with
-`r` for `(BUILT (now (e .exit)) r)`, where BUILT puts a step together from its two parts. PARAMETERS are numbers, bools,
+`r` for `(BUILT (now (e .exit)) r)`, where BUILT puts a step together from its two parts. With a TELLER the callee ensures another statement of the
+same form, and the two make STATEMENT (TOLD). PARAMETERS are numbers, bools,
 structs and arrays of such by value, `&[T]` and `&mut [T]` of numbers.
 
 Run from the top of the repository. Written: crates/lent_walks/proofs/LAW.antt for each kind of entry, and for each crate of CRATES
@@ -36,6 +37,11 @@ CRATES = {
     'exec_lent_waits': ('exec_lent', *STEP),
     'exec_lent_bus': ('exec_lent', *STEP),
     'host': ('host', 'exec::Exec', 'host_replies::Coded', 'exec', 'reply', 'host_replies::Reply', False),
+}
+
+# crate: of a teller, the statement that it is told of and where that is, the step that it is told of, and what it ensures of that step
+TOLD = {
+    'host': ('Replies', 'Meets', 'exec.specs.Call', 'exec::Step', 'coded', 'host_replies.specs.Told'),
 }
 
 WIDTHS = {'u8': 'w8', 'u16': 'w16', 'u32': 'w32', 'u64': 'w64', 'usize': 'w64'}
@@ -222,14 +228,47 @@ def parameters(types):
     return found
 
 
+# ---- what a law has besides where a second callee tells what the first handed back
+
+TELLING = '''  abbrev pub telling : Ended
+  telling = record { signature = record { lifetimes = 0; outlives = []; params = plain (λ κs. row Q) ∷ []; result = plain (λ κs. S T) }; kept = (yes, tt) }
+
+  abbrev pub telling-clauses : {M : Type 1} (𝓤 : URA M) → Clauses 𝓤 telling
+  telling-clauses 𝓤 κs a = record { ghost = Unit {0}; requires = λ _. emp 𝓤; ensures = λ _ r end. fact 𝓤 (I (a .0) r) }
+
+'''
+
+TELLER = '''  abbrev pub Teller : {M : Type 1} (𝓤 : URA M) (H : Heap 𝓤) (A : Atoms 𝓤) → Contract 𝓤
+  Teller 𝓤 H A = tripleOf 𝓤 H A (telling .signature) (closing 𝓤 H A telling (telling-clauses 𝓤))
+
+'''
+
+GOES_TO_THE_TELLER = '''    abbrev on : Q .Value → Val → Teller 𝓤 H A .Ghost
+    on p w = ((tt, tt, tt, (p, tt), (w ∷ [], tt)), tt)
+
+    goes-on : (p : Q .Value) (w : Val) → ent 𝓤 (sem 𝓤 H A (row Q .own p (w ∷ []))) (Teller 𝓤 H A .pre (on p w))
+    goes-on p w = qed W (‵ (row Q .own p (w ∷ [])) ∷ []) ∵ nothing ! $ move ! (1 ∷ 0 ∷ []) $ fjoin ! $ nothing ! $ join ! $ nothing ! $ move ! (1 ∷ 0 ∷ []) $ join ! $ done !
+
+'''
+
+TELL = '''          peeks ! (row Q) (Is (row Q)) (shows 𝓤 H A (row Q)) p (w ∷ []) (λ isp.
+          land ! (from ! (stop !)) (init ! ⟪handed at⟫ refl (handed .lawful 𝓤 H A W .typed p _ isp .0)) $
+          use1 W (raw (Teller 𝓤 H A .pre (on p w))) (goes-on p w) $
+          calls-at ! fm (Teller 𝓤 H A) tells (on p w) (and-then ! (load ! (from ! (stop !)) (look ! ⟪handed then⟫ refl)) (no-more !)) (λ w.
+          use1 W (later (some (λ (r : T .Step). (‵ ftrue ⊛ ‵ (S T .own r (w ∷ []))) ⊛ raw (ensured 𝓤 H A telling (telling-clauses 𝓤) tt (p, tt) tt r)))) (id⊢ 𝓤 _) $ await ! tt $ pick ! (λ r.
+          split ! $ move ! (1 ∷ []) $ use1 W (some (λ (ys : Unit {0} × Unit {0}). ‵ (lasts telling tt (p, tt) ys) ⊛ raw (fact 𝓤 (I p r)))) (id⊢ 𝓤 _) $ pick ! (λ ys. split ! $ move ! (1 ∷ []) $ heard ! (I p r) (λ told.
+          fsplit ! $ drop ! $ drop ! $ split ! $ drop ! $
+'''
+
+
 # ---- a law: the walk of all entries whose parameters are of these kinds
 
 class Law:
-    def __init__(self, takes, types):
-        self.takes, self.parameters = takes, parameters(types)
+    def __init__(self, takes, told, types):
+        self.takes, self.told, self.parameters = takes, told, parameters(types)
         self.slices = [p for p in self.parameters if p.slice]
         self.lent = [p for p in self.parameters if p.lent]
-        self.name = ('' if takes else 'Fresh') + (''.join(p.word for p in self.parameters) or 'Alone')
+        self.name = ('' if takes else 'Fresh') + 'Told' * told + (''.join(p.word for p in self.parameters) or 'Alone')
         self.lay_out()
 
     def lay_out(self):
@@ -238,8 +277,9 @@ class Law:
         for i, p in enumerate(self.parameters):
             p.local = i + 2
         self.step_local = n + 2
-        self.copy_local = n + 3
-        first = n + 3 + self.takes
+        self.handed_local = n + 2 + self.told
+        self.copy_local = self.handed_local + 1
+        first = self.copy_local + self.takes
         for j, p in enumerate(self.lent):
             p.pointed, p.again = first + 2 * j, first + 2 * j + 1
         self.locals = first + 2 * len(self.lent)
@@ -252,27 +292,28 @@ class Law:
         return at('zs', self.parameters.index(p) + self.takes)
 
     def holes(self):
-        return {**self.words(), **self.code(), **self.contracts(), **self.types(), **self.tokens(), **self.exit(), **self.steps()}
+        return {**self.words(), **self.code(), **self.contracts(), **self.types(), **self.tokens(), **self.exit(), **self.steps(), **self.telling()}
 
     def words(self):
         made = 'the record is copied out and passed by value, ' if self.takes else ''
         return {
             'with': ('with ' + ', '.join(p.phrase for p in self.parameters) if self.parameters else 'with nothing else')
                     + ('' if self.takes else ', that makes a fresh record'),
-            'copied': made, 'many lent': str(len(self.lent)), 'many slices': str(len(self.slices)),
+            'copied': made, 'step told': 'a second callee turns what it answers into the step, ' * self.told, 'many lent': str(len(self.lent)), 'many slices': str(len(self.slices)),
             'many lifetimes': str(len(self.slices) + 1), 'many parameters': str(len(self.parameters) + 1),
         }
 
     def code(self):
         ps, there = self.parameters, 'place 1 (deref (T .exec .ty) ∷ [])'
-        locals_ = ['T .answer .ty', 'tyRef (named 0) mut (T .exec .written .ty)'] + [p.mir for p in ps] + ['step-type T'] + ['T .exec .ty'] * self.takes
+        locals_ = ['T .answer .ty', 'tyRef (named 0) mut (T .exec .written .ty)'] + [p.mir for p in ps] + ['step-type T'] + ['Q .ty'] * self.told + ['T .exec .ty'] * self.takes
         steps = [f'assign (place {self.copy_local} []) (rvOpd (copy ({there})))'] * self.takes
         for p in self.lent:
             locals_ += [p.pointer('erased'), f"sliceTy ({p.pointer('erased')})"]
             steps.append(f'assign (place {p.pointed} []) (addrOf (place {p.local} (field 0 ∷ deref (tyInt {WIDTHS[p.element]}) ∷ [])))')
             steps.append(f'assign (place {p.again} []) (aggregate (copy (place {p.pointed} []) ∷ copy (place {p.local} (field 1 ∷ [])) ∷ []))')
         passed = [self.copy_local] * self.takes + [p.again if p.lent else p.local for p in ps]
-        steps.append(f"call callee ({cons(f'copy (place {k} [])' for k in passed)}) (place {self.step_local} [])")
+        steps.append(f"call callee ({cons(f'copy (place {k} [])' for k in passed)}) (place {self.handed_local} [])")
+        steps += [f'call teller (copy (place {self.handed_local} []) ∷ []) (place {self.step_local} [])'] * self.told
         steps.append(f'assign ({there}) (rvOpd (copy (place {self.step_local} (field 0 ∷ []))))')
         steps.append(f'assign (place 0 []) (rvOpd (copy (place {self.step_local} (field 1 ∷ []))))')
         body = 'return'
@@ -287,14 +328,16 @@ class Law:
         last_said = [f"now ({at('end', k)})" for k, p in enumerate(ps, 1) if p.lent]
         last_told = [f"now ({at('end', k)})" for k, p in enumerate(ps, first) if p.lent]
         arrow = ['T .exec .Value'] * first + [p.stated for p in ps] + ['T .Step'] + ['List ℕ'] * len(self.lent)
+        handed = ['Q .Value' if self.told and x == 'T .Step' else x for x in arrow]
 
-        def apply(before, step, after):
-            return ' '.join(['K'] + [f'({x})' for x in before] + [step] + [f'({x})' for x in after])
+        def apply(before, step, after, of='K'):
+            return ' '.join([of] + [f'({x})' for x in before] + [step] + [f'({x})' for x in after])
         return {
-            'types': ''.join(p.bound for p in ps), 'K': ' → '.join(arrow + ['Type 0']),
+            'types': ''.join(p.bound for p in ps) + ' (Q : One) (handed : Plain Q)' * self.told, 'K': ' → '.join(handed + ['Type 0']), 'statement over': ' → '.join(arrow + ['Type 0']),
             'callee slots': cons(['plain (λ κs. X T)'] * first + [p.slot_of_own for p in ps]), 'slots': cons(p.slot for p in ps),
             'callee kept': nested(['yes'] * (len(ps) + first)), 'kept': nested(['yes'] * len(ps)),
-            'callee says': apply(told, 'r', last_told), 'self says': apply(said, '(L .step-of (now (end .0)) r)', last_said),
+            'callee says': apply(told, 'r', last_told), 'self says': apply(said, '(L .step-of (now (end .0)) r)', last_said, 'J' if self.told else 'K'),
+            'shown': apply(['h'] * first + [p.v for p in ps], 'r', [self.last_of(p) for p in self.lent], 'J'),
             'known': apply(['h'] * first + [p.v for p in ps], 'r', [self.last_of(p) for p in self.lent]),
         }
 
@@ -347,6 +390,28 @@ class Law:
             'own the copy': 'owned ! (X T) (Is (X T)) (L .x-makes 𝓤 H A) h _ is $ fjoin ! $ ' * self.takes,
         }
 
+    def telling(self):
+        """What a second callee needs, which makes the step of what the first handed back."""
+        if not self.told:
+            blank = dict.fromkeys(('teller', 'telling', 'Teller', 'Said', 'goes to the teller', 'told known', 'tell', 'told arrow', 'told arrow 𝓣', 'known too'), '')
+            return blank | {'handed': 'S T', 'Handed': 'T .Step', 'Shown': 'Known', 'e': 'e', 'p': 'r'}
+        c, first = self.contracts(), self.takes
+        over = ['h'] * first + [p.v for p in self.parameters]
+        kinds = ['T .exec .Value'] * first + [p.stated for p in self.parameters]
+        after = [f'after{k}' for k in range(len(self.lent))]
+        bound = ''.join(f' ({v} : {ty})' for v, ty in zip(over, kinds)) + ' (p : Q .Value) (r : T .Step)' + ''.join(f' ({v} : List ℕ)' for v in after)
+        both = bound + f" → {' '.join(['K', *over, 'p', *after])} → I p r → {' '.join(['J', *over, 'r', *after])}"
+        lasts = [self.last_of(p) for p in self.lent]
+        given = ' '.join(over + ['p', 'r'] + [f'({x})' for x in lasts])
+        return {
+            'handed': 'row Q', 'Handed': 'Q .Value', 'Shown': 'Shown', 'e': f'(both {given} e told)', 'p': 'p',
+            'teller': f" (teller : Name) (I : Q .Value → T .Step → Type 0) (J : {c['statement over']}) (both :{both})",
+            'telling': TELLING, 'Teller': TELLER, 'Said': '\n    abbrev Shown : T .Step → Last → Type 0\n    Shown r zs = ' + c['shown'] + '\n',
+            'goes to the teller': GOES_TO_THE_TELLER, 'told known': ' (tells : Triple 𝓤 (C teller) (Teller 𝓤 H A))',
+            'told arrow': ' → Triple 𝓤 (C teller) (Teller 𝓤 H A)', 'told arrow 𝓣': ' → Triple 𝓤 (𝓣 .C teller) (Teller 𝓤 H A)', 'known too': ' tells',
+            'tell': fill(TELL, {'handed at': str(self.place(self.handed_local, len(self.lent) + 7)), 'handed then': str(self.place(self.handed_local, len(self.lent) + 7))}),
+        }
+
     def lend(self):
         """The record is copied out, and each `&mut [T]` is made anew from its pointer and its length."""
         lines = []
@@ -379,7 +444,7 @@ class Law:
         m, count = len(self.lent), self.locals
         stored, left = m + 7, m + 4
         # each local, each `&mut [T]`, and seven steps of law.txt open a function
-        opened = count + m + 7
+        opened = count + m + 7 + 5 * self.told
         return {
             'alloc': ''.join(f'alloc1 ! (λ l{i}. ' for i in range(count)),
             'pass': ' '.join([f'pass1 ! (init ! {self.place(1, 0)} refl (tt, tt)) $'] + [f'pass1 ! (init ! {self.place(p.local, 0)} refl {p.typed}) $' for p in self.parameters]),
@@ -437,12 +502,13 @@ class Entry:
         self.names = Names(crate)
         self.shared, self.record, self.step, self.exec, self.answer, self.said, self.enum = CRATES[crate]
         self.takes = 1 if '*e' in call else 0
+        self.teller = call.split('((*e)')[0] if '((*e)' in call else None
         self.parameters = re.findall(r'(\w+): (&(?:mut )?\[\w+\]|\[\[\w+; \d+\]; \d+\]|\[\w+; \d+\]|\w+)', params)
         self.statement = ' '.join(statement.split())
-        self.law = Law(self.takes, [ty for _, ty in self.parameters])
+        self.law = Law(self.takes, int(bool(self.teller)), [ty for _, ty in self.parameters])
 
     def callee(self):
-        m = re.match(r'\(\*e\)\.(\w+)\(', self.call)
+        m = re.search(r'\(\*e\)\.(\w+)\(', self.call)
         if m:
             return f'{self.record}::{m.group(1)}'
         return self.call.split('(')[0].replace('crate::', f'{self.crate}::')
@@ -467,13 +533,29 @@ class Entry:
                 uses.append(f'use {path}.{{' + ', '.join(f'{n} as spec-{n}' for n in cited) + '}')
             own |= {n: 'spec-' + n for n in cited}
         text = re.sub(r'(?<![\w\-.])[A-Za-z]\w*(?![\w\-])', lambda m: own.get(m.group(0), m.group(0)), text)
-        return text, ' '.join(over + ['r'] + lasts), uses
+        return text, over, lasts, uses
 
+    def told(self):
+        """What a law with a teller is given besides, and the `use` lines."""
+        if not self.teller:
+            return {'told given': '', 'told cited': '', 'told uses': '', 'handed': '', 'of what is told': ''}
+        text, over, lasts, _ = self.known()
+        said, told_of, where, step, ensured, place = TOLD[self.crate]
+        teller = self.names.proofs(self.teller)
+        both = f"λ {' '.join(over + ['p', 'r'] + lasts)} m t. record {{ step = p; meets = m; told = t }}"
+        return {
+            'told given': f" #teller (λ p r. r ≡ spec-{ensured} p) (λ {' '.join(over + ['r'] + lasts)}. {text}) ({both})",
+            'told cited': ('\n    (cited 𝓤 H (tripleOf 𝓤 H (𝓖 .A) t.signature (t.spec 𝓤 H (𝓖 .A) (𝓜 .mem) (𝓡 .run))) 𝓜 𝓡 code.env #teller t-def.routine'
+                           f" code.calls-{dashed(self.teller.replace('::', '·'))} (t-thm.met 𝓤 H 𝓜 𝓖 𝓡))"),
+            'told uses': (f'use mathlib.Core.Path.{{_≡_}}\nuse Rattle.{where}.{{{told_of} as spec-{told_of}}}\nuse Rattle.{place}.{{{ensured} as spec-{ensured}}}\n'
+                          f'use {teller} as t\nuse {teller}.Symbol as t-def\nuse {teller}.Symbol.{{name as #teller}}\nuse {teller}.Met as t-thm\n'),
+            'handed': ' step-handed step-plain', 'of what is told': f' of the step that `{self.teller}` tells',
+        }
     def by_value(self):
         return [ty for _, ty in self.parameters if not ty.startswith('&')]
 
     def uses(self):
-        lines = (['use mathlib.Core.List.{[]}'] if '[]' in self.known()[0] else []) + self.known()[2]
+        lines = (['use mathlib.Core.List.{[]}'] if '[]' in self.known()[0] else []) + self.known()[3]
         if any(ty not in GIVEN for ty in self.by_value()):
             lines.append(OF_TYPES)
         for ty in dict.fromkeys(ty for ty in self.by_value() if re.match('[A-Z]', ty)):
@@ -481,12 +563,25 @@ class Entry:
             lines += [f'use {self.names.proofs(path)} as {ty}-row', f'use {self.names.proofs(path)}.Laws as {ty}-laws']
         return '\n'.join(lines)
 
+    def handed(self):
+        """In Shared.antt: the step that the tellers of the crate are told of."""
+        if self.crate not in TOLD:
+            return {'handed uses': '', 'handed laws': '', 'handed names': '', 'handed step': ''}
+        step = self.names.proofs(TOLD[self.crate][3])
+        laws = 'val = SL.val Q.the-type Q′.the-laws; tells = SL.tells Q.the-type Q′.the-laws; lawful = λ 𝓤 H A W. SL.lawful Q.the-type Q′.the-laws 𝓤 H A W'
+        return {
+            'handed uses': f'use {step} as Q\nuse {step}.Laws as Q′\n', 'handed names': ', One, Plain', 'handed step': ', step-handed, step-plain' if self.teller else '',
+            'handed laws': f'\nabbrev pub step-handed : One\nstep-handed = one Q.the-row Q′.mir\n\nabbrev pub step-plain : Plain step-handed\nstep-plain = record {{ {laws} }}\n',
+        }
+
     def lent_names(self):
         names = [name for ty, name in (('u32', 'number, number-plain'), ('bool', 'truth, truth-plain')) if ty in self.by_value()]
         return ', '.join(names + ['one'] * any(ty not in GIVEN for ty in self.by_value()))
 
     def holes(self):
-        callee, (text, over, _) = self.callee(), self.known()
+        callee, (text, over, lasts, _) = self.callee(), self.known()
+        if self.teller:
+            text = text.replace(f'spec-{TOLD[self.crate][0]} ', f'spec-{TOLD[self.crate][1]} ')
         names = self.lent_names()
         return {
             'crate': self.crate, 'name': self.name, 'dashed name': dashed(self.name), 'callee': callee, 'exec': self.exec, 'answer': self.answer,
@@ -495,7 +590,7 @@ class Entry:
             'proofs Answer': self.names.proofs(self.said), 'proofs callee': self.names.proofs(callee), 'me': self.names.proofs(f'{self.crate}::{self.name}'),
             'cited callee': dashed(callee.replace('::', '·')), 'NL': 'EL' if self.enum else 'SL', 'few': ' tt' if self.enum else '',
             'uses': self.uses(), 'lent': f'use Rattle.{LAWS}.proofs.Lent.{{{names}}}\n' if names else '', 'law': self.law.name, 'laws': LAWS,
-            'shared': self.names.proofs(f'{self.shared}::Shared'), 'over': over, 'statement': text,
+            'shared': self.names.proofs(f'{self.shared}::Shared'), 'over': ' '.join(over + ['r'] + lasts), 'statement': text, **self.told(), **self.handed(),
             'values given': ''.join(GIVEN.get(ty) or plain(ty).given() for ty in self.by_value()),
         }
 

@@ -9,7 +9,9 @@ use Rattle.host_replies.proofs.Coded as S
 use Rattle.host_replies.proofs.Coded.Laws as S′
 use Rattle.host_replies.proofs.Reply as N
 use Rattle.host_replies.proofs.Reply.Laws as N′
-use Rattle.lent_walks.proofs.Lent.{Types, Laws, one}
+use Rattle.exec.proofs.Step as Q
+use Rattle.exec.proofs.Step.Laws as Q′
+use Rattle.lent_walks.proofs.Lent.{Types, Laws, one, One, Plain}
 
 abbrev pub types : Types
 types = record {
@@ -41,3 +43,9 @@ laws = record {
   x-makes = λ 𝓤 H A. SL.makes X.the-type X′.the-plain 𝓤 H A;
   n-makes = λ 𝓤 H A. SL.makes N.the-type N′.the-plain 𝓤 H A;
 }
+
+abbrev pub step-handed : One
+step-handed = one Q.the-row Q′.mir
+
+abbrev pub step-plain : Plain step-handed
+step-plain = record { val = SL.val Q.the-type Q′.the-laws; tells = SL.tells Q.the-type Q′.the-laws; lawful = λ 𝓤 H A W. SL.lawful Q.the-type Q′.the-laws 𝓤 H A W }
