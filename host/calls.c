@@ -69,9 +69,9 @@ bool run_call(algolmallet_record *record, const struct script_line *line)
         return false;
     algolmallet_reply reply = make_call(record, line, words);
     print_reply((char[]){line->verb, 0}, &reply);
-    if (reply.refusal == 0 && line->verb == 'Q')
+    if (reply.refusal == ALGOLMALLET_ACCEPTED && line->verb == 'Q')
         printf("\t%" PRIu32, reply.value);
-    if (reply.refusal == 0 && line->verb == 'K')
+    if (reply.refusal == ALGOLMALLET_ACCEPTED && line->verb == 'K')
         for (uint32_t i = 0; i < reply.words; i++)
             printf("\t%" PRIu16, words[i]);
     putchar('\n');

@@ -26,7 +26,7 @@ static algolmallet_record *make_room_for_record(void)
 
 static void print_start(const algolmallet_reply *reply)
 {
-    if (reply->refusal == 0)
+    if (reply->refusal == ALGOLMALLET_ACCEPTED)
         print_reply("START", reply);
     else
         printf("START\t%" PRIu32 "\t%" PRIu32, reply->refusal, reply->line);
@@ -53,7 +53,7 @@ static void run_bench(algolmallet_record *record, bool with_blocks)
         return;
     algolmallet_reply reply = algolmallet_start(record, rig, part.length);
     print_start(&reply);
-    if (reply.refusal == 0 && part.has_script)
+    if (reply.refusal == ALGOLMALLET_ACCEPTED && part.has_script)
         run_script(record, with_blocks);
 }
 

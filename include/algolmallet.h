@@ -7,8 +7,8 @@
  * The words in quotes are the build paper's.
  *
  * WHAT A HOST DOES. It keeps memory for one record, has algolmallet_start fill it from a rig file, and lends it to each
- * call, "to be changed where it stands". Any bytes are a record: memory that was never started, or that was damaged, is
- * refused by 12 and left as it is.
+ * call, "to be changed where it stands". Any bytes may be handed in as a record: what is no sound record, as memory that was
+ * never started or that was overwritten, is refused by 12 and left as it is.
  *
  * WHAT A HOST OWES. No entry can test these, and the proofs rest on them:
  *   - every pointer is valid and not null (also of a buffer with 0 words) and aligned for what it points to, the record by
@@ -16,8 +16,9 @@
  *   - behind a pointer is as much memory as the entry is told, and algolmallet_record_size() bytes behind the record's;
  *   - the record and the buffers of one call lie apart;
  *   - one caller at a time for each record; calls on different records do not touch each other;
- *   - a bool is true or false.
- *   - a call has ALGOLMALLET_STACK_BYTES of stack: records are handed about by value inside.
+ *   - a bool is true or false;
+ *   - a call finds ALGOLMALLET_STACK_BYTES of stack free: a start holds the rig file's lines there, and every call some copies of
+ *     the record.
  *
  * WHAT IS PROVED of each entry, for every record and every argument: the record after it, its reply and every word of the
  * lent buffers are those that the paper's rules give (crates/host_replies/specs/Told.antt). "A refused call returns the record
@@ -38,10 +39,11 @@ extern "C" {
 #define ALGOLMALLET_VERSION "0.1.0"
 #define ALGOLMALLET_VERSION_NUMBER 1000 /* 1,000,000 times the first, 1,000 times the second, and the third */
 
-/* The version of the archive. A host that was not built with it compares it with ALGOLMALLET_VERSION_NUMBER. */
+/* The version of the archive: ALGOLMALLET_VERSION_NUMBER, if this header belongs to it. */
 uint32_t algolmallet_version(void);
 
-/* Sizes that the paper fixes: the least room of a tick's buffer; words of the compool area for each row; bytes of the longest rig file. */
+/* Sizes that the paper fixes: the least room of a tick's buffer, in words; words of the compool area for each row (B line) of the
+ * rig; bytes of the longest rig file. */
 #define ALGOLMALLET_TICK_WORDS 128
 #define ALGOLMALLET_ROW_WORDS 33
 #define ALGOLMALLET_FILE_BYTES 40960
@@ -84,16 +86,16 @@ enum algolmallet_refusal {
     ALGOLMALLET_NOT_SOUND = 12
 };
 
-/* A refusal's text: the paper's words for its number, "accepted" for 0. The text and a 0 byte stand at the front of `out` then, and its length,
- * without that byte, is answered. If `room` is not more than the length, nothing is written: the answer tells how much is wanted.
- * (The library keeps no memory of its own, so it has no text to point at.) */
+/* A refusal's text: the paper's words for its number, "accepted" for 0, "no refusal has this number" above 12. It is written to the front of
+ * `out`, which has `room` bytes, with a 0 byte behind it. Answers the text's length without that byte. If `room` is not more than that length,
+ * nothing is written. (The library keeps no memory of its own, so it has no text to point at.) */
 size_t algolmallet_refusal_text(uint32_t number, char *out, size_t room);
 
 /* What a call answers. After a refusal `served`, `words` and `value` are 0. */
 typedef struct {
     uint32_t refusal; /* enum algolmallet_refusal */
     uint32_t line;    /* of a start refused by 1 to 4: the rig file's line, 0 for the whole file; else 0 */
-    uint32_t served;  /* flag changes served, "at most 79" */
+    uint32_t served;  /* flag changes that the call served, "at most 79" */
     uint32_t words;   /* bus words written by a tick */
     uint32_t value;   /* of a flag read, 0 or 1 */
     uint32_t count;   /* the count after the call, as the record has it; 0 after a refused start */
@@ -153,7 +155,7 @@ algolmallet_reply algolmallet_wait_unlatched(algolmallet_record *r, uint32_t fla
 /* "the flag and value are queued", and served. Refused by 12, 5, 6, 7. */
 algolmallet_reply algolmallet_signal(algolmallet_record *r, uint32_t flag, bool value);
 
-/* Answers the flag's value. Refused by 12, 5, 6, 7. */
+/* The reply's `value` is the flag's. Refused by 12, 5, 6, 7. */
 algolmallet_reply algolmallet_read_flag(algolmallet_record *r, uint32_t flag);
 
 /* "Row k's block starts at word 33(k - 1) of the lent area: a tag word, then its data. The area has exactly 33 words a row;

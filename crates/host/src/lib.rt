@@ -1,5 +1,5 @@
 // What a host in C calls. It keeps one record in its own memory and lends it to each entry, "to be changed where it stands".
-// Each entry calls the function by value of its name, stores the record that it hands back over the lent one, and replies.
+// Each entry calls the method by value of its name, has its step told in numbers, stores the record over the lent one, and replies.
 use exec::Exec;
 use host_replies::Reply;
 ghost use mathlib.Core.Path.{_≡_};
@@ -62,7 +62,7 @@ pub extern "C" fn algolmallet_start(e: &mut Exec, file: &[u8]) -> Reply
 pub extern "C" fn algolmallet_schedule(e: &mut Exec, task: u32) -> Reply
     ensures { λ r. ⌜ Replies (now (e .entry)) (Call.schedule task) (codedOf (now (e .exit)) r) [] ⌝ }
 {
-    let s = host_replies::schedule(*e, task);
+    let s = host_replies::told((*e).schedule(task));
     *e = s.exec;
     s.reply
 }
@@ -71,7 +71,7 @@ pub extern "C" fn algolmallet_schedule(e: &mut Exec, task: u32) -> Reply
 pub extern "C" fn algolmallet_cancel(e: &mut Exec, task: u32) -> Reply
     ensures { λ r. ⌜ Replies (now (e .entry)) (Call.cancel task) (codedOf (now (e .exit)) r) [] ⌝ }
 {
-    let s = host_replies::cancel(*e, task);
+    let s = host_replies::told((*e).cancel(task));
     *e = s.exec;
     s.reply
 }
@@ -80,7 +80,7 @@ pub extern "C" fn algolmallet_cancel(e: &mut Exec, task: u32) -> Reply
 pub extern "C" fn algolmallet_terminate(e: &mut Exec, task: u32) -> Reply
     ensures { λ r. ⌜ Replies (now (e .entry)) (Call.terminate task) (codedOf (now (e .exit)) r) [] ⌝ }
 {
-    let s = host_replies::terminate(*e, task);
+    let s = host_replies::told((*e).terminate(task));
     *e = s.exec;
     s.reply
 }
@@ -89,7 +89,7 @@ pub extern "C" fn algolmallet_terminate(e: &mut Exec, task: u32) -> Reply
 pub extern "C" fn algolmallet_finish(e: &mut Exec) -> Reply
     ensures { λ r. ⌜ Replies (now (e .entry)) Call.finish (codedOf (now (e .exit)) r) [] ⌝ }
 {
-    let s = host_replies::finish(*e);
+    let s = host_replies::told((*e).finish());
     *e = s.exec;
     s.reply
 }
@@ -98,7 +98,7 @@ pub extern "C" fn algolmallet_finish(e: &mut Exec) -> Reply
 pub extern "C" fn algolmallet_tick(e: &mut Exec, out: &mut [u16]) -> Reply
     ensures { λ r. ⌜ Replies (now (e .entry)) (Call.tick (now (out .entry))) (codedOf (now (e .exit)) r) (now (out .exit)) ⌝ }
 {
-    let s = host_replies::tick(*e, out);
+    let s = host_replies::told((*e).tick(out));
     *e = s.exec;
     s.reply
 }
@@ -107,7 +107,7 @@ pub extern "C" fn algolmallet_tick(e: &mut Exec, out: &mut [u16]) -> Reply
 pub extern "C" fn algolmallet_wait_until(e: &mut Exec, count: u32) -> Reply
     ensures { λ r. ⌜ Replies (now (e .entry)) (Call.waitUntil count) (codedOf (now (e .exit)) r) [] ⌝ }
 {
-    let s = host_replies::wait_until(*e, count);
+    let s = host_replies::told((*e).wait_until(count));
     *e = s.exec;
     s.reply
 }
@@ -116,7 +116,7 @@ pub extern "C" fn algolmallet_wait_until(e: &mut Exec, count: u32) -> Reply
 pub extern "C" fn algolmallet_wait_for(e: &mut Exec, cycles: u32) -> Reply
     ensures { λ r. ⌜ Replies (now (e .entry)) (Call.waitFor cycles) (codedOf (now (e .exit)) r) [] ⌝ }
 {
-    let s = host_replies::wait_for(*e, cycles);
+    let s = host_replies::told((*e).wait_for(cycles));
     *e = s.exec;
     s.reply
 }
@@ -125,7 +125,7 @@ pub extern "C" fn algolmallet_wait_for(e: &mut Exec, cycles: u32) -> Reply
 pub extern "C" fn algolmallet_wait_latched(e: &mut Exec, flag: u32, value: bool) -> Reply
     ensures { λ r. ⌜ Replies (now (e .entry)) (Call.latched flag (bit value)) (codedOf (now (e .exit)) r) [] ⌝ }
 {
-    let s = host_replies::latched(*e, flag, value);
+    let s = host_replies::told((*e).latched(flag, value));
     *e = s.exec;
     s.reply
 }
@@ -134,7 +134,7 @@ pub extern "C" fn algolmallet_wait_latched(e: &mut Exec, flag: u32, value: bool)
 pub extern "C" fn algolmallet_wait_unlatched(e: &mut Exec, flag: u32, value: bool) -> Reply
     ensures { λ r. ⌜ Replies (now (e .entry)) (Call.unlatched flag (bit value)) (codedOf (now (e .exit)) r) [] ⌝ }
 {
-    let s = host_replies::unlatched(*e, flag, value);
+    let s = host_replies::told((*e).unlatched(flag, value));
     *e = s.exec;
     s.reply
 }
@@ -143,7 +143,7 @@ pub extern "C" fn algolmallet_wait_unlatched(e: &mut Exec, flag: u32, value: boo
 pub extern "C" fn algolmallet_signal(e: &mut Exec, flag: u32, value: bool) -> Reply
     ensures { λ r. ⌜ Replies (now (e .entry)) (Call.signal flag (bit value)) (codedOf (now (e .exit)) r) [] ⌝ }
 {
-    let s = host_replies::signal(*e, flag, value);
+    let s = host_replies::told((*e).signal(flag, value));
     *e = s.exec;
     s.reply
 }
@@ -152,7 +152,7 @@ pub extern "C" fn algolmallet_signal(e: &mut Exec, flag: u32, value: bool) -> Re
 pub extern "C" fn algolmallet_read_flag(e: &mut Exec, flag: u32) -> Reply
     ensures { λ r. ⌜ Replies (now (e .entry)) (Call.readFlag flag) (codedOf (now (e .exit)) r) [] ⌝ }
 {
-    let s = host_replies::read_flag(*e, flag);
+    let s = host_replies::told((*e).read_flag(flag));
     *e = s.exec;
     s.reply
 }
@@ -166,7 +166,7 @@ pub extern "C" fn algolmallet_read_block(
 ) -> Reply
     ensures { λ r. ⌜ Replies (now (e .entry)) (Call.readBlock row (now (area .entry)) (now (buffer .entry))) (codedOf (now (e .exit)) r) (now (buffer .exit)) ⌝ }
 {
-    let s = host_replies::read_block(*e, row, area, buffer);
+    let s = host_replies::told((*e).read_block(row, area, buffer));
     *e = s.exec;
     s.reply
 }
@@ -180,7 +180,7 @@ pub extern "C" fn algolmallet_write_block(
 ) -> Reply
     ensures { λ r. ⌜ Replies (now (e .entry)) (Call.writeBlock row (now (area .entry)) (now (words .entry))) (codedOf (now (e .exit)) r) (now (area .exit)) ⌝ }
 {
-    let s = host_replies::write_block(*e, row, area, words);
+    let s = host_replies::told((*e).write_block(row, area, words));
     *e = s.exec;
     s.reply
 }

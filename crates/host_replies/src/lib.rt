@@ -1,21 +1,9 @@
-// What a host in C is told of each call: the call by value, its answer put into the numbers that C reads. Crate host has the entries that C
-// sees, each of which calls the function of its name here.
+// What a host in C is told of each call: the record after it, and its answer put into the numbers that C reads. Crate host has the entries that
+// C sees; each makes its call and has the step told here.
 mod calls;
 mod starting;
 
-pub use calls::cancel;
-pub use calls::finish;
-pub use calls::latched;
-pub use calls::read_block;
-pub use calls::read_flag;
-pub use calls::schedule;
-pub use calls::signal;
-pub use calls::terminate;
-pub use calls::tick;
-pub use calls::unlatched;
-pub use calls::wait_for;
-pub use calls::wait_until;
-pub use calls::write_block;
+pub use calls::told;
 use exec::Exec;
 pub use starting::start;
 

@@ -1,0 +1,15 @@
+pub mod Lent
+pub mod Alone
+pub mod FreshBytes
+pub mod FreshValueValue
+pub mod LentWords
+pub mod ToldAlone
+pub mod ToldLentWords
+pub mod ToldValue
+pub mod ToldValueLentWordsWords
+pub mod ToldValueValue
+pub mod ToldValueWordsLentWords
+pub mod Value
+pub mod ValueLentWordsWords
+pub mod ValueValue
+pub mod ValueWordsLentWords
