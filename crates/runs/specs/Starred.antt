@@ -13,7 +13,7 @@ use Rattle.laws.specs.Tables.{total, over}
 use Rattle.word_answers.specs.Answers.{WordReport, wordAnswered, wordRefused}
 use Rattle.word_answers.specs.Cases.{Case, case, AsTold}
 use Rattle.word_answers.specs.Laws.Cases.{right-more}
-use Rattle.words.specs.Laws.Cases.{wordCases, words-right}
+use Rattle.words.specs.Cases.{wordCases, words-right}
 use Rattle.rules.specs.Rig.{Rig}
 use Rattle.rules.specs.State.{blank}
 use Rattle.rules.specs.Conditions.{relax, met, drive, names}
