@@ -33,7 +33,7 @@ fn run_ends(keep: &[u8], from: usize, at: usize, b: u8) -> bool
     if b != LF {
         return false;
     }
-    bench_script::is_run(&keep[from..at])
+    bench_read::is_run(&keep[from..at])
 }
 
 // Where the last line starts once the byte stands before `at`.

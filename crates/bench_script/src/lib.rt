@@ -1,24 +1,20 @@
-// Script lines and output lines of the bench runner.
+// Script lines and output lines of the bench runner: what they say, and the output written. The reading of script lines is in bench_read.
 ghost use mathlib.Core.Path.{_≡_};
 ghost use mathlib.Core.List.{[], _∷_};
-ghost use Prim.Native.Nat.{_+_, _*_, _≤_, _<_};
+ghost use Prim.Native.Nat.{_+_, _*_, _≤_};
 ghost use lib.Dec.{leb};
 ghost use lib.ListN.{length};
-ghost use Rattle.bench_script.specs.Script.{verbOf, alone, withNumber, withValue, saidOf};
 ghost use Rattle.bench_script.specs.Output.{fieldsText, wrongText, fieldRoom, turnRoom};
 ghost use Rattle.bench_script.specs.Letters.{startName};
 ghost use Rattle.put_text.specs.Wrote.{Wrote};
 ghost use Rattle.bench_script.specs.Laws.Written.{Begun};
-ghost use Rattle.bench_script.specs.Input.{isRun, rigEnd};
 
 // Lines end in LF, and fields are parted by one tab.
 pub const LF: u8 = b'\n';
 
 pub const TAB: u8 = b'\t';
 
-// The letters of RUN, and of START.
-const RUN: usize = 3;
-
+// The letters of START.
 const NAME: usize = 5;
 
 // The line START has at most 5 letters, three fields of 11 bytes and LF.
@@ -41,94 +37,6 @@ pub enum Said {
     Signal(u32, bool),
     Ask(u32),
     Wrong,
-}
-
-fn verb_of(f: &[u8]) -> u8
-    ensures { λ r. ⌜ r ≡ verbOf (now (f .entry)) ⌝ }
-{
-    if f.len() == 1 { f[0] } else { 0 }
-}
-
-fn alone(v: u8) -> Said
-    ensures { λ r. ⌜ r ≡ alone v ⌝ }
-{
-    if v == b'F' {
-        return Said::Finish;
-    }
-    if v == b'K' {
-        return Said::Tick;
-    }
-    Said::Wrong
-}
-
-fn with_number(v: u8, n: u32) -> Said
-    ensures { λ r. ⌜ r ≡ withNumber v n ⌝ }
-{
-    if v == b'S' {
-        return Said::Schedule(n);
-    }
-    if v == b'X' {
-        return Said::Cancel(n);
-    }
-    if v == b'Z' {
-        return Said::Terminate(n);
-    }
-    if v == b'U' {
-        return Said::Until(n);
-    }
-    if v == b'R' {
-        return Said::Cycles(n);
-    }
-    if v == b'Q' {
-        return Said::Ask(n);
-    }
-    Said::Wrong
-}
-
-fn with_value(v: u8, f: u32, b: bool) -> Said
-    ensures { λ r. ⌜ r ≡ withValue v f b ⌝ }
-{
-    if v == b'L' {
-        return Said::Latched(f, b);
-    }
-    if v == b'N' {
-        return Said::Unlatched(f, b);
-    }
-    if v == b'G' {
-        return Said::Signal(f, b);
-    }
-    Said::Wrong
-}
-
-// What a script line, without its LF, says.
-pub fn read_line(line: &[u8]) -> Said
-    ensures { λ r. ⌜ r ≡ saidOf (now (line .entry)) ⌝ }
-{
-    let e = line.len();
-    let p = text::find(line, 0, e, TAB);
-    let v = verb_of(&line[0..p]);
-    if p == e {
-        return alone(v);
-    }
-    let a = p + 1;
-    let q = text::find(line, a, e, TAB);
-    let n = decimal::number_in(&line[a..q]);
-    if decimal::CAP <= n {
-        return Said::Wrong;
-    }
-    if q == e {
-        return with_number(v, n as u32);
-    }
-    let b = q + 1;
-    let t = text::find(line, b, e, TAB);
-    if t < e {
-        return Said::Wrong;
-    }
-    let x = decimal::number_in(&line[b..t]);
-    if 1 < x {
-        return Said::Wrong;
-    }
-    with_value(v, n as u32, x == 1)
 }
 
 // A tab and the decimal of n are written at `at`; the place after them is answered.
@@ -171,41 +79,6 @@ pub fn put_answer(out: &mut [u8], at: usize, code: u32, count: u32, running: u32
     let b = put_field(&mut *out, at, code);
     let c = put_field(&mut *out, b, count);
     put_field(out, c, running)
-}
-
-// Whether a line, without its LF, is RUN.
-pub fn is_run(line: &[u8]) -> bool
-    ensures { λ r. ⌜ r ≡ isRun (now (line .entry)) ⌝ }
-{
-    if line.len() != RUN {
-        return false;
-    }
-    if line[0] != b'R' {
-        return false;
-    }
-    if line[1] != b'U' {
-        return false;
-    }
-    line[2] == b'N'
-}
-
-// Where the rig ends: before the first line RUN, or with the input.
-pub fn rig_end(input: &[u8]) -> usize
-    ensures { λ r. ⌜ r ≡ rigEnd (now (input .entry)) ⌝ }
-{
-    let n = input.len();
-    let mut i: usize = 0;
-    while i < n {
-        let e = lines::line_of(input, i);
-        if e == n {
-            return n;
-        }
-        if is_run(&input[i..e]) {
-            return i;
-        }
-        i = e + 1;
-    }
-    n
 }
 
 // A turn may be taken only where there is room for any turn's line.

@@ -135,7 +135,7 @@ pub fn take_line(e: Exec, line: &[u8], out: &mut [u8], at: usize) -> Turn
     if !bench_script::has_room(out.len(), at) {
         return Turn { st, at };
     }
-    let said = bench_script::read_line(line);
+    let said = bench_read::read_line(line);
     let verb = letter(said);
     if verb == b'?' {
         let p = bench_script::put_wrong(out, at);

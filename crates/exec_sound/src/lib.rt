@@ -56,7 +56,7 @@ fn tables_ok<'a>(
     if !sound_tables::within(state, many, DISPATCHABLE) {
         return false;
     }
-    if !sound_tables::tree(controller, state, many) {
+    if !sound_tasks::tree(controller, state, many) {
         return false;
     }
     if !sound_tables::within(value, top, ON) {
@@ -68,10 +68,10 @@ fn tables_ok<'a>(
     if !sound_tables::empty(wake, many) {
         return false;
     }
-    if !sound_tables::flags(activation, state, value, many) {
+    if !sound_tasks::flags(activation, state, value, many) {
         return false;
     }
-    if !sound_tables::waits(state, on) {
+    if !sound_tasks::waits(state, on) {
         return false;
     }
     if MOST_TASKS < n {

@@ -66,11 +66,11 @@ pub fn whole(lines: &[u8; rig_held::ROOM], n: usize) -> Answer
     requires { ⌜ (1 ≤ n) × (n ≤ 10240) × (getD (now lines) 0 0 ≡ kindRIG) ⌝ }
     ensures { λ r. ⌜ r ≡ wholeFile (held (now (lines .entry)) n) ⌝ }
 {
-    let rule = rig_held::line_rule(lines, n);
+    let rule = rig_line_rules::line_rule(lines, n);
     if rule != 0 {
         return refused(BREAKS_A_RULE, 0, rule);
     }
-    let g = rig_fill::rig_from(lines, n);
+    let g = rig_filled::rig_from(lines, n);
     let cycles = rig::cycles_of(rig_fill::table_from(lines, n));
     let broken = rig_whole::broken(g, cycles);
     if broken != 0 {

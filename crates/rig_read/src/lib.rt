@@ -62,11 +62,11 @@ fn read_lines(s: &[u8]) -> rig_build::Answer
         if f != m {
             break 'lines rig_build::refused(WRONG_SHAPE, line, 0);
         }
-        if !rig_lines::sized(k, m, v) {
+        if !rig_line_sizes::sized(k, m, v) {
             break 'lines rig_build::refused(OUTSIDE_SIZE, line, 0);
         }
-        let here = rig_lines::place_of(k, v);
-        if !rig_lines::in_order(prev, k, here) {
+        let here = rig_line_sizes::place_of(k, v);
+        if !rig_line_sizes::in_order(prev, k, here) {
             break 'lines rig_build::refused(OUT_OF_ORDER, line, 0);
         }
         rig_held::hold(&mut held, count, k as u8, rig_build::bytes_of(v));

@@ -111,6 +111,6 @@ pub fn say_input(input: &[u8], out: &mut [u8]) -> usize
     ensures { λ r. ⌜ Said (rigPart (now (input .entry))) (now (out .entry)) (now (out .exit)) r ⌝ }
     ensures { λ r. ⌜ CountsOf r (now (out .exit)) ⌝ }
 {
-    let end = bench_script::rig_end(input);
+    let end = bench_read::rig_end(input);
     say(&input[0..end], out)
 }

@@ -10,8 +10,10 @@ use Rattle.laws.specs.Iter.{iter}
 use Rattle.laws.specs.All.{all}
 use Rattle.laws.specs.Any.{any}
 use Rattle.laws.specs.Tables.{total, over}
-use Rattle.words.specs.Answers.{WordReport, wordAnswered, wordRefused}
-use Rattle.words.specs.Laws.Cases.{Case, case, AsTold, right-more, wordCases, words-right}
+use Rattle.word_answers.specs.Answers.{WordReport, wordAnswered, wordRefused}
+use Rattle.word_answers.specs.Cases.{Case, case, AsTold}
+use Rattle.word_answers.specs.Laws.Cases.{right-more}
+use Rattle.words.specs.Cases.{wordCases, words-right}
 use Rattle.rules.specs.Rig.{Rig}
 use Rattle.rules.specs.State.{blank}
 use Rattle.rules.specs.Conditions.{relax, met, drive, names}

@@ -7,15 +7,13 @@
 //     bits       word                                    address error status failure
 //     parity     word                                    parity
 //     judge      image address                           number verdict
+use command_words::Command;
 use libc::STDOUT_FILENO;
+use status_words::Judged;
+use status_words::Status;
+use status_words::Verdict;
+use word_answers::Encoded;
 use word_parts::parity;
-use words::Encoded;
-use words::command;
-use words::command::Command;
-use words::status;
-use words::status::Judged;
-use words::status::Status;
-use words::status::Verdict;
 
 fn text(t: &[u8]) {
     io::write_all(STDOUT_FILENO, t);
@@ -41,7 +39,7 @@ fn ask_command(address: u32, transmit: bool, sub: u32, last: u32) {
     flag(transmit);
     field(sub);
     field(last);
-    let answer = command::word(Command {
+    let answer = command_words::word(Command {
         address,
         transmit,
         sub,
@@ -57,7 +55,7 @@ fn ask_command(address: u32, transmit: bool, sub: u32, last: u32) {
 fn ask_fields(word: u16) {
     text(b"fields");
     field(word as u32);
-    let c = command::fields(word);
+    let c = command_words::fields(word);
     field(c.address);
     flag(c.transmit);
     field(c.sub);
@@ -71,7 +69,7 @@ fn ask_status(address: u32, error: bool, bits: u32, failure: bool) {
     flag(error);
     field(bits);
     flag(failure);
-    let answer = status::word(Status {
+    let answer = status_words::word(Status {
         address,
         error,
         status: bits,
@@ -80,7 +78,7 @@ fn ask_status(address: u32, error: bool, bits: u32, failure: bool) {
     field(answer.number());
     if let Encoded::Word(w) = answer {
         field(w as u32);
-        field(status::image(w));
+        field(status_words::image(w));
     }
     end();
 }
@@ -88,7 +86,7 @@ fn ask_status(address: u32, error: bool, bits: u32, failure: bool) {
 fn ask_bits(word: u16) {
     text(b"bits");
     field(word as u32);
-    let s = status::fields(word);
+    let s = status_words::fields(word);
     field(s.address);
     flag(s.error);
     field(s.status);
@@ -115,7 +113,7 @@ fn ask_judge(image: u32, address: u32) {
     text(b"judge");
     field(image);
     field(address);
-    let answer = status::judge(image, address);
+    let answer = status_words::judge(image, address);
     field(answer.number());
     if let Judged::As(v) = answer {
         verdict_text(v);

@@ -17,14 +17,12 @@
 //     bits ADDRESS SUM        for each status 0 to 519, error 0 then 1, failure 0 then 1: the answer
 //     judge ADDRESS SUM REFUSED ERROR EXCEPTION CLEAN
 //                             for each image 0 to 131075: 11 refused, 2 error, 1 exception, 0 clean; then how many of each
+use command_words::Command;
 use libc::STDOUT_FILENO;
-use words::Encoded;
-use words::command;
-use words::command::Command;
-use words::status;
-use words::status::Judged;
-use words::status::Status;
-use words::status::Verdict;
+use status_words::Judged;
+use status_words::Status;
+use status_words::Verdict;
+use word_answers::Encoded;
 
 fn mixed(sum: u32, value: u32) -> u32 {
     (((sum as u64) * 31 + (value as u64)) % 65521) as u32
@@ -44,22 +42,22 @@ fn mixed_answer(sum: u32, answer: Encoded) -> u32 {
 }
 
 fn mixed_command(sum: u32, word: u16) -> u32 {
-    let c = command::fields(word);
+    let c = command_words::fields(word);
     let sum = mixed(sum, c.address);
     let sum = mixed_bit(sum, c.transmit);
     let sum = mixed(sum, c.sub);
     let sum = mixed(sum, c.last);
-    mixed_answer(sum, command::word(c))
+    mixed_answer(sum, command_words::word(c))
 }
 
 fn mixed_status(sum: u32, word: u16) -> u32 {
-    let s = status::fields(word);
+    let s = status_words::fields(word);
     let sum = mixed(sum, s.address);
     let sum = mixed_bit(sum, s.error);
     let sum = mixed(sum, s.status);
     let sum = mixed_bit(sum, s.failure);
-    let sum = mixed_answer(sum, status::word(s));
-    mixed(sum, status::image(word))
+    let sum = mixed_answer(sum, status_words::word(s));
+    mixed(sum, status_words::image(word))
 }
 
 // The sums of the words of a block as commands and as statuses.
@@ -89,7 +87,7 @@ fn mixed_fields(sum: u32, address: u32, sub: u32, last: u32, transmit: bool) -> 
         sub,
         last,
     };
-    mixed_answer(sum, command::word(c))
+    mixed_answer(sum, command_words::word(c))
 }
 
 fn mixed_lasts(start: u32, address: u32, sub: u32) -> u32 {
@@ -120,7 +118,7 @@ fn mixed_bits(sum: u32, address: u32, bits: u32, error: bool, failure: bool) -> 
         status: bits,
         failure,
     };
-    mixed_answer(sum, status::word(s))
+    mixed_answer(sum, status_words::word(s))
 }
 
 fn all_bits(address: u32) -> u32 {
@@ -184,7 +182,7 @@ fn all_images(address: u32) -> Tally {
     };
     let mut image: u32 = 0;
     while image < 131076 {
-        t = with_judged(t, value_of(status::judge(image, address)));
+        t = with_judged(t, value_of(status_words::judge(image, address)));
         image += 1;
     }
     t

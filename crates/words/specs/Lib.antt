@@ -1,4 +1,1 @@
-pub mod Answers
-pub mod Command
-pub mod Status
-pub mod Laws
+pub mod Cases

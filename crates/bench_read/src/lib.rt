@@ -1,0 +1,131 @@
+// The bench runner's input read: what a script line says, and where the rig ends.
+use bench_script::Said;
+ghost use mathlib.Core.Path.{_≡_};
+ghost use Rattle.bench_script.specs.Script.{verbOf, alone, withNumber, withValue, saidOf};
+ghost use Rattle.bench_script.specs.Input.{isRun, rigEnd};
+
+// The letters of RUN.
+const RUN: usize = 3;
+
+fn verb_of(f: &[u8]) -> u8
+    ensures { λ r. ⌜ r ≡ verbOf (now (f .entry)) ⌝ }
+{
+    if f.len() == 1 { f[0] } else { 0 }
+}
+
+fn alone(v: u8) -> Said
+    ensures { λ r. ⌜ r ≡ alone v ⌝ }
+{
+    if v == b'F' {
+        return Said::Finish;
+    }
+    if v == b'K' {
+        return Said::Tick;
+    }
+    Said::Wrong
+}
+
+fn with_number(v: u8, n: u32) -> Said
+    ensures { λ r. ⌜ r ≡ withNumber v n ⌝ }
+{
+    if v == b'S' {
+        return Said::Schedule(n);
+    }
+    if v == b'X' {
+        return Said::Cancel(n);
+    }
+    if v == b'Z' {
+        return Said::Terminate(n);
+    }
+    if v == b'U' {
+        return Said::Until(n);
+    }
+    if v == b'R' {
+        return Said::Cycles(n);
+    }
+    if v == b'Q' {
+        return Said::Ask(n);
+    }
+    Said::Wrong
+}
+
+fn with_value(v: u8, f: u32, b: bool) -> Said
+    ensures { λ r. ⌜ r ≡ withValue v f b ⌝ }
+{
+    if v == b'L' {
+        return Said::Latched(f, b);
+    }
+    if v == b'N' {
+        return Said::Unlatched(f, b);
+    }
+    if v == b'G' {
+        return Said::Signal(f, b);
+    }
+    Said::Wrong
+}
+
+// What a script line, without its LF, says.
+pub fn read_line(line: &[u8]) -> Said
+    ensures { λ r. ⌜ r ≡ saidOf (now (line .entry)) ⌝ }
+{
+    let e = line.len();
+    let p = text::find(line, 0, e, bench_script::TAB);
+    let v = verb_of(&line[0..p]);
+    if p == e {
+        return alone(v);
+    }
+    let a = p + 1;
+    let q = text::find(line, a, e, bench_script::TAB);
+    let n = decimal::number_in(&line[a..q]);
+    if decimal::CAP <= n {
+        return Said::Wrong;
+    }
+    if q == e {
+        return with_number(v, n as u32);
+    }
+    let b = q + 1;
+    let t = text::find(line, b, e, bench_script::TAB);
+    if t < e {
+        return Said::Wrong;
+    }
+    let x = decimal::number_in(&line[b..t]);
+    if 1 < x {
+        return Said::Wrong;
+    }
+    with_value(v, n as u32, x == 1)
+}
+
+// Whether a line, without its LF, is RUN.
+pub fn is_run(line: &[u8]) -> bool
+    ensures { λ r. ⌜ r ≡ isRun (now (line .entry)) ⌝ }
+{
+    if line.len() != RUN {
+        return false;
+    }
+    if line[0] != b'R' {
+        return false;
+    }
+    if line[1] != b'U' {
+        return false;
+    }
+    line[2] == b'N'
+}
+
+// Where the rig ends: before the first line RUN, or with the input.
+pub fn rig_end(input: &[u8]) -> usize
+    ensures { λ r. ⌜ r ≡ rigEnd (now (input .entry)) ⌝ }
+{
+    let n = input.len();
+    let mut i: usize = 0;
+    while i < n {
+        let e = lines::line_of(input, i);
+        if e == n {
+            return n;
+        }
+        if is_run(&input[i..e]) {
+            return i;
+        }
+        i = e + 1;
+    }
+    n
+}
