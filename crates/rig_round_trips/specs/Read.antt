@@ -5,7 +5,7 @@ use Prim.Native.Nat.{ℕ}
 use mathlib.Core.Path.{_≡_, refl, sym, ap, ap₂, _∙_, subst}
 use mathlib.Core.List.{List, [], _∷_}
 use lib.Dec.{eqb}
-use borrow.Author.Tests.{eqb-true, eq-eqb}
+use borrow.Author.Tests.{eq-eqb}
 use Rattle.laws.specs.All.{all}
 use Rattle.laws.specs.Laws.All.{all-all, allOf-cons, allOf-nil}
 use Rattle.laws.specs.First.{firstFalse}
@@ -14,8 +14,8 @@ use Rattle.rig.specs.declared.Cycle.{Cycle}
 use Rattle.rig.specs.declared.Rig.{Rig}
 use Rattle.rig.specs.Rules.{Right}
 use Rattle.rig.specs.Forms.{cyclesOf, tableOf}
-use Rattle.rig_whole.specs.Tests.{firstBroken, rightB}
-use Rattle.rig_whole.specs.Laws.Whole.{right-is}
+use Rattle.rig_whole.specs.Tests.{firstBroken}
+use Rattle.rig_whole.specs.Laws.Whole.{broken-none}
 use Rattle.rig_lines.specs.Line.{Line}
 use Rattle.rig_lines.specs.Text.{text}
 use Rattle.rig_lines.specs.Laws.Judged.{Faultless}
@@ -70,8 +70,7 @@ module _ (g : Rig) (cycles : List Cycle) (r : Right g cycles) where
 
   -- and none of the rig
   rig-none : firstBroken g cycles ≡ 0
-  unfolding rightB
-  rig-none = eqb-true (firstBroken g cycles) 0 (right-is g cycles .1 r)
+  rig-none = broken-none g cycles .1 r
 
   text-is : fileOf g (tableOf cycles) ≡ text (rigLine g ∷ others g cycles r)
   unfolding fileOf

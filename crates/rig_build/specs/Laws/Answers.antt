@@ -14,6 +14,8 @@ use Rattle.rig.specs.Forms.{cyclesOf}
 use Rattle.rig.specs.declared.Cycle.{Cycle}
 use Rattle.rig.specs.declared.Rig.{Rig}
 use Rattle.rig_whole.specs.Tests.{firstBroken}
+use Rattle.rig_whole.specs.Which.{BrokenFirst}
+use Rattle.rig_whole.specs.Laws.Which.{broken-computed}
 use Rattle.rig_lines.specs.Kinds.{kindB}
 use Rattle.rig_lines.specs.Line.{Line}
 use Rattle.rig_lines.specs.File.{fault, faultOf, linesOf}
@@ -57,16 +59,16 @@ module _ (rs : List Line) (rule : ℕ) (e : rule ≡ firstFalse 1 (lineTests rs)
   pub whole-rows : rule ≡ 0 → howMany (isKind kindB) rs ≤ 64
   whole-rows z = line-rules rs .0 (sym e ∙ z) .rows
 
-  module _ (z : rule ≡ 0) (g : Rig) (f : g ≡ rigFrom rs) (t : List (List ℕ)) (d : t ≡ tableFrom rs) (cycles : List Cycle) (h : cycles ≡ cyclesOf t) (x : ℕ) (b : x ≡ firstBroken g cycles) where
+  module _ (z : rule ≡ 0) (g : Rig) (f : g ≡ rigFrom rs) (t : List (List ℕ)) (d : t ≡ tableFrom rs) (cycles : List Cycle) (h : cycles ≡ cyclesOf t) (x : ℕ) (b : BrokenFirst g cycles x) where
     as-whole : judged rule g cycles ≡ wholeFile rs
     unfolding wholeFile
     as-whole = rw (e, f, h, d)
 
     pub whole-rig : (x ≡ 0 → ⊥) → (y : ℕ) → y ≡ behind x → fileRefused 4 0 y ≡ wholeFile rs
-    whole-rig n y q = judged-rig rule g cycles x y z b n q ∙ as-whole
+    whole-rig n y q = judged-rig rule g cycles x y z (broken-computed g cycles x b) n q ∙ as-whole
 
     pub whole-right : x ≡ 0 → fileAccepted g cycles ≡ wholeFile rs
-    whole-right q = judged-right rule g cycles x z b q ∙ as-whole
+    whole-right q = judged-right rule g cycles x z (broken-computed g cycles x b) q ∙ as-whole
 
 -- a faulty line's answer, and that of a file without one
 pub by-fault : (s : List ℕ) (j line : ℕ) → faultOf s ≡ fault (suc j) line → fileRefused (suc j) line 0 ≡ byLines s
