@@ -45,7 +45,7 @@ use denote.Triple.Clauses.{ensured, lasts}
 use denote.Triple.Table.{entered, cited}
 use denote.Triple.Walked.{says, Stays, stay-ref, stay-dropped, gave-slice, walkOf, AllGo, goes-ref, goes-dropped, goes-gave-slice, Walks, ends-at, walked, walk-meets}
 use denote.Exit.{yes}
-use Rattle.host_replies.specs.Told.{BeginsFrom as spec-BeginsFrom}
+use Rattle.host_replies.specs.Told.{StartRepliesFrom as spec-StartRepliesFrom}
 use Rattle.exec.specs.declared.Exec.{Exec}
 use Rattle.host_replies.specs.declared.Coded.{Coded}
 use Rattle.exec.proofs.Exec as X
@@ -94,7 +94,7 @@ module _ {M : Type 1} (𝓤 : URA M) (H : Heap 𝓤) (A : Atoms 𝓤) (W : Given
   Last = Unit {0} × Unit {0}
 
   abbrev Known : Coded → Last → Type 0
-  Known r zs = spec-BeginsFrom v-file r
+  Known r zs = spec-StartRepliesFrom v-file r
 
   exits : (r : Coded) (zs : Last) → Is N.the-row (r .reply) (nval (r .reply) ∷ []) → Known r zs → ent 𝓤 (⋆ 𝓤 H A (‵ (fobs γ (X.the-row .coded .code (r .exec))) ∷ ‵ (fbor κ (Body (mem X.the-row) b o γ)) ∷ ‵ (flft κ q) ∷ (‵ (flft κ-file q-file) ⊛ ‵ ftrue) ∷ [])) (Post (nval (r .reply)))
   exits r zs is e =
