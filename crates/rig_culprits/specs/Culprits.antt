@@ -9,7 +9,7 @@ use Rattle.text.specs.Split.{split, part}
 use Rattle.rig_tables.specs.Tests.{climb}
 use Rattle.rig_lines.specs.Line.{Line, lineOf}
 use Rattle.rig_lines.specs.File.{linesIn, linesOf}
-use Rattle.rig_build.specs.Read.{readOf}
+use Rattle.rig_meaning.specs.Reading.{readOf}
 use Rattle.rig_culprits.specs.declared.Key.{Key}
 use Rattle.rig_culprits.specs.declared.Culprit.{Culprit}
 

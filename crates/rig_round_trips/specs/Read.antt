@@ -26,7 +26,7 @@ use Rattle.rig_round_trips.specs.MarkTests.{markedOne, markTests}
 use Rattle.rig_round_trips.specs.Marked.{after-rig, marks-say}
 use Rattle.rig_lines.specs.Whole.{lineTests}
 use Rattle.rig_fill.specs.OfLines.{rigFrom, tableFrom}
-use Rattle.rig_build.specs.Read.{behind, brokenRule, fileAccepted, readOf}
+use Rattle.rig_build.specs.Read.{behind, brokenRule, fileAccepted, readComputed}
 use Rattle.rig_round_trips.specs.Bridge.{built-rig, built-table}
 use Rattle.rig_build.specs.Laws.Exactly.{ruleOf, all-right}
 use Rattle.rig_write.specs.File.{rigLine, linesFrom, fileOf}
@@ -95,7 +95,7 @@ module _ (g : Rig) (cycles : List Cycle) (r : Right g cycles) where
       (ap behind (ap₂ firstBroken (sym (ap rigFrom lines-of) ∙ rig-of) (ap cyclesOf (sym (ap tableFrom lines-of) ∙ table-of) ∙ cycles-back cycles) ∙ rig-none))
 
   -- "reading what was written of a right rig gives that rig"
-  pub read-written : readOf (fileOf g (tableOf cycles)) ≡ fileAccepted g cycles
+  pub read-written : readComputed (fileOf g (tableOf cycles)) ≡ fileAccepted g cycles
   read-written =
       all-right (fileOf g (tableOf cycles)) (file-fits g cycles r) no-fault rule-of
       ∙ ap₂ fileAccepted rig-of (ap cyclesOf table-of ∙ cycles-back cycles)

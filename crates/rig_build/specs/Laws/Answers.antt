@@ -22,7 +22,7 @@ use Rattle.rig_lines.specs.File.{fault, faultOf, linesOf}
 use Rattle.rig_lines.specs.Whole.{isKind, howMany, lineTests}
 use Rattle.rig_lines.specs.Laws.Whole.{line-rules}
 use Rattle.rig_fill.specs.OfLines.{rigFrom, tableFrom}
-use Rattle.rig_build.specs.Read.{fileRefused, fileAccepted, behind, brokenRule, judged, wholeFile, byLines, readOf}
+use Rattle.rig_build.specs.Read.{fileRefused, fileAccepted, behind, brokenRule, judged, wholeFile, byLines, readComputed}
 
 pub behind-zero : (n : ℕ) → n ≡ 0 → 0 ≡ behind n
 unfolding behind
@@ -79,12 +79,12 @@ pub by-whole : (s : List ℕ) → faultOf s ≡ fault 0 0 → wholeFile (linesOf
 unfolding byLines
 by-whole s e = rw e
 
-pub read-long : (s : List ℕ) → 40960 < length s → fileRefused 2 0 0 ≡ readOf s
-unfolding readOf
+pub read-long : (s : List ℕ) → 40960 < length s → fileRefused 2 0 0 ≡ readComputed s
+unfolding readComputed
 read-long s h = rw (lt-ltb 40960 (length s) h)
 
-pub read-short : (s : List ℕ) → length s ≤ 40960 → byLines s ≡ readOf s
-unfolding readOf
+pub read-short : (s : List ℕ) → length s ≤ 40960 → byLines s ≡ readComputed s
+unfolding readComputed
 read-short s h = rw (le-ltb 40960 (length s) h)
 
 -- nine numbers, one by one
