@@ -10,7 +10,6 @@ use lib.Dec.{ltb}
 use lib.ListN.{length, getD, take, drop}
 use lib.Seq.{take-at}
 use borrow.Author.Tests.{lt-ltb, le-ltb, ltb-true}
-use Rattle.laws.specs.Cases.{by}
 use Rattle.laws.specs.Put.{put}
 use Rattle.rig.specs.declared.Cycle.{Cycle}
 use Rattle.rig.specs.declared.Rig.{Rig}
