@@ -7,7 +7,7 @@ use Rattle.rules.specs.Rig as G
 use Rattle.rules.specs.State as S
 use Rattle.rules.specs.Calls as R
 use Rattle.rig_build.specs.declared.Answer.{Answer}
-use Rattle.rig_build.specs.Read.{readOf}
+use Rattle.rig_meaning.specs.Reading.{readOf}
 use Rattle.bench_script.specs.Letters.{lf}
 use Rattle.bench_input.specs.Opening.{Opening, still, whole, withByte}
 use Rattle.bench_input.specs.Line.{withMore, lastText}

@@ -11,7 +11,7 @@ use Rattle.rules.specs.State as S
 use Rattle.rules.specs.Calls as R
 use Rattle.exec_state.specs.View.{rigOf}
 use Rattle.rig_build.specs.declared.Answer.{Answer}
-use Rattle.rig_build.specs.Read.{readOf}
+use Rattle.rig_meaning.specs.Reading.{readOf}
 use Rattle.bench_script.specs.Letters.{lf, startName}
 use Rattle.bench_script.specs.Output.{lineText}
 use Rattle.bench_script.specs.Input.{rigEnd}

@@ -6,7 +6,7 @@ use Prim.Native.Nat.{ℕ}
 use Rattle.rig.specs.declared.Cycle.{Cycle}
 use Rattle.rig.specs.declared.Rig.{Rig}
 use Rattle.rules.specs.Calls as R
-use Rattle.rig_build.specs.Read.{readOf}
+use Rattle.rig_meaning.specs.Reading.{readOf}
 use Rattle.exec.specs.Call.{answerOf, Meets}
 use Rattle.exec.specs.Starting.{noExec, Started}
 use Rattle.exec.specs.declared.Exec.{Exec}

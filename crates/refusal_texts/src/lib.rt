@@ -1,6 +1,7 @@
 // The refusals' texts, for a caller that has a buffer: the build paper's words for each number.
 ghost use mathlib.Core.Path.{_≡_};
-ghost use Rattle.refusal_texts.specs.Texts.{accepted, wrongShape, outsideSize, outOfOrder, ruleBroken, nobodyRuns, noSuch, notAllowed, wrongState, countTooHigh, wrongLength, wordOutsideSize, notSound, noRefusal, refusalText, Given};
+ghost use lib.ListN.{getD};
+ghost use Rattle.refusal_texts.specs.Texts.{texts, noRefusal, refusalText, Given};
 
 // The text and the byte 0, which ends a text in C, if there is room for both. Its length is answered in any case.
 fn give(out: &mut [u8], text: &[u8]) -> usize
@@ -15,13 +16,13 @@ fn give(out: &mut [u8], text: &[u8]) -> usize
 }
 
 fn accepted(out: &mut [u8]) -> usize
-    ensures { λ r. ⌜ Given accepted (now (out .entry)) (now (out .exit)) r ⌝ }
+    ensures { λ r. ⌜ Given (getD texts 0 noRefusal) (now (out .entry)) (now (out .exit)) r ⌝ }
 {
     give(out, b"accepted")
 }
 
 fn wrong_shape(out: &mut [u8]) -> usize
-    ensures { λ r. ⌜ Given wrongShape (now (out .entry)) (now (out .exit)) r ⌝ }
+    ensures { λ r. ⌜ Given (getD texts 1 noRefusal) (now (out .entry)) (now (out .exit)) r ⌝ }
 {
     give(
         out,
@@ -30,7 +31,7 @@ fn wrong_shape(out: &mut [u8]) -> usize
 }
 
 fn outside_size(out: &mut [u8]) -> usize
-    ensures { λ r. ⌜ Given outsideSize (now (out .entry)) (now (out .exit)) r ⌝ }
+    ensures { λ r. ⌜ Given (getD texts 2 noRefusal) (now (out .entry)) (now (out .exit)) r ⌝ }
 {
     give(
         out,
@@ -39,13 +40,13 @@ fn outside_size(out: &mut [u8]) -> usize
 }
 
 fn out_of_order(out: &mut [u8]) -> usize
-    ensures { λ r. ⌜ Given outOfOrder (now (out .entry)) (now (out .exit)) r ⌝ }
+    ensures { λ r. ⌜ Given (getD texts 3 noRefusal) (now (out .entry)) (now (out .exit)) r ⌝ }
 {
     give(out, b"a record is out of order or repeated")
 }
 
 fn rule_broken(out: &mut [u8]) -> usize
-    ensures { λ r. ⌜ Given ruleBroken (now (out .entry)) (now (out .exit)) r ⌝ }
+    ensures { λ r. ⌜ Given (getD texts 4 noRefusal) (now (out .entry)) (now (out .exit)) r ⌝ }
 {
     give(
         out,
@@ -54,7 +55,7 @@ fn rule_broken(out: &mut [u8]) -> usize
 }
 
 fn nobody_runs(out: &mut [u8]) -> usize
-    ensures { λ r. ⌜ Given nobodyRuns (now (out .entry)) (now (out .exit)) r ⌝ }
+    ensures { λ r. ⌜ Given (getD texts 5 noRefusal) (now (out .entry)) (now (out .exit)) r ⌝ }
 {
     give(
         out,
@@ -63,13 +64,13 @@ fn nobody_runs(out: &mut [u8]) -> usize
 }
 
 fn no_such(out: &mut [u8]) -> usize
-    ensures { λ r. ⌜ Given noSuch (now (out .entry)) (now (out .exit)) r ⌝ }
+    ensures { λ r. ⌜ Given (getD texts 6 noRefusal) (now (out .entry)) (now (out .exit)) r ⌝ }
 {
     give(out, b"no such task, flag or row")
 }
 
 fn not_allowed(out: &mut [u8]) -> usize
-    ensures { λ r. ⌜ Given notAllowed (now (out .entry)) (now (out .exit)) r ⌝ }
+    ensures { λ r. ⌜ Given (getD texts 7 noRefusal) (now (out .entry)) (now (out .exit)) r ⌝ }
 {
     give(
         out,
@@ -78,7 +79,7 @@ fn not_allowed(out: &mut [u8]) -> usize
 }
 
 fn wrong_state(out: &mut [u8]) -> usize
-    ensures { λ r. ⌜ Given wrongState (now (out .entry)) (now (out .exit)) r ⌝ }
+    ensures { λ r. ⌜ Given (getD texts 8 noRefusal) (now (out .entry)) (now (out .exit)) r ⌝ }
 {
     give(
         out,
@@ -87,13 +88,13 @@ fn wrong_state(out: &mut [u8]) -> usize
 }
 
 fn count_too_high(out: &mut [u8]) -> usize
-    ensures { λ r. ⌜ Given countTooHigh (now (out .entry)) (now (out .exit)) r ⌝ }
+    ensures { λ r. ⌜ Given (getD texts 9 noRefusal) (now (out .entry)) (now (out .exit)) r ⌝ }
 {
     give(out, b"waking count above 2,147,483,647; tick at that count")
 }
 
 fn wrong_length(out: &mut [u8]) -> usize
-    ensures { λ r. ⌜ Given wrongLength (now (out .entry)) (now (out .exit)) r ⌝ }
+    ensures { λ r. ⌜ Given (getD texts 10 noRefusal) (now (out .entry)) (now (out .exit)) r ⌝ }
 {
     give(
         out,
@@ -102,7 +103,7 @@ fn wrong_length(out: &mut [u8]) -> usize
 }
 
 fn word_outside_size(out: &mut [u8]) -> usize
-    ensures { λ r. ⌜ Given wordOutsideSize (now (out .entry)) (now (out .exit)) r ⌝ }
+    ensures { λ r. ⌜ Given (getD texts 11 noRefusal) (now (out .entry)) (now (out .exit)) r ⌝ }
 {
     give(
         out,
@@ -111,7 +112,7 @@ fn word_outside_size(out: &mut [u8]) -> usize
 }
 
 fn not_sound(out: &mut [u8]) -> usize
-    ensures { λ r. ⌜ Given notSound (now (out .entry)) (now (out .exit)) r ⌝ }
+    ensures { λ r. ⌜ Given (getD texts 12 noRefusal) (now (out .entry)) (now (out .exit)) r ⌝ }
 {
     give(out, b"the record handed in is not sound")
 }

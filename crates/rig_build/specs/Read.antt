@@ -1,5 +1,6 @@
--- WHAT READING A RIG FILE ANSWERS, for every byte string: by its lines, each judged by shape, sizes and order; by the rules over all of them; and
--- by the rig of its lines and the rules of a rig.
+-- THE ANSWER TO A RIG FILE, COMPUTED: by its lines, each judged by shape, sizes and order; by the rules over all of them; and by the rig of its
+-- lines and the rules of a rig. What the answer means, in the paper's words, is `Reads` (rig_meaning/Reads): the proofs go by what is computed
+-- here, and nobody has to believe it.
 use Prim.Native.Nat.{ℕ, zero, suc, _+_}
 use mathlib.Core.Bool.{cond}
 use mathlib.Core.List.{List, []}
@@ -42,10 +43,6 @@ wholeFile rs = judged (firstFalse 1 (lineTests rs)) (rigFrom rs) (cyclesOf (tabl
 unfoldable pub byLines : List ℕ → Answer
 byLines s = cond (eqb (faultOf s .no) 0) (wholeFile (linesOf s)) (fileRefused (faultOf s .no) (faultOf s .line) 0)
 
--- "rig file up to 40,960 bytes"
-abbrev pub longest : ℕ
-longest = 40960
-
 -- "2: .. file too long (line 0, tested first)"
-unfoldable pub readOf : List ℕ → Answer
-readOf s = cond (ltb longest (length s)) (fileRefused 2 0 0) (byLines s)
+unfoldable pub readComputed : List ℕ → Answer
+readComputed s = cond (ltb 40960 (length s)) (fileRefused 2 0 0) (byLines s)

@@ -7,7 +7,7 @@ use lib.ListN.{length}
 use Rattle.text.specs.Split.{split, part}
 use Rattle.rig_lines.specs.Line.{lineOf}
 use Rattle.rig_lines.specs.File.{linesOf}
-use Rattle.rig_build.specs.Read.{readOf}
+use Rattle.rig_meaning.specs.Reading.{readOf}
 use Rattle.rig_suspects.specs.Suspects.{linesFrom, stray, shared, unused, taskMissing}
 use Rattle.rig_culprits.specs.declared.Culprit.{Culprit}
 

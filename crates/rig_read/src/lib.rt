@@ -2,7 +2,8 @@
 ghost use mathlib.Core.Path.{_≡_};
 ghost use Prim.Native.Nat.{_≤_};
 ghost use lib.ListN.{length};
-ghost use Rattle.rig_build.specs.Read.{byLines, readOf};
+ghost use Rattle.rig_build.specs.Read.{byLines};
+ghost use Rattle.rig_meaning.specs.Reading.{readOf};
 
 // The refusals of a file by one of its lines, and the most bytes that a file has.
 const WRONG_SHAPE: u8 = 1;

@@ -5,7 +5,7 @@ use Prim.Native.Nat.{ℕ}
 use mathlib.Core.Path.{_≡_, refl, sym, ap, ap₂, _∙_, subst}
 use mathlib.Core.List.{List, [], _∷_}
 use lib.Dec.{eqb}
-use borrow.Author.Tests.{eqb-true, eq-eqb}
+use borrow.Author.Tests.{eq-eqb}
 use Rattle.laws.specs.All.{all}
 use Rattle.laws.specs.Laws.All.{all-all, allOf-cons, allOf-nil}
 use Rattle.laws.specs.First.{firstFalse}
@@ -14,8 +14,8 @@ use Rattle.rig.specs.declared.Cycle.{Cycle}
 use Rattle.rig.specs.declared.Rig.{Rig}
 use Rattle.rig.specs.Rules.{Right}
 use Rattle.rig.specs.Forms.{cyclesOf, tableOf}
-use Rattle.rig_whole.specs.Tests.{firstBroken, rightB}
-use Rattle.rig_whole.specs.Laws.Whole.{right-is}
+use Rattle.rig_whole.specs.Tests.{firstBroken}
+use Rattle.rig_whole.specs.Laws.Whole.{broken-none}
 use Rattle.rig_lines.specs.Line.{Line}
 use Rattle.rig_lines.specs.Text.{text}
 use Rattle.rig_lines.specs.Laws.Judged.{Faultless}
@@ -26,7 +26,7 @@ use Rattle.rig_round_trips.specs.MarkTests.{markedOne, markTests}
 use Rattle.rig_round_trips.specs.Marked.{after-rig, marks-say}
 use Rattle.rig_lines.specs.Whole.{lineTests}
 use Rattle.rig_fill.specs.OfLines.{rigFrom, tableFrom}
-use Rattle.rig_build.specs.Read.{behind, brokenRule, fileAccepted, readOf}
+use Rattle.rig_build.specs.Read.{behind, brokenRule, fileAccepted, readComputed}
 use Rattle.rig_round_trips.specs.Bridge.{built-rig, built-table}
 use Rattle.rig_build.specs.Laws.Exactly.{ruleOf, all-right}
 use Rattle.rig_write.specs.File.{rigLine, linesFrom, fileOf}
@@ -70,8 +70,7 @@ module _ (g : Rig) (cycles : List Cycle) (r : Right g cycles) where
 
   -- and none of the rig
   rig-none : firstBroken g cycles ≡ 0
-  unfolding rightB
-  rig-none = eqb-true (firstBroken g cycles) 0 (right-is g cycles .1 r)
+  rig-none = broken-none g cycles .1 r
 
   text-is : fileOf g (tableOf cycles) ≡ text (rigLine g ∷ others g cycles r)
   unfolding fileOf
@@ -96,7 +95,7 @@ module _ (g : Rig) (cycles : List Cycle) (r : Right g cycles) where
       (ap behind (ap₂ firstBroken (sym (ap rigFrom lines-of) ∙ rig-of) (ap cyclesOf (sym (ap tableFrom lines-of) ∙ table-of) ∙ cycles-back cycles) ∙ rig-none))
 
   -- "reading what was written of a right rig gives that rig"
-  pub read-written : readOf (fileOf g (tableOf cycles)) ≡ fileAccepted g cycles
+  pub read-written : readComputed (fileOf g (tableOf cycles)) ≡ fileAccepted g cycles
   read-written =
       all-right (fileOf g (tableOf cycles)) (file-fits g cycles r) no-fault rule-of
       ∙ ap₂ fileAccepted rig-of (ap cyclesOf table-of ∙ cycles-back cycles)

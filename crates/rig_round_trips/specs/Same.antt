@@ -38,7 +38,7 @@ use Rattle.rig_round_trips.specs.Marked.{not-rig, tasks-most, begun, aft
 use Rattle.rig_lines.specs.Whole.{lineTests}
 use Rattle.rig_lines.specs.Laws.Order.{first-rig}
 use Rattle.rig_fill.specs.OfLines.{rigFrom, tableFrom}
-use Rattle.rig_build.specs.Read.{brokenRule, readOf}
+use Rattle.rig_build.specs.Read.{brokenRule, readComputed}
 use Rattle.rig_round_trips.specs.Bridge.{built-rig, built-table}
 use Rattle.rig_build.specs.Laws.Exactly.{all-right, number-none}
 use Rattle.rig_write.specs.File.{line, rigLine, isTask, taskLine, linesFrom, fileOf}
@@ -298,7 +298,7 @@ module _ (r : Line) (rs : List Line) (f : Faultless 0 (r ∷ rs)) (none : firstF
       ∙ (ap linesBuilt from ∙ (w .0 ∙ ap (λ (l : List Line). l ++ rs) (first-lines r (f .1) (f .0) kind)))
 
 -- "an accepted file read and written again is the same bytes"
-pub same-bytes : (s : List ℕ) → readOf s .no ≡ 0 → fileOf (readOf s .rig) (tableOf (readOf s .cycles)) ≡ s
+pub same-bytes : (s : List ℕ) → readComputed s .no ≡ 0 → fileOf (readComputed s .rig) (tableOf (readComputed s .cycles)) ≡ s
 unfolding fileOf
 same-bytes s e =
     let n = number-none s e in
@@ -309,12 +309,12 @@ same-bytes s e =
     let f : Faultless 0 (l .0 ∷ l .1) = subst (Faultless 0) (l .2) (w .1) in
     let o : firstFalse 1 (lineTests (l .0 ∷ l .1)) ≡ 0 = subst (λ (x : List Line). firstFalse 1 (lineTests x) ≡ 0) (l .2) z in
     let k = lines-kept (l .0) (l .1) f o in
-    let g : readOf s .rig ≡ build nothing (l .0 ∷ l .1) .rig =
+    let g : readComputed s .rig ≡ build nothing (l .0 ∷ l .1) .rig =
     ap (λ (x : Answer). x .rig) a ∙ (ap rigFrom (l .2) ∙ sym (built-rig (l .0) (l .1) f o)) in
-    let t : tableOf (readOf s .cycles) ≡ build nothing (l .0 ∷ l .1) .table =
+    let t : tableOf (readComputed s .cycles) ≡ build nothing (l .0 ∷ l .1) .table =
     ap (λ (x : Answer). tableOf (x .cycles)) a ∙ (table-back (tableFrom (linesOf s)) ∙ (ap tableFrom (l .2) ∙ sym (built-table (l .0) (l .1) f o))) in
     ap₂ (λ (x : Rig) (y : List (List ℕ)). text (linesFrom x y)) g t ∙ (ap text k ∙ (ap text (sym (l .2)) ∙ sym (w .0)))
 
 -- "every right rig has exactly one file": two accepted files with one rig and its cycles are one file
-pub one-file : (s t : List ℕ) → readOf s .no ≡ 0 → readOf t .no ≡ 0 → readOf s .rig ≡ readOf t .rig → readOf s .cycles ≡ readOf t .cycles → s ≡ t
+pub one-file : (s t : List ℕ) → readComputed s .no ≡ 0 → readComputed t .no ≡ 0 → readComputed s .rig ≡ readComputed t .rig → readComputed s .cycles ≡ readComputed t .cycles → s ≡ t
 one-file s t a b g c = sym (same-bytes s a) ∙ (ap₂ (λ (x : Rig) (y : List Cycle). fileOf x (tableOf y)) g c ∙ same-bytes t b)

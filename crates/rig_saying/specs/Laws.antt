@@ -16,7 +16,7 @@ use Rattle.bench_script.specs.Input.{rigEnd}
 use Rattle.put_text.specs.Wrote.{Wrote}
 use Rattle.put_text.specs.Laws.Wrote.{wrote-then, wrote-as, wrote-none, wrote-same}
 use Rattle.rig_build.specs.declared.Answer.{Answer}
-use Rattle.rig_build.specs.Read.{readOf}
+use Rattle.rig_meaning.specs.Reading.{readOf}
 use Rattle.rig_shapes.specs.Shape.{reasonOf}
 use Rattle.rig_culprits.specs.declared.Culprit.{Culprit}
 use Rattle.rig_culprits.specs.Culprits.{culpritOf}

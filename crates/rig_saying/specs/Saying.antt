@@ -9,7 +9,7 @@ use lib.Dec.{eqb}
 use lib.ListN.{length, getD, take}
 use Rattle.rig.specs.declared.Rig.{Rig}
 use Rattle.rig_build.specs.declared.Answer.{Answer}
-use Rattle.rig_build.specs.Read.{readOf}
+use Rattle.rig_meaning.specs.Reading.{readOf}
 use Rattle.text.specs.Split.{part}
 use Rattle.bench_script.specs.Input.{rigEnd}
 use Rattle.put_text.specs.Wrote.{Wrote}

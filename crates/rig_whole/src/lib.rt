@@ -15,11 +15,14 @@ ghost use Rattle.laws.specs.First.{firstFalse};
 ghost use Rattle.rig_tables.specs.Tests.{at, marked};
 ghost use mathlib.Core.Path.{_≡_};
 ghost use mathlib.Core.Bool.{true};
+ghost use mathlib.Core.Logic.{_↔_};
 ghost use Rattle.rig_tables.specs.Lines.{LinesFit, Together};
 ghost use Rattle.rig_conditions.specs.Tables.{Ends};
 ghost use Rattle.rig.specs.Forms.{rigWith};
+ghost use Rattle.rig.specs.Rules.{Right};
 ghost use Rattle.rig_cycles.specs.Tests.{cyclesRiseB};
-ghost use Rattle.rig_whole.specs.Tests.{shapedTests, countTests, sizeTests, orderTests, numberTests, taskTests, lineTests, restTests, firstBroken, rightB};
+ghost use Rattle.rig_whole.specs.Tests.{shapedTests, countTests, sizeTests, orderTests, numberTests, taskTests, lineTests, restTests, firstBroken};
+ghost use Rattle.rig_whole.specs.Which.{BrokenFirst};
 
 // "Tasks 1 to 64, flags 1 to 128", "addresses 0 to 31", "at most 1,024 A and 64 B lines", "priority 0 to 255"
 const MOST_TASKS: u8 = 64;
@@ -328,7 +331,7 @@ pub fn broken_in<'a>(
 
 // The number of the first rule that the rig and its cycles break, 0 for none.
 pub fn broken(rig: Rig, cycles: [Cycle; CYCLES]) -> u8
-    ensures { λ r. ⌜ r ≡ firstBroken rig cycles ⌝ }
+    ensures { λ r. ⌜ BrokenFirst rig cycles r ⌝ }
 {
     let row = rig.row;
     broken_in(
@@ -354,7 +357,7 @@ pub fn broken(rig: Rig, cycles: [Cycle; CYCLES]) -> u8
 
 // Whether the rig and its cycles obey every rule.
 pub fn right(rig: Rig, cycles: [Cycle; CYCLES]) -> bool
-    ensures { λ r. ⌜ r ≡ rightB rig cycles ⌝ }
+    ensures { λ r. ⌜ (r ≡ true) ↔ Right rig cycles ⌝ }
 {
     broken(rig, cycles) == 0
 }

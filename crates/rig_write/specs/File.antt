@@ -1,12 +1,15 @@
 -- THE FILE OF A RIG: its lines in the file's order, and their text.
 use Prim.Native.Nat.{ℕ, _+_, _/_, _%_}
+use mathlib.Core.Path.{_≡_}
 use mathlib.Core.Bool.{Bool, not, _&&_}
 use mathlib.Core.List.{List, [], _∷_, _++_}
 use lib.Dec.{eqb, leb, ltb}
 use lib.ListN.{getD}
 use Rattle.rig.specs.declared.Row.{Row}
+use Rattle.rig.specs.declared.Cycle.{Cycle}
 use Rattle.rig.specs.declared.Rig.{Rig}
-use Rattle.rig.specs.Rules.{noRow}
+use Rattle.rig.specs.Rules.{noRow, Right}
+use Rattle.rig.specs.Forms.{tableOf}
 use Rattle.rig_lines.specs.Kinds.{kindRIG, kindT, kindC, kindA, kindM, kindB}
 use Rattle.rig_lines.specs.Line.{Line}
 use Rattle.rig_lines.specs.Text.{text}
@@ -72,3 +75,7 @@ linesFrom g table =
 
 unfoldable pub fileOf : Rig → List (List ℕ) → List ℕ
 fileOf g table = text (linesFrom g table)
+
+-- s is the file of the rig g with these cycles, and g is right
+abbrev pub FileOfRight : List ℕ → Rig → List Cycle → Type 0
+FileOfRight s g cycles = Right g cycles × (s ≡ fileOf g (tableOf cycles))

@@ -8,7 +8,7 @@ use Rattle.laws.specs.Put.{put}
 use Rattle.rig.specs.declared.Cycle.{Cycle}
 use Rattle.rig.specs.declared.Rig.{Rig}
 use Rattle.rig.specs.Forms.{tableOf}
-use Rattle.rig_whole.specs.Tests.{rightB}
+use Rattle.rig_whole.specs.Decided.{isRight}
 use Rattle.rig_write.specs.File.{fileOf}
 use Rattle.rig_write.specs.declared.Written.{Written}
 use Rattle.rig_write.specs.declared.Written.the-variants.{Done, Refused}
@@ -33,9 +33,9 @@ writtenReport (Refused number) = writeRefused number
 -- paper states for it": "The writer's buffer holds at least the file"
 unfoldable pub writtenOf : Rig → List Cycle → ℕ → WriteReport
 writtenOf g cycles room =
-    cond (rightB g cycles) (cond (ltb room (length (fileOf g (tableOf cycles)))) (writeRefused 10) (fileWritten (length (fileOf g (tableOf cycles))))) (writeRefused 4)
+    cond (isRight g cycles) (cond (ltb room (length (fileOf g (tableOf cycles)))) (writeRefused 10) (fileWritten (length (fileOf g (tableOf cycles))))) (writeRefused 4)
 
 -- a refused write writes nothing; else the file stands at the start, and "bytes past it stay"
 unfoldable pub bufferOf : Rig → List Cycle → List ℕ → List ℕ
 bufferOf g cycles b =
-    cond (rightB g cycles) (cond (ltb (length b) (length (fileOf g (tableOf cycles)))) b (put b 0 (fileOf g (tableOf cycles)))) b
+    cond (isRight g cycles) (cond (ltb (length b) (length (fileOf g (tableOf cycles)))) b (put b 0 (fileOf g (tableOf cycles)))) b

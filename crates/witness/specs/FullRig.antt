@@ -7,9 +7,10 @@ use native.Mathlib.Omega.{arith}
 use lib.Dec.{eqb, ltb}
 use borrow.Author.Tests.{lt-leb, le-ltb, ne-eqb}
 use Rattle.rig.specs.Forms.{tableOf}
-use Rattle.rig_build.specs.Read.{readOf, fileAccepted}
+use Rattle.rig_build.specs.Read.{fileAccepted}
+use Rattle.rig_meaning.specs.Reading.{readOf}
 use Rattle.rig_write.specs.File.{fileOf}
-use Rattle.rig_round_trips.specs.Read.{read-written}
+use Rattle.rig_meaning.specs.Laws.Read.{read-file}
 use Rattle.rules_full.specs.Full.{full}
 use Rattle.exec_state.specs.View.{rigOf}
 use Rattle.witness.specs.RightRigs.{fullRig, full-right}
@@ -51,4 +52,4 @@ full-rig = code-rig full full-ends
 
 -- and its file is accepted
 pub full-read : readOf (fileOf fullRig (tableOf (codeCycles full))) ≡ fileAccepted fullRig (codeCycles full)
-full-read = read-written fullRig (codeCycles full) full-right
+full-read = read-file fullRig (codeCycles full) full-right

@@ -17,9 +17,10 @@ use Rattle.rig.specs.Forms.{cycleOf, cyclesOf, tableOf}
 use Rattle.rig.specs.declared.Cycle.{Cycle}
 use Rattle.rig.specs.declared.Rig.{Rig}
 use Rattle.rig.specs.declared.Row.{Row}
-use Rattle.rig_build.specs.Read.{readOf, fileAccepted}
+use Rattle.rig_build.specs.Read.{fileAccepted}
+use Rattle.rig_meaning.specs.Reading.{readOf}
 use Rattle.rig_write.specs.File.{fileOf}
-use Rattle.rig_round_trips.specs.Read.{read-written}
+use Rattle.rig_meaning.specs.Laws.Read.{read-file}
 use Rattle.rules.specs.Rig as G
 use Rattle.rules.specs.Scripts.{B}
 use Rattle.exec_state.specs.View.{rigOf}
@@ -277,4 +278,4 @@ largest-right =
 
 -- and its file is accepted: so 40,960 bytes are enough
 pub largest-read : readOf (fileOf largestRig (tableOf (codeCycles largest))) ≡ fileAccepted largestRig (codeCycles largest)
-largest-read = read-written largestRig (codeCycles largest) largest-right
+largest-read = read-file largestRig (codeCycles largest) largest-right

@@ -13,10 +13,11 @@ use Rattle.decimal.specs.Decimal.{decBy, dec}
 use Rattle.rig.specs.Laws.Forms.{table-of-cycles}
 use Rattle.rig_lines.specs.Kinds.{nameOf}
 use Rattle.rig_lines.specs.Text.{lineBytes, text}
-use Rattle.rig_build.specs.Read.{readOf, fileAccepted}
+use Rattle.rig_build.specs.Read.{fileAccepted}
+use Rattle.rig_meaning.specs.Reading.{readOf}
 use Rattle.rig_write.specs.Kept.{kept}
 use Rattle.rig_write.specs.File.{linesFrom, fileOf}
-use Rattle.rig_round_trips.specs.Read.{read-written}
+use Rattle.rig_meaning.specs.Laws.Read.{read-file}
 use Rattle.rules.specs.Rig.{placeOf}
 use Rattle.rules.specs.Scripts.{FlagLine, A, B, bench, rig, ofTask, ofCondition, numbers, ofLine, ofCycle}
 use Rattle.exec_state.specs.View.{rigOf}
@@ -75,4 +76,4 @@ file-is = refl
 pub morning-read : readOf morningFile ≡ fileAccepted morningRig (codeCycles bench)
 morning-read =
     ap readOf (sym file-is ∙ ap (fileOf morningRig) (sym (table-of-cycles (codeTable bench))))
-    ∙ read-written morningRig (codeCycles bench) morning-right
+    ∙ read-file morningRig (codeCycles bench) morning-right

@@ -24,7 +24,8 @@ use Rattle.rules.specs.Bus.{written, copied, rowWords, busWords}
 use Rattle.rules.specs.Calls as R
 use Rattle.rules.specs.Scripts.{bench, rig, ofTask, ofCondition, numbers, ofLine, ofCycle, tick₀, morningCalls}
 use Rattle.rig_build.specs.declared.Answer.{Answer}
-use Rattle.rig_build.specs.Read.{readOf, fileAccepted}
+use Rattle.rig_build.specs.Read.{fileAccepted}
+use Rattle.rig_meaning.specs.Reading.{readOf}
 use Rattle.bench_script.specs.Input.{rigEnd}
 use Rattle.bench_script.specs.Script as C
 use Rattle.bench_script.specs.Script.{saidOf}

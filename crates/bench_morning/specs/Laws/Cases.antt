@@ -1,12 +1,12 @@
 -- Cases of the morning, computed: what is printed of inputs that hold no rig, and of script lines of wrong shape.
-use mathlib.Core.Path.{_≡_, refl}
+use mathlib.Core.Path.{_≡_, refl, ap}
 use mathlib.Core.List.{[], _∷_}
 use Rattle.text.specs.Split.{onHead, split, led}
 use Rattle.decimal.specs.Decimal.{readByte, readOn, decBy, dec}
 use Rattle.rules.specs.Rig as G
 use Rattle.rules.specs.State as S
-use Rattle.rig_lines.specs.File.{firstFault, faultOf}
-use Rattle.rig_build.specs.Read.{byLines, readOf}
+use Rattle.rig_build.specs.declared.Answer.{Answer}
+use Rattle.rig_meaning.specs.Laws.Read.{read-empty}
 use Rattle.bench_script.specs.Letters.{lf, question}
 use Rattle.bench_script.specs.Script.{verbOf, alone, withNumber, withValue, fieldsSay, saidOf}
 use Rattle.bench_script.specs.Output.{fieldsText, lineText}
@@ -40,9 +40,9 @@ no-run-line = refl
 
 -- no input at all, and a script behind a rig that is empty: "A refused rig prints START, number, line, and ends."
 pub no-input : morningText [] ≡ 83 ∷ 84 ∷ 65 ∷ 82 ∷ 84 ∷ 9 ∷ 49 ∷ 9 ∷ 49 ∷ 10 ∷ []
-unfolding morningText wholeText startText readOf byLines faultOf firstFault rigEnd beforeRun split lineText fieldsText led dec decBy
-no-input = refl
+unfolding morningText wholeText startText rigEnd beforeRun split lineText fieldsText led dec decBy
+no-input = ap (λ (a : Answer). wholeText a []) read-empty
 
 pub empty-rig : morningText (82 ∷ 85 ∷ 78 ∷ 10 ∷ 75 ∷ 10 ∷ []) ≡ 83 ∷ 84 ∷ 65 ∷ 82 ∷ 84 ∷ 9 ∷ 49 ∷ 9 ∷ 49 ∷ 10 ∷ []
-unfolding morningText wholeText startText readOf byLines faultOf firstFault rigEnd beforeRun split onHead isRun lineText fieldsText led dec decBy
-empty-rig = refl
+unfolding morningText wholeText startText rigEnd beforeRun split onHead isRun lineText fieldsText led dec decBy
+empty-rig = ap (λ (a : Answer). wholeText a (75 ∷ 10 ∷ [])) read-empty

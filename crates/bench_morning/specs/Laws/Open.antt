@@ -7,7 +7,7 @@ use native.Mathlib.Omega.{arith}
 use lib.ListN.{length, take, drop, length-drop, take-append-drop}
 use lib.Seq.{take-length}
 use Rattle.laws.specs.Cases.{if-yes, if-no}
-use Rattle.rig_build.specs.Read.{readOf}
+use Rattle.rig_meaning.specs.Reading.{readOf}
 use Rattle.put_text.specs.Laws.Wrote.{wrote-as, wrote-none}
 use Rattle.bench_input.specs.Opening.{full, Opening, still, whole, withByte, waits, opens, onward, scanned, Scans}
 use Rattle.bench_input.specs.declared.Kept.{Kept}

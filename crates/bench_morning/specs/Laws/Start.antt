@@ -21,7 +21,7 @@ use Rattle.exec.specs.Starting.{Starts, Started}
 use Rattle.exec.specs.declared.Step.{Step}
 use Rattle.exec.specs.declared.Answer.the-variants.{Refused}
 use Rattle.rig_build.specs.declared.Answer.{Answer}
-use Rattle.rig_build.specs.Read.{readOf}
+use Rattle.rig_meaning.specs.Reading.{readOf}
 use Rattle.bench_script.specs.Letters.{startName}
 use Rattle.bench_script.specs.Output.{lineText, startRoom}
 use Rattle.put_text.specs.Wrote.{Wrote}
@@ -32,8 +32,7 @@ use Rattle.bench_morning.specs.Morning.{fileRig, startText}
 use Rattle.bench_morning.specs.Desk.{talking, over, deskStarted}
 use Rattle.bench_morning.specs.Stream.{deskOf, HoldsIn, fresh, nothingMore}
 use Rattle.bench_morning.specs.Laws.Steps.{Begins}
-use Rattle.rig_build.specs.Laws.Exactly.{accepted-right}
-use Rattle.rig_build.specs.Laws.LineNumbers.{line-small}
+use Rattle.rig_meaning.specs.Laws.Read.{read-right, read-line}
 use Rattle.bench_morning.specs.declared.Stream.{Stream}
 use Rattle.bench_morning.specs.declared.Phase.{Phase}
 use Rattle.bench_morning.specs.declared.Phase.the-variants.{Opening, Talking, Over}
@@ -61,7 +60,7 @@ module _ (text out written : List ℕ) (a : Answer) (e : a ≡ readOf text) wher
   pub printed : lineNumber (a .line) ≡ a .line
   unfolding lineNumber
   printed =
-      let h = line-small text in
+      let h = read-line text in
       let k : a .line ≡ readOf text .line = ap (λ (x : Answer). x .line) e in
       if-yes 0 (lt-ltb (a .line) 65536 (omega arith)) refl
 
@@ -84,7 +83,7 @@ module _ (text out written : List ℕ) (a : Answer) (e : a ≡ readOf text) wher
     its-right : Right (a .rig) (cyclesOf table)
     its-right =
         subst (Right (a .rig)) (sym rows)
-        (subst (λ (x : Answer). Right (x .rig) (x .cycles)) (sym e) (accepted-right text (sym (ap (λ (x : Answer). x .no) e) ∙ z)))
+        (subst (λ (x : Answer). Right (x .rig) (x .cycles)) (sym e) (read-right text (sym (ap (λ (x : Answer). x .no) e) ∙ z)))
 
     its-start : Started (a .rig) (cyclesOf table) st
     its-start = ⊎-elim (λ p. p .1) (λ p. absurd (p .0 its-right)) (k .is)

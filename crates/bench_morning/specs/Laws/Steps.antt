@@ -5,7 +5,7 @@ use mathlib.Core.Logic.{_⊎_}
 use mathlib.Core.List.{List, []}
 use lib.ListN.{length, take}
 use Rattle.exec.specs.Sound.{rigIn, view, SoundRecord}
-use Rattle.rig_build.specs.Read.{readOf}
+use Rattle.rig_meaning.specs.Reading.{readOf}
 use Rattle.bench_script.specs.Output.{turnRoom}
 use Rattle.put_text.specs.Wrote.{Wrote}
 use Rattle.bench_input.specs.Line.{lineRoom}

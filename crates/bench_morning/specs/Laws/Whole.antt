@@ -15,8 +15,9 @@ use Rattle.rules.specs.Rig as G
 use Rattle.rules.specs.State as S
 use Rattle.rules.specs.Calls as R
 use Rattle.rig_build.specs.declared.Answer.{Answer}
-use Rattle.rig_build.specs.Read.{fileRefused, readOf}
-use Rattle.rig_build.specs.Laws.Exactly.{too-long}
+use Rattle.rig_build.specs.Read.{fileRefused}
+use Rattle.rig_meaning.specs.Reading.{readOf}
+use Rattle.rig_meaning.specs.Laws.Read.{read-too-long}
 use Rattle.bench_script.specs.Letters.{lf}
 use Rattle.bench_script.specs.Input.{rigEnd}
 use Rattle.bench_input.specs.Opening.{runLine, Opening, still, whole, withByte, Scanned, waits, opens, onward, scanned}
@@ -155,9 +156,9 @@ unfolding morningText
 parts-whole input rig script p =
     ⊎-elim
     (λ w. λ i. wholeText (readOf (w .0 i)) (w .1 i))
-    (λ w. ap (λ (a : Answer). wholeText a script) (too-long rig (w .0))
+    (λ w. ap (λ (a : Answer). wholeText a script) (read-too-long rig (w .0))
     ∙ refused-whole script (drop (rigEnd input + runLine) input)
-    ∙ sym (ap (λ (a : Answer). wholeText a (drop (rigEnd input + runLine) input)) (too-long (take (rigEnd input) input) (w .1))))
+    ∙ sym (ap (λ (a : Answer). wholeText a (drop (rigEnd input + runLine) input)) (read-too-long (take (rigEnd input) input) (w .1))))
     p
 
 -- an input that is all rig

@@ -12,7 +12,7 @@ use Rattle.laws.specs.Cases.{by}
 use Rattle.bench_script.specs.Output.{turnRoom}
 use Rattle.put_text.specs.Wrote.{Wrote}
 use Rattle.put_text.specs.Laws.Wrote.{wrote-then, wrote-as, wrote-none, wrote-fits}
-use Rattle.rig_build.specs.Read.{readOf}
+use Rattle.rig_meaning.specs.Reading.{readOf}
 use Rattle.bench_input.specs.Line.{lastText}
 use Rattle.bench_morning.specs.Morning.{startText}
 use Rattle.bench_morning.specs.Desk.{Desk, over, deskAfter, said, lastSaid}

@@ -4,7 +4,6 @@ use mathlib.Core.Bool.{false≢true}
 use borrow.Author.Needs.{needs}
 use borrow.Author.Tests.{not-true, not-false}
 use Rattle.rig.specs.Rules.{Right}
-use Rattle.rig_whole.specs.Laws.Whole.{right-is}
 use Rattle.exec_outcome.specs.declared.Outcome.{Outcome}
 use Rattle.exec_tasks.specs.Laws.Starting.{start-settles, began-is}
 use Rattle.exec_tasks.proofs.start.Statement.{statement}
@@ -12,7 +11,7 @@ use Rattle.exec_tasks.proofs.start.Tie as tie
 
 -- past the test the rig obeys its rules
 right : (c : tie.Else1) → Right (c .before .before .before .args .rig) (c .before .before .before .args .cycles)
-right c = right-is (c .before .before .before .args .rig) (c .before .before .before .args .cycles) .0 (sym (c .before .right .ensures) ∙ not-false (c .before .right .result) (c .if1 .left))
+right c = c .before .right .ensures .0 (not-false (c .before .right .result) (c .if1 .left))
 
 blank-requires : tie.Need-blank-requires
 blank-requires c κs = search needs
@@ -27,7 +26,7 @@ returns : tie.Need-returns
 returns c =
     record {
       is = inr (
-        (λ h. false≢true (sym (not-true (c .before .before .right .result) (c .before .if1 .taken)) ∙ c .before .before .right .ensures ∙ right-is (c .before .before .before .before .args .rig) (c .before .before .before .before .args .cycles) .1 h)),
+        (λ h. false≢true (sym (not-true (c .before .before .right .result) (c .before .if1 .taken)) ∙ c .before .before .right .ensures .1 h)),
         ap (λ (o : Outcome). o .refusal) (c .refused .ensures),
       );
     }

@@ -9,17 +9,16 @@ use Rattle.rig.specs.Rules.{Right}
 use Rattle.rig.specs.Forms.{cyclesOf, tableOf}
 use Rattle.rig.specs.Laws.Forms.{cycles-of-table}
 use Rattle.rig_build.specs.declared.Answer.{Answer}
-use Rattle.rig_build.specs.Read.{readOf}
+use Rattle.rig_meaning.specs.Reading.{readOf}
 use Rattle.exec.specs.Starting.{Started, Starts}
 use Rattle.exec.specs.declared.Step.{Step}
 use Rattle.host_replies.specs.Told.{coded, refusedFile, StartReplies, StartRepliesFrom}
-use Rattle.rig_build.specs.Laws.Exactly.{accepted-right}
-use Rattle.rig_build.specs.Laws.LineNumbers.{line-small}
+use Rattle.rig_meaning.specs.Laws.Read.{read-right, read-line}
 use Rattle.host_replies.specs.declared.Coded.{Coded}
 
 module _ (file : List ℕ) (a : Answer) (e : a ≡ readOf file) where
   pub line-fits : a .line ≤ 40962
-  line-fits = subst (λ (x : Answer). x .line ≤ 40962) (sym e) (line-small file)
+  line-fits = subst (λ (x : Answer). x .line ≤ 40962) (sym e) (read-line file)
 
   pub file-refused : a .no ≢ 0 → (r : Coded) → r ≡ refusedFile (a .no) (a .line) → StartRepliesFrom file r
   file-refused n r k =
@@ -40,7 +39,7 @@ module _ (file : List ℕ) (a : Answer) (e : a ≡ readOf file) where
       → (r : Coded) → r ≡ coded s → StartRepliesFrom file r
   file-started z table t s w r k =
       let y : readOf file .no ≡ 0 = sym (ap (λ (x : Answer). x .no) e) ∙ z in
-      let h : Right (a .rig) (a .cycles) = subst (λ (x : Answer). Right (x .rig) (x .cycles)) (sym e) (accepted-right file y) in
+      let h : Right (a .rig) (a .cycles) = subst (λ (x : Answer). Right (x .rig) (x .cycles)) (sym e) (read-right file y) in
       let d = right-started s h (subst (λ (l : List (List ℕ)). Starts (a .rig) l s) t w) in
       record {
         is = inl (y, record { step = s; started = subst (λ (x : Answer). Started (x .rig) (x .cycles) s) e d; told = k });

@@ -9,14 +9,14 @@ use Rattle.rig.specs.Rules.{Right}
 use Rattle.rig.specs.Forms.{cyclesOf, tableOf}
 use Rattle.rig.specs.Laws.Forms.{cycles-of-table}
 use Rattle.rules.specs.Calls as R
-use Rattle.rig_build.specs.Read.{readOf}
+use Rattle.rig_meaning.specs.Reading.{readOf}
 use Rattle.exec.specs.Laws.Unique.{meets-same}
 use Rattle.exec.specs.Starting.{Started, Starts}
 use Rattle.exec.specs.Laws.Starting.{starts-same}
 use Rattle.exec.specs.declared.Exec.{Exec}
 use Rattle.exec.specs.declared.Step.{Step}
 use Rattle.host_replies.specs.Told.{coded, Replies, StartReplies, StartRepliesFrom}
-use Rattle.rig_build.specs.Laws.Exactly.{accepted-right}
+use Rattle.rig_meaning.specs.Laws.Read.{read-right}
 use Rattle.host_replies.specs.declared.Coded.{Coded}
 
 pub replies-same : (x : Exec) (k : R.Call) (r s : Coded) (u v : List ℕ) → Replies x k r u → Replies x k s v → (r ≡ s) × (u ≡ v)
@@ -38,6 +38,6 @@ begins-same g rows h r s a b =
 pub begins-from-same : (file : List ℕ) (r s : Coded) → StartRepliesFrom file r → StartRepliesFrom file s → r ≡ s
 begins-from-same file r s a b =
     ⊎-elim
-    (λ p. ⊎-elim (λ q. begins-same (readOf file .rig) (readOf file .cycles) (accepted-right file (p .0)) r s (p .1) (q .1)) (λ q. absurd (q .0 (p .0))) (b .is))
+    (λ p. ⊎-elim (λ q. begins-same (readOf file .rig) (readOf file .cycles) (read-right file (p .0)) r s (p .1) (q .1)) (λ q. absurd (q .0 (p .0))) (b .is))
     (λ p. ⊎-elim (λ q. absurd (p .0 (q .0))) (λ q. p .1 ∙ sym (q .1)) (b .is))
     (a .is)

@@ -4,13 +4,13 @@ use mathlib.Core.Path.{_≡_, refl, sym, ap, subst, _∙_}
 use mathlib.Core.Logic.{_≢_}
 use mathlib.Core.List.{List, [], _∷_, _++_}
 use native.Mathlib.Omega.{arith}
-use lib.Dec.{eqb, ltb}
-use lib.ListN.{length, set, length-append, length-set}
-use borrow.Author.Tests.{ne-eqb, ltb-true, ltb-false}
+use lib.Dec.{ltb}
+use lib.ListN.{length, set, length-append, length-set, List·getD-eq-default}
+use borrow.Author.Tests.{ltb-true, ltb-false}
 use Rattle.laws.specs.Cases.{by}
 use Rattle.laws.specs.Put.{put}
 use Rattle.laws.specs.Laws.Put.{put-one, put-put, length-put}
-use Rattle.refusal_texts.specs.Texts.{noRefusal, refusalText, Given}
+use Rattle.refusal_texts.specs.Texts.{texts, noRefusal, refusalText, Given}
 
 -- the statement fixes the result
 pub given-same : (t l m n : List ℕ) (p q : ℕ) → Given t l m p → Given t l n q → (m ≡ n) × (p ≡ q)
@@ -27,10 +27,14 @@ of-number l m p n k e w = subst (λ (x : ℕ). Given (refusalText x) l m p) (sym
 pub of-text : (t u l m : List ℕ) (p : ℕ) → t ≡ u → Given t l m p → Given u l m p
 of-text t u l m p e w = subst (λ (x : List ℕ). Given x l m p) e w
 
+-- at least k and not k is above k
+past : (n k : ℕ) → n ≢ k → k ≤ n → k < n
+past n k e h = omega arith
+
 pub no-other : (n : ℕ) → n ≢ 0 → n ≢ 1 → n ≢ 2 → n ≢ 3 → n ≢ 4 → n ≢ 5 → n ≢ 6 → n ≢ 7 → n ≢ 8 → n ≢ 9 → n ≢ 10 → n ≢ 11 → n ≢ 12 → noRefusal ≡ refusalText n
 unfolding refusalText
 no-other n a0 a1 a2 a3 a4 a5 a6 a7 a8 a9 a10 a11 a12 =
-    rw (ne-eqb n 0 a0, ne-eqb n 1 a1, ne-eqb n 2 a2, ne-eqb n 3 a3, ne-eqb n 4 a4, ne-eqb n 5 a5, ne-eqb n 6 a6, ne-eqb n 7 a7, ne-eqb n 8 a8, ne-eqb n 9 a9, ne-eqb n 10 a10, ne-eqb n 11 a11, ne-eqb n 12 a12)
+    sym (List·getD-eq-default texts noRefusal (past n 12 a12 (past n 11 a11 (past n 10 a10 (past n 9 a9 (past n 8 a8 (past n 7 a7 (past n 6 a6 (past n 5 a5 (past n 4 a4 (past n 3 a3 (past n 2 a2 (past n 1 a1 (past n 0 a0 (omega arith)))))))))))))))
 
 -- the text is put, then the byte 0 behind it; or there is no room
 pub given-written : (t l m : List ℕ) (p : ℕ) → length t < length l → p ≡ 0 + length t → m ≡ put l 0 t → Given t l (set m p 0) (length t)

@@ -14,13 +14,15 @@ use Rattle.rig.specs.Forms.{cyclesOf}
 use Rattle.rig.specs.declared.Cycle.{Cycle}
 use Rattle.rig.specs.declared.Rig.{Rig}
 use Rattle.rig_whole.specs.Tests.{firstBroken}
+use Rattle.rig_whole.specs.Which.{BrokenFirst}
+use Rattle.rig_whole.specs.Laws.Which.{broken-computed}
 use Rattle.rig_lines.specs.Kinds.{kindB}
 use Rattle.rig_lines.specs.Line.{Line}
 use Rattle.rig_lines.specs.File.{fault, faultOf, linesOf}
 use Rattle.rig_lines.specs.Whole.{isKind, howMany, lineTests}
 use Rattle.rig_lines.specs.Laws.Whole.{line-rules}
 use Rattle.rig_fill.specs.OfLines.{rigFrom, tableFrom}
-use Rattle.rig_build.specs.Read.{fileRefused, fileAccepted, behind, brokenRule, judged, wholeFile, byLines, readOf}
+use Rattle.rig_build.specs.Read.{fileRefused, fileAccepted, behind, brokenRule, judged, wholeFile, byLines, readComputed}
 
 pub behind-zero : (n : ℕ) → n ≡ 0 → 0 ≡ behind n
 unfolding behind
@@ -57,16 +59,16 @@ module _ (rs : List Line) (rule : ℕ) (e : rule ≡ firstFalse 1 (lineTests rs)
   pub whole-rows : rule ≡ 0 → howMany (isKind kindB) rs ≤ 64
   whole-rows z = line-rules rs .0 (sym e ∙ z) .rows
 
-  module _ (z : rule ≡ 0) (g : Rig) (f : g ≡ rigFrom rs) (t : List (List ℕ)) (d : t ≡ tableFrom rs) (cycles : List Cycle) (h : cycles ≡ cyclesOf t) (x : ℕ) (b : x ≡ firstBroken g cycles) where
+  module _ (z : rule ≡ 0) (g : Rig) (f : g ≡ rigFrom rs) (t : List (List ℕ)) (d : t ≡ tableFrom rs) (cycles : List Cycle) (h : cycles ≡ cyclesOf t) (x : ℕ) (b : BrokenFirst g cycles x) where
     as-whole : judged rule g cycles ≡ wholeFile rs
     unfolding wholeFile
     as-whole = rw (e, f, h, d)
 
     pub whole-rig : (x ≡ 0 → ⊥) → (y : ℕ) → y ≡ behind x → fileRefused 4 0 y ≡ wholeFile rs
-    whole-rig n y q = judged-rig rule g cycles x y z b n q ∙ as-whole
+    whole-rig n y q = judged-rig rule g cycles x y z (broken-computed g cycles x b) n q ∙ as-whole
 
     pub whole-right : x ≡ 0 → fileAccepted g cycles ≡ wholeFile rs
-    whole-right q = judged-right rule g cycles x z b q ∙ as-whole
+    whole-right q = judged-right rule g cycles x z (broken-computed g cycles x b) q ∙ as-whole
 
 -- a faulty line's answer, and that of a file without one
 pub by-fault : (s : List ℕ) (j line : ℕ) → faultOf s ≡ fault (suc j) line → fileRefused (suc j) line 0 ≡ byLines s
@@ -77,12 +79,12 @@ pub by-whole : (s : List ℕ) → faultOf s ≡ fault 0 0 → wholeFile (linesOf
 unfolding byLines
 by-whole s e = rw e
 
-pub read-long : (s : List ℕ) → 40960 < length s → fileRefused 2 0 0 ≡ readOf s
-unfolding readOf
+pub read-long : (s : List ℕ) → 40960 < length s → fileRefused 2 0 0 ≡ readComputed s
+unfolding readComputed
 read-long s h = rw (lt-ltb 40960 (length s) h)
 
-pub read-short : (s : List ℕ) → length s ≤ 40960 → byLines s ≡ readOf s
-unfolding readOf
+pub read-short : (s : List ℕ) → length s ≤ 40960 → byLines s ≡ readComputed s
+unfolding readComputed
 read-short s h = rw (le-ltb 40960 (length s) h)
 
 -- nine numbers, one by one

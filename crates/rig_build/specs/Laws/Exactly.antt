@@ -34,35 +34,35 @@ use Rattle.rig_lines.specs.Laws.RoundTrip.{last-byte}
 use Rattle.rig_lines.specs.Whole.{lineTests}
 use Rattle.rig_fill.specs.OfLines.{rigFrom, tableFrom}
 use Rattle.rig_build.specs.declared.Answer.{Answer}
-use Rattle.rig_build.specs.Read.{fileRefused, fileAccepted, behind, brokenRule, judged, wholeFile, byLines, readOf}
+use Rattle.rig_build.specs.Read.{fileRefused, fileAccepted, behind, brokenRule, judged, wholeFile, byLines, readComputed}
 
 -- the whole-file rule that a file breaks, 0 for none
 abbrev pub ruleOf : List ℕ → ℕ
 ruleOf s = brokenRule (firstFalse 1 (lineTests (linesOf s))) (rigFrom (linesOf s)) (cyclesOf (tableFrom (linesOf s)))
 
-pub too-long : (s : List ℕ) → 40960 < length s → readOf s ≡ fileRefused 2 0 0
-unfolding readOf
+pub too-long : (s : List ℕ) → 40960 < length s → readComputed s ≡ fileRefused 2 0 0
+unfolding readComputed
 too-long s h = rw (lt-ltb 40960 (length s) h)
 
 module _ (s : List ℕ) (short : length s ≤ 40960) where
-  read-lines : readOf s ≡ byLines s
-  unfolding readOf
+  read-lines : readComputed s ≡ byLines s
+  unfolding readComputed
   read-lines = rw (le-ltb 40960 (length s) short)
 
-  pub faulty : (j line : ℕ) → faultOf s ≡ fault (suc j) line → readOf s ≡ fileRefused (suc j) line 0
+  pub faulty : (j line : ℕ) → faultOf s ≡ fault (suc j) line → readComputed s ≡ fileRefused (suc j) line 0
   unfolding byLines
   faulty j line e = read-lines ∙ rw (e, ne-eqb (suc j) 0 (omega arith))
 
   module _ (clean : faultOf s .no ≡ 0) where
-    read-whole : readOf s ≡ wholeFile (linesOf s)
+    read-whole : readComputed s ≡ wholeFile (linesOf s)
     unfolding byLines
     read-whole = read-lines ∙ rw clean
 
-    pub whole-broken : (k : ℕ) → ruleOf s ≡ suc k → readOf s ≡ fileRefused 4 0 (suc k)
+    pub whole-broken : (k : ℕ) → ruleOf s ≡ suc k → readComputed s ≡ fileRefused 4 0 (suc k)
     unfolding wholeFile judged
     whole-broken k e = read-whole ∙ rw (e, ne-eqb (suc k) 0 (omega arith))
 
-    pub all-right : ruleOf s ≡ 0 → readOf s ≡ fileAccepted (rigFrom (linesOf s)) (cyclesOf (tableFrom (linesOf s)))
+    pub all-right : ruleOf s ≡ 0 → readComputed s ≡ fileAccepted (rigFrom (linesOf s)) (cyclesOf (tableFrom (linesOf s)))
     unfolding wholeFile judged
     all-right e = read-whole ∙ rw e
 
@@ -107,17 +107,17 @@ way s =
         line j (faultOf s .line) h (ap (λ (c : ℕ). fault c (faultOf s .line)) e) (let z : faultOf s .no ≤ 3 = (unfold faultOf in fault-small (split 10 s) 1 0) in omega arith)
 
 -- "4: a whole-file rule is broken (line 0)", "4 only if no line is faulty": only then (always then: `whole-broken`)
-pub number-four : (s : List ℕ) → readOf s .no ≡ 4 → (length s ≤ 40960) × (faultOf s .no ≡ 0) × (ruleOf s ≢ 0) × (readOf s .line ≡ 0)
+pub number-four : (s : List ℕ) → readComputed s .no ≡ 4 → (length s ≤ 40960) × (faultOf s .no ≡ 0) × (ruleOf s ≢ 0) × (readComputed s .line ≡ 0)
 number-four s e = go (way s)
   where
-    go : Way s → (length s ≤ 40960) × (faultOf s .no ≡ 0) × (ruleOf s ≢ 0) × (readOf s .line ≡ 0)
+    go : Way s → (length s ≤ 40960) × (faultOf s .no ≡ 0) × (ruleOf s ≢ 0) × (readComputed s .line ≡ 0)
     go (long h) = let z : _≡_ {A = ℕ} 2 4 = sym (ap (λ (a : Answer). a .no) (too-long s h)) ∙ e in absurd (omega arith)
     go (line j n h f k) = let z : suc j ≡ 4 = sym (ap (λ (a : Answer). a .no) (faulty s h j n f)) ∙ e in absurd (omega arith)
     go (whole k h c r) = (h, c, (λ q. let z : _≡_ {A = ℕ} (suc k) 0 = sym r ∙ q in omega arith), ap (λ (a : Answer). a .line) (whole-broken s h c k r))
     go (right h c r) = let z : _≡_ {A = ℕ} 0 4 = sym (ap (λ (a : Answer). a .no) (all-right s h c r)) ∙ e in absurd (omega arith)
 
 -- a file is accepted only when it is not too long, has no faulty line and breaks no rule (always then: `all-right`)
-pub number-none : (s : List ℕ) → readOf s .no ≡ 0 → (length s ≤ 40960) × (faultOf s .no ≡ 0) × (ruleOf s ≡ 0)
+pub number-none : (s : List ℕ) → readComputed s .no ≡ 0 → (length s ≤ 40960) × (faultOf s .no ≡ 0) × (ruleOf s ≡ 0)
 number-none s e = go (way s)
   where
     go : Way s → (length s ≤ 40960) × (faultOf s .no ≡ 0) × (ruleOf s ≡ 0)
@@ -127,7 +127,7 @@ number-none s e = go (way s)
     go (right h c r) = (h, c, r)
 
 -- 1, 2 and 3 at a line: only when that line is the first faulty one, and the number is its own (always then: `faulty`)
-pub number-line : (s : List ℕ) (j n : ℕ) → readOf s .no ≡ suc j → readOf s .line ≡ suc n → (length s ≤ 40960) × (faultOf s ≡ fault (suc j) (suc n))
+pub number-line : (s : List ℕ) (j n : ℕ) → readComputed s .no ≡ suc j → readComputed s .line ≡ suc n → (length s ≤ 40960) × (faultOf s ≡ fault (suc j) (suc n))
 number-line s j n e l = go (way s)
   where
     go : Way s → (length s ≤ 40960) × (faultOf s ≡ fault (suc j) (suc n))
@@ -157,31 +157,31 @@ fault-place (l ∷ m ∷ ms) n p h = go (eqb (judge p (lineOf l)) 0) h (λ k. fa
     go true k i = let z = i k in omega arith
     go false k i = omega arith
 
-file-place : (s : List ℕ) → faultOf s .no ≢ 0 → 1 ≤ faultOf s .line
+pub file-place : (s : List ℕ) → faultOf s .no ≢ 0 → 1 ≤ faultOf s .line
 unfolding faultOf
 file-place s h = fault-place (split 10 s) 1 0 h
 
 -- the answer to a file, its number and line: exactly when
 module _ (s : List ℕ) where
   -- "1: a line .. has the wrong shape, or no LF", "2: a number is outside its size", "3: a record is out of order or repeated"
-  pub line-exactly : (j n : ℕ) → ((readOf s .no ≡ suc j) × (readOf s .line ≡ suc n)) ↔ ((length s ≤ 40960) × (faultOf s ≡ fault (suc j) (suc n)))
+  pub line-exactly : (j n : ℕ) → ((readComputed s .no ≡ suc j) × (readComputed s .line ≡ suc n)) ↔ ((length s ≤ 40960) × (faultOf s ≡ fault (suc j) (suc n)))
   line-exactly j n = (
     λ e. number-line s j n (e .0) (e .1),
     λ w. let r = faulty s (w .0) j (suc n) (w .1) in (ap (λ (a : Answer). a .no) r, ap (λ (a : Answer). a .line) r),
   )
 
   -- the same in the paper's words (rig_lines/Words): nothing is wrong with the lines before line n, and j is that line's smallest number
-  pub line-in-words : (j n : ℕ) → ((readOf s .no ≡ suc j) × (readOf s .line ≡ suc n)) ↔ ((length s ≤ 40960) × FirstFaulty s n (suc j))
+  pub line-in-words : (j n : ℕ) → ((readComputed s .no ≡ suc j) × (readComputed s .line ≡ suc n)) ↔ ((length s ≤ 40960) × FirstFaulty s n (suc j))
   line-in-words j n = (
     λ e. let w = line-exactly j n .0 e in (w .0, first-faulty s j n .0 (w .1)),
     λ w. line-exactly j n .1 (w .0, first-faulty s j n .1 (w .1)),
   )
 
   -- "2: .. file too long (line 0, tested first)"
-  pub long-exactly : ((readOf s .no ≡ 2) × (readOf s .line ≡ 0)) ↔ (40960 < length s)
+  pub long-exactly : ((readComputed s .no ≡ 2) × (readComputed s .line ≡ 0)) ↔ (40960 < length s)
   long-exactly = (λ e. go (e .0) (e .1) (way s), λ h. let r = too-long s h in (ap (λ (a : Answer). a .no) r, ap (λ (a : Answer). a .line) r))
     where
-      go : readOf s .no ≡ 2 → readOf s .line ≡ 0 → Way s → 40960 < length s
+      go : readComputed s .no ≡ 2 → readComputed s .line ≡ 0 → Way s → 40960 < length s
       go e l (long h) = h
       go e l (line j n h f k) =
           let z : n ≡ 0 = sym (ap (λ (a : Answer). a .line) (faulty s h j n f)) ∙ l in
@@ -193,14 +193,14 @@ module _ (s : List ℕ) where
       go e l (right h c r) = let z : _≡_ {A = ℕ} 0 2 = sym (ap (λ (a : Answer). a .no) (all-right s h c r)) ∙ e in absurd (omega arith)
 
   -- "4: a whole-file rule is broken (line 0)", "4 only if no line is faulty"
-  pub four-exactly : (readOf s .no ≡ 4) ↔ ((length s ≤ 40960) × (faultOf s .no ≡ 0) × (ruleOf s ≢ 0))
+  pub four-exactly : (readComputed s .no ≡ 4) ↔ ((length s ≤ 40960) × (faultOf s .no ≡ 0) × (ruleOf s ≢ 0))
   four-exactly = (λ e. let w = number-four s e in (w .0, w .1, w .2), λ w. go (w .0) (w .1) (ruleOf s) refl (w .2))
     where
-      go : length s ≤ 40960 → faultOf s .no ≡ 0 → (k : ℕ) → ruleOf s ≡ k → ruleOf s ≢ 0 → readOf s .no ≡ 4
+      go : length s ≤ 40960 → faultOf s .no ≡ 0 → (k : ℕ) → ruleOf s ≡ k → ruleOf s ≢ 0 → readComputed s .no ≡ 4
       go h c zero e n = absurd (n e)
       go h c (suc k) e n = ap (λ (a : Answer). a .no) (whole-broken s h c k e)
 
-  pub none-exactly : (readOf s .no ≡ 0) ↔ ((length s ≤ 40960) × (faultOf s .no ≡ 0) × (ruleOf s ≡ 0))
+  pub none-exactly : (readComputed s .no ≡ 0) ↔ ((length s ≤ 40960) × (faultOf s .no ≡ 0) × (ruleOf s ≡ 0))
   none-exactly = (λ e. number-none s e, λ w. ap (λ (a : Answer). a .no) (all-right s (w .0) (w .1) (w .2)))
 
 -- ---- an accepted file's rig is right
@@ -217,7 +217,7 @@ rig-none n g cycles e =
     (λ t. behind-none (firstBroken g cycles) (rw t at e))
     (λ t. let z : n ≡ 0 = rw t at e in absurd (eqb-false n 0 t z))
 
-pub accepted-right : (s : List ℕ) → readOf s .no ≡ 0 → Right (readOf s .rig) (readOf s .cycles)
+pub accepted-right : (s : List ℕ) → readComputed s .no ≡ 0 → Right (readComputed s .rig) (readComputed s .cycles)
 accepted-right s e =
     let n = number-none s e in
     let g = rigFrom (linesOf s) in
@@ -239,15 +239,15 @@ unfolding firstFault
 no-end n p l h = rw (ne-eqb (length l) 0 h)
 
 -- "1: .. empty file (line 1)"
-pub empty-file : readOf [] ≡ fileRefused 1 1 0
-unfolding readOf byLines faultOf firstFault split
+pub empty-file : readComputed [] ≡ fileRefused 1 1 0
+unfolding readComputed byLines faultOf firstFault split
 empty-file = refl
 
 -- "1: a line .. has .. no LF": a file of one line that does not end in LF
-pub no-last-end : (s : List ℕ) → length s ≤ 40960 → length s ≢ 0 → Free 10 s → readOf s ≡ fileRefused 1 1 0
+pub no-last-end : (s : List ℕ) → length s ≤ 40960 → length s ≢ 0 → Free 10 s → readComputed s ≡ fileRefused 1 1 0
 unfolding faultOf
 no-last-end s h n f = faulty s h 0 1 (ap (firstFault 1 0) (split-last 10 s f) ∙ no-end 1 0 s n)
 
 -- .. and any file whose last byte is not LF is refused
-pub no-end-refused : (u : List ℕ) (b : ℕ) → b ≢ 10 → readOf (u ++ (b ∷ [])) .no ≢ 0
+pub no-end-refused : (u : List ℕ) (b : ℕ) → b ≢ 10 → readComputed (u ++ (b ∷ [])) .no ≢ 0
 no-end-refused u b n e = n (last-byte u b (number-none (u ++ (b ∷ [])) e .1))

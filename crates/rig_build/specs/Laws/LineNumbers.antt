@@ -11,7 +11,7 @@ use Rattle.text.specs.Split.{onHead, split}
 use Rattle.rig_lines.specs.Line.{lineOf, placed, judge}
 use Rattle.rig_lines.specs.File.{Fault, fault, firstFault, faultOf}
 use Rattle.rig_build.specs.declared.Answer.{Answer}
-use Rattle.rig_build.specs.Read.{readOf}
+use Rattle.rig_build.specs.Read.{readComputed}
 use Rattle.rig_build.specs.Laws.Exactly.{Way, long, line, whole, right, way, too-long, faulty, whole-broken, all-right}
 
 -- ---- a file of 40,960 bytes has no more than 40,961 pieces, so every line's number fits
@@ -44,13 +44,13 @@ line-of s =
     let h = pieces 10 s in
     omega arith
 
-pub line-small : (s : List ℕ) → readOf s .line ≤ 40962
+pub line-small : (s : List ℕ) → readComputed s .line ≤ 40962
 line-small s = go (way s)
   where
-    at : (a : Answer) → readOf s ≡ a → a .line ≤ 40962 → readOf s .line ≤ 40962
+    at : (a : Answer) → readComputed s ≡ a → a .line ≤ 40962 → readComputed s .line ≤ 40962
     at a e h = subst (λ (x : Answer). x .line ≤ 40962) (sym e) h
 
-    go : Way s → readOf s .line ≤ 40962
+    go : Way s → readComputed s .line ≤ 40962
     go (long h) = at _ (too-long s h) (omega arith)
     go (line j n h f k) =
         let z : n ≤ length s + 2 = subst (λ (x : Fault). x .line ≤ length s + 2) f (line-of s) in

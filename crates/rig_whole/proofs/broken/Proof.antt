@@ -3,6 +3,7 @@ use mathlib.Core.Bool.{true}
 use Rattle.laws.specs.All.{allOf}
 use Rattle.rig_whole.specs.Tests.{shapedTests}
 use Rattle.rig_whole.specs.Laws.Whole.{lengths-hold}
+use Rattle.rig_whole.specs.Laws.Which.{broken-is}
 use borrow.Author.Needs.{needs}
 use Rattle.rig_whole.proofs.broken.Statement.{statement}
 use Rattle.rig_whole.proofs.broken.Tie as tie
@@ -16,7 +17,7 @@ broken-in-requires : tie.Need-broken-in-requires
 broken-in-requires c κs = shape-at (c .before .before .before .before .before .before .before .before .before .before .before .before)
 
 returns : tie.Need-returns
-returns c = search needs
+returns c = broken-is _ _ _ (c .broken-in .ensures)
 
 pub broken-spec : {M : Type 1} → statement M
 broken-spec = tie.close (tie.spec broken-in-requires returns)

@@ -1,57 +1,27 @@
--- WHICH RULE A NUMBER NAMES: the number that `firstBroken` gives is that of a rule which does not hold, and all rules with lower
--- numbers hold.
+-- Laws of Which.antt: the number that `firstBroken` gives is that of a rule which does not hold, all rules with lower numbers hold, and there
+-- is no other number of which that is so.
+-- Assumes nothing.
 use mathlib.Core.Bool.{Bool, true, true≢false}
 use mathlib.Core.List.{List, [], _∷_}
 use Prim.Native.Nat.{ℕ, suc, _≤_, _<_, zero}
-use lib.ListN.{length, getD}
-use Rattle.laws.specs.All.{allOf}
+use lib.ListN.{getD}
 use mathlib.Core.Path.{_≡_, sym, _∙_, refl}
 use native.Mathlib.Omega.{arith}
+use lib.Dec.{eqb, ltb}
+use borrow.Author.Tests.{ltb-true, ltb-false}
+use Rattle.laws.specs.Cases.{by}
+use Rattle.laws.specs.Laws.All.{allOf-at}
 use Rattle.laws.specs.Decides.{Is}
-use Rattle.laws.specs.Laws.Decides.{is-leb}
-use Rattle.laws.specs.Laws.First.{first-fails, first-before}
+use Rattle.laws.specs.Laws.Decides.{is-said, is-eqb, is-leb}
+use Rattle.laws.specs.Laws.First.{first-all, first-fails, first-before}
 use Rattle.rig.specs.declared.Cycle.{Cycle}
 use Rattle.rig.specs.declared.Rig.{Rig}
-use Rattle.rig.specs.Rules.{noCycle, Controllers, Conditions, Rows, LineOrder, CycleOrder, ConditionNumbers, Lines, CycleNumbers, ActivationServesOne, ActivationNotMinor, LineHasCondition, ConditionHasLine, MinorConditions, SenderDiffers, TaskZeros, LineZeros, RowZeros, TaskCount, FlagCount, MasterAddress, LineCount, RowCount, Priorities, Privileges, ActivationNumbers}
-use Rattle.rig_whole.specs.Tests.{shapedTests, tests, firstBroken}
+use Rattle.rig.specs.Rules.{Right}
+use Rattle.rig_whole.specs.Tests.{tests, firstBroken}
+use Rattle.rig_whole.specs.Which.{rules, Rule, BrokenFirst}
 use Rattle.rig_whole.specs.Laws.Tree.{controllers-is}
+use Rattle.rig_whole.specs.Laws.Whole.{broken-none}
 use Rattle.rig_whole.specs.Laws.Exact.{within-is, small-is, conditions-is, rows-is, line-order-is, cycle-order-is, condition-numbers-is, lines-is, cycle-numbers-is, serves-one-is, not-minor-is, line-has-condition-is, condition-has-line-is, minor-conditions-is, sender-differs-is, task-zeros-is, line-zeros-is, row-zeros-is}
-
--- the rules from number 1 on; 9 and 11 also say how long their tables are, and 26 says it of the tables of numbers
-abbrev pub rules : Rig → List Cycle → List (Type 0)
-rules g cycles =
-    TaskCount g ∷
-    FlagCount g ∷
-    MasterAddress g ∷
-    LineCount g ∷
-    RowCount g ∷
-    Priorities g ∷
-    Privileges g ∷
-    Conditions g ∷
-    ((length (g .row) ≡ 64) × Rows g) ∷
-    LineOrder g ∷
-    ((length cycles ≡ 64) × (((c : ℕ) → c < 64 → length (getD cycles c noCycle .flags) ≡ 15) × CycleOrder cycles)) ∷
-    ActivationNumbers g ∷
-    ConditionNumbers g ∷
-    Lines g ∷
-    CycleNumbers g cycles ∷
-    Controllers g ∷
-    ActivationServesOne g ∷
-    ActivationNotMinor g cycles ∷
-    LineHasCondition g ∷
-    ConditionHasLine g ∷
-    MinorConditions g cycles ∷
-    SenderDiffers g ∷
-    TaskZeros g ∷
-    LineZeros g ∷
-    RowZeros g ∷
-    (allOf (shapedTests g) ≡ true) ∷
-    []
-
--- rule number n
-abbrev pub Rule : ℕ → Rig → List Cycle → Type 0
-Rule zero g cycles = Unit {0}
-Rule (suc k) g cycles = getD (rules g cycles) k (Unit {0})
 
 -- tests and statements, one for one
 abbrev Each : List Bool → List (Type 0) → Type 0
@@ -163,3 +133,37 @@ module _ (g : Rig) (cycles : List Cycle) where
   broken-first n k e h =
       let few = within-is 1 (g .tasks) 64 .0 (first-before 1 n 0 (tests g cycles) (omega arith) (e ∙ omega arith) (omega arith)) .1 in
       each-at (tests g cycles) (rules g cycles) (each few) k .0 (first-before 1 n k (tests g cycles) (omega arith) (e ∙ omega arith) h)
+
+  -- and where none is broken, all hold
+  unbroken-holds : firstBroken g cycles ≡ 0 → (n : ℕ) → Rule n g cycles
+  unfolding firstBroken
+  unbroken-holds e zero = tt
+  unbroken-holds e (suc k) =
+      let right = broken-none g cycles .0 e in
+      each-at (tests g cycles) (rules g cycles) (each (right .task-count .1)) k .0 (allOf-at (tests g cycles) (first-all 1 (tests g cycles) (omega arith) e) k)
+
+  -- THE LAW: `firstBroken` is the number of the first rule that is broken
+  pub broken-is : (n : ℕ) → n ≡ firstBroken g cycles → BrokenFirst g cycles n
+  broken-is zero e = record { none = λ _. broken-none g cycles .0 (sym e); broken = λ n. absurd (n refl); before = λ k h. absurd (omega arith) }
+  broken-is (suc n) e = record { none = λ z. absurd (omega arith); broken = λ _. broken-breaks n (sym e); before = below }
+    where
+      below : (k : ℕ) → k < suc n → Rule k g cycles
+      below zero h = tt
+      below (suc k) h = broken-first n k (sym e) (omega arith)
+
+  -- .. and no other number is
+  pub broken-only : (m n : ℕ) → BrokenFirst g cycles m → BrokenFirst g cycles n → m ≡ n
+  broken-only m n a b = by (ltb m n) (λ e. absurd (less m n a b (ltb-true m n e))) (λ e. by (ltb n m) (λ d. absurd (less n m b a (ltb-true n m d))) (λ d. let h = ltb-false m n e in let k = ltb-false n m d in omega arith))
+    where
+      less : (m n : ℕ) → BrokenFirst g cycles m → BrokenFirst g cycles n → m < n → ⊥
+      less zero n a b h = b .broken (λ z. omega arith) (unbroken-holds (broken-none g cycles .1 (a .none refl)) n)
+      less (suc m) n a b h = a .broken (λ z. omega arith) (b .before (suc m) h)
+
+  pub broken-computed : (n : ℕ) → BrokenFirst g cycles n → n ≡ firstBroken g cycles
+  broken-computed n b = broken-only n (firstBroken g cycles) b (broken-is (firstBroken g cycles) refl)
+
+  -- the number is 0 exactly of a right rig
+  pub broken-right : (n : ℕ) → BrokenFirst g cycles n → Is (eqb n 0) (Right g cycles)
+  broken-right n b =
+      is-said (is-eqb n 0) (b .none)
+      (λ r. broken-computed n b ∙ broken-none g cycles .1 r)

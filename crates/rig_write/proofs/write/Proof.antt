@@ -1,19 +1,19 @@
 use mathlib.Core.Path.{_≡_, sym, _∙_}
-use mathlib.Core.Bool.{true}
+use mathlib.Core.Bool.{true≢false}
 use Prim.Native.Nat.{ℕ, _≤_}
 use native.Mathlib.Omega.{arith}
 use borrow.Author.Tests.{not-true, not-false}
 use lib.ListN.{length, replicate, length-replicate}
 use lib.Seq.{length-take-le}
-use Rattle.rig_whole.specs.Tests.{rightB}
+use Rattle.rig.specs.Rules.{Right}
 use Rattle.rig_write.specs.Laws.Answers.{not-right, own-room, too-short, in-own, done}
 use borrow.Author.Needs.{needs}
 use Rattle.rig_write.proofs.write.Statement.{statement}
 use Rattle.rig_write.proofs.write.Tie as tie
 
 -- the file is put together only of a rig that is right, and then it fits
-is-right : (c : tie.After-table-of) → rightB (c .before .before .before .before .args .g) (c .before .before .before .before .args .cycles) ≡ true
-is-right c = sym (c .before .before .right .ensures) ∙ not-false _ (c .before .if1 .left)
+is-right : (c : tie.After-table-of) → Right (c .before .before .before .before .args .g) (c .before .before .before .before .args .cycles)
+is-right c = c .before .before .right .ensures .0 (not-false _ (c .before .if1 .left))
 
 inside : (c : tie.After-put-file) → c .put-file .result ≤ length (c .put-file .last .0)
 inside c =
@@ -28,7 +28,7 @@ right-requires c κs = search needs
 returns : tie.Need-returns
 returns c =
     let s = c .before .before .before in
-    not-right (s .args .g) (s .args .cycles) (s .args .buf .now) (sym (c .before .right .ensures) ∙ not-true _ (c .if1 .taken))
+    not-right (s .args .g) (s .args .cycles) (s .args .buf .now) (λ h. true≢false (sym (c .before .right .ensures .1 h) ∙ not-true _ (c .if1 .taken)))
 
 table-of-requires : tie.Need-table-of-requires
 table-of-requires c κs = search needs

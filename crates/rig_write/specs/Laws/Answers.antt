@@ -10,15 +10,14 @@ use lib.Dec.{ltb}
 use lib.ListN.{length, getD, take, drop}
 use lib.Seq.{take-at}
 use borrow.Author.Tests.{lt-ltb, le-ltb, ltb-true}
-use Rattle.laws.specs.Cases.{by}
 use Rattle.laws.specs.Put.{put}
 use Rattle.put_text.specs.Wrote.{Wrote}
 use Rattle.rig.specs.declared.Cycle.{Cycle}
 use Rattle.rig.specs.declared.Rig.{Rig}
 use Rattle.rig.specs.Rules.{Right}
 use Rattle.rig.specs.Forms.{tableOf}
-use Rattle.rig_whole.specs.Tests.{rightB}
-use Rattle.rig_whole.specs.Laws.Whole.{right-is}
+use Rattle.rig_whole.specs.Decided.{isRight}
+use Rattle.rig_whole.specs.Laws.Decided.{decided-is, decided-not}
 use Rattle.rig_write.specs.File.{fileOf}
 use Rattle.rig_write.specs.Laws.Fits.{file-fits}
 use Rattle.rig_write.specs.declared.Written.{Written}
@@ -31,17 +30,18 @@ unfolding put
 front l f n e = take-at f (drop (0 + length f) l) n e
 
 module _ (g : Rig) (cycles : List Cycle) (b : List ℕ) where
-  pub not-right : rightB g cycles ≡ false → (writtenReport (Refused 4) ≡ writtenOf g cycles (length b)) × (b ≡ bufferOf g cycles b)
+  pub not-right : (Right g cycles → ⊥) → (writtenReport (Refused 4) ≡ writtenOf g cycles (length b)) × (b ≡ bufferOf g cycles b)
   unfolding writtenOf bufferOf
-  not-right e = (rw e, rw e)
+  not-right n = let e = decided-not g cycles n in (rw e, rw e)
 
-  module _ (e : rightB g cycles ≡ true) (table : List (List ℕ)) (t : table ≡ tableOf cycles) where
+  module _ (r : Right g cycles) (table : List (List ℕ)) (t : table ≡ tableOf cycles) where
     pub own-room : (own : List ℕ) → length own ≡ 40960 → length (fileOf g table) ≤ length own
-    own-room own l = rw (t, l) (file-fits g cycles (right-is g cycles .0 e))
+    own-room own l = rw (t, l) (file-fits g cycles r)
 
     pub too-short : (n : ℕ) → n ≡ 0 + length (fileOf g table) → length b < n → (writtenReport (Refused 10) ≡ writtenOf g cycles (length b)) × (b ≡ bufferOf g cycles b)
     unfolding writtenOf bufferOf
     too-short n d h =
+        let e = decided-is g cycles .1 r in
         let k : length (fileOf g table) ≡ n = omega arith in
         let z : ltb (length b) (length (fileOf g (tableOf cycles))) ≡ true = lt-ltb (length b) (length (fileOf g (tableOf cycles))) (rw (← t, k) h) in
         (rw (e, z), rw (e, z))
@@ -53,6 +53,7 @@ module _ (g : Rig) (cycles : List Cycle) (b : List ℕ) where
         (writtenReport (Done n) ≡ writtenOf g cycles (length b)) × (c ≡ bufferOf g cycles b)
     unfolding writtenOf bufferOf
     done own₀ own n c p o h q =
+        let e = decided-is g cycles .1 r in
         let e₀ = o .place in
         let f₀ : length (fileOf g table) ≡ n = omega arith in
         let f : length (fileOf g (tableOf cycles)) ≡ n = ap (λ (x : List (List ℕ)). length (fileOf g x)) (sym t) ∙ f₀ in
@@ -77,8 +78,8 @@ module _ (g : Rig) (cycles : List Cycle) (room : ℕ) where
   pub four-exactly : (writtenOf g cycles room .number ≡ 4) ↔ (Right g cycles → ⊥)
   unfolding writtenOf
   four-exactly = (
-    λ h w. false≢true (sym (go (rightB g cycles) (ltb room (length (fileOf g (tableOf cycles)))) (length (fileOf g (tableOf cycles))) h) ∙ right-is g cycles .1 w),
-    λ n. by (rightB g cycles) (λ e. absurd (n (right-is g cycles .0 e))) (λ e. rw e),
+    λ h w. false≢true (sym (go (isRight g cycles) (ltb room (length (fileOf g (tableOf cycles)))) (length (fileOf g (tableOf cycles))) h) ∙ decided-is g cycles .1 w),
+    λ n. rw (decided-not g cycles n),
   )
     where
       go : (a b : Bool) (n : ℕ) → cond a (cond b (writeRefused 10) (fileWritten n)) (writeRefused 4) .number ≡ 4 → a ≡ false
@@ -89,9 +90,9 @@ module _ (g : Rig) (cycles : List Cycle) (room : ℕ) where
   pub ten-exactly : (writtenOf g cycles room .number ≡ 10) ↔ (Right g cycles × (room < length (fileOf g (tableOf cycles))))
   unfolding writtenOf
   ten-exactly = (
-    λ h. let w = go (rightB g cycles) (ltb room (length (fileOf g (tableOf cycles)))) (length (fileOf g (tableOf cycles))) h in
-        (right-is g cycles .0 (w .0), ltb-true room (length (fileOf g (tableOf cycles))) (w .1)),
-    λ w. rw (right-is g cycles .1 (w .0), lt-ltb room (length (fileOf g (tableOf cycles))) (w .1)),
+    λ h. let w = go (isRight g cycles) (ltb room (length (fileOf g (tableOf cycles)))) (length (fileOf g (tableOf cycles))) h in
+        (decided-is g cycles .0 (w .0), ltb-true room (length (fileOf g (tableOf cycles))) (w .1)),
+    λ w. rw (decided-is g cycles .1 (w .0), lt-ltb room (length (fileOf g (tableOf cycles))) (w .1)),
   )
     where
       go : (a b : Bool) (n : ℕ) → cond a (cond b (writeRefused 10) (fileWritten n)) (writeRefused 4) .number ≡ 10 → (a ≡ true) × (b ≡ true)

@@ -1,0 +1,1 @@
+// What a rig file means: definitions and laws alone, no code.
