@@ -4,7 +4,7 @@ use mathlib.Core.Bool.{Bool, false, cond, _&&_, _||_}
 use mathlib.Core.List.{List, [], _∷_}
 use lib.Dec.{eqb, leb, ltb}
 use lib.ListN.{length, getD}
-use Rattle.text.specs.Split.{split}
+use Rattle.text.specs.Split.{split, lf, tab}
 use Rattle.rig_lines.specs.Kinds.{countOf}
 use Rattle.rig_lines.specs.Line.{lineOf, others}
 
@@ -69,7 +69,7 @@ spares (f ∷ fs) = spare f || spares fs
 
 -- the fields behind the first, which names the kind
 abbrev pub fieldsOf : List ℕ → List (List ℕ)
-fieldsOf line = others (split 9 line)
+fieldsOf line = others (split tab line)
 
 unfoldable pub fieldReason : List ℕ → ℕ
 fieldReason line =
@@ -93,4 +93,4 @@ pieceReason n (l ∷ m ∷ ms) = cond (leb n 1) (lineReason l) (pieceReason (n -
 
 -- of line n of a file
 unfoldable pub reasonOf : List ℕ → ℕ → ℕ
-reasonOf s n = cond (eqb (length s) 0) emptyFile (pieceReason n (split 10 s))
+reasonOf s n = cond (eqb (length s) 0) emptyFile (pieceReason n (split lf s))
