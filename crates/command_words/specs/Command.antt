@@ -1,7 +1,7 @@
 -- "Command word, high bits first: address 5, transmit 1, sub-address 5, words 5, where 32 is written as 0."
 use mathlib.Core.Bool.{Bool, cond, _&&_}
 use mathlib.Core.List.{[], _∷_}
-use Prim.Native.Nat.{ℕ, _+_, _*_, _/_, _%_}
+use Prim.Native.Nat.{ℕ, _/_, _%_}
 use lib.Dec.{leb, eqb}
 use Rattle.laws.specs.All.{allOf}
 use Rattle.laws.specs.Bits.{bit, isOne}

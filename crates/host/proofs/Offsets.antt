@@ -2,8 +2,8 @@
 -- of the types that the exported functions' code has. A field that is added, moved or widened is refused here.
 use mathlib.Core.Path.{_≡_, refl}
 use mathlib.Core.List.{List, [], _∷_}
-use mathlib.Core.Option.{Option, some, none}
-use Prim.Native.Nat.{ℕ, zero, suc, _+_}
+use mathlib.Core.Option.{some, none}
+use Prim.Native.Nat.{ℕ, zero, suc}
 use mir.Syntax.{Ty}
 use prog.Memory.{size, align, fieldOf}
 use Rattle.host.specs.Library.{recordSize, recordAlign}

@@ -1,7 +1,6 @@
 -- What the laws of crate lent_walks are told of a lent `Exec`, its answer and the `Coded` that holds the two. Made by tools/walks.
 use mathlib.Core.Path.{refl}
 use denote.Struct.Laws as SL
-use denote.Enum.Laws as EL
 use Rattle.host_replies.specs.declared.Coded.{Coded}
 use Rattle.exec.proofs.Exec as X
 use Rattle.exec.proofs.Exec.Laws as X′

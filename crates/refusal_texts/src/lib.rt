@@ -1,5 +1,4 @@
 // The refusals' texts, for a caller that has a buffer: the build paper's words for each number.
-ghost use mathlib.Core.Path.{_≡_};
 ghost use lib.ListN.{getD};
 ghost use Rattle.refusal_texts.specs.Texts.{texts, noRefusal, refusalText, Given};
 

@@ -1,12 +1,12 @@
 -- What the lines build one after the other is the rig of the lines, and the table of its cycles.
 --     built-rig, built-table    of a file's lines that are right and break no rule over all of them
 -- Assumes nothing.
-use Prim.Native.Nat.{ℕ, zero, suc, _+_, _≤_, _<_}
+use Prim.Native.Nat.{ℕ, _+_, _≤_, _<_}
 use mathlib.Core.Path.{_≡_, refl, sym, ap, ap₂, _∙_, subst}
-use mathlib.Core.Bool.{Bool, true, false, cond, _&&_}
+use mathlib.Core.Bool.{Bool, true, false, cond}
 use mathlib.Core.List.{List, [], _∷_, _++_, append-assoc, append-nil}
 use native.Mathlib.Omega.{arith}
-use lib.Dec.{eqb, leb}
+use lib.Dec.{eqb}
 use lib.ListN.{length, getD, set, replicate, length-set, length-replicate, getD-replicate}
 use lib.Seq.{getD-set-same, getD-set-other, ext-getD}
 use borrow.Author.Tests.{eqb-true, eqb-false, eq-eqb, ne-eqb}
@@ -16,7 +16,6 @@ use Rattle.laws.specs.Laws.Tables.{zeros-at}
 use Rattle.rig.specs.declared.Rig.{Rig}
 use Rattle.rig_tables.specs.Tests.{place}
 use Rattle.rig.specs.Rules.{noRow}
-use Rattle.rig.specs.Forms.{noRig}
 use Rattle.rig_lines.specs.Kinds.{countOf}
 use Rattle.rig_lines.specs.Line.{Line, placed, judge}
 use Rattle.rig_lines.specs.Whole.{numberOf, isKind, isFlagLine, howMany, tasksOf, flagsOf, masterOf, lineTests}
@@ -26,7 +25,7 @@ use Rattle.rig_lines.specs.Laws.Whole.{many-snoc, line-rules}
 use Rattle.rig_fill.specs.OfLines.{zeros, stored, listed, taskTable, conditionTable, lineTable, one, rowSaid, rigFrom, flagsFrom, places, tableFrom}
 use Rattle.rig_fill.specs.Laws.Snoc.{stored-snoc, listed-snoc, places-length, places-at}
 use Rattle.rig_round_trips.specs.Built as model
-use Rattle.rig_round_trips.specs.Built.{Marks, Built, built, numbers, noMarks, noTable, nothing, aboveAfter, withAbove, withCounts, withTask, withCondition, withLine, withRow, hasLine, oneFlag, putFlag, byKind, store, build}
+use Rattle.rig_round_trips.specs.Built.{Marks, Built, built, numbers, noMarks, noTable, nothing, aboveAfter, withAbove, withTask, withCondition, withLine, withRow, oneFlag, putFlag, store, build}
 use Rattle.rig_round_trips.specs.Cases.{by-cases}
 use Rattle.rig_round_trips.specs.Marked.{cycle-most, place-low, rig-place, not-rig, begun, after-rig}
 

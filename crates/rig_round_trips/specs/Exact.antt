@@ -5,7 +5,7 @@
 -- What the file of a rig is, `fileOf` says (rig_write/File): the text that the writer writes. Neither speaks of how a file is read.
 -- Assumes nothing.
 use Prim.Native.Nat.{ℕ, suc, _≤_}
-use mathlib.Core.Path.{_≡_, sym, ap, ap₂, subst, _∙_}
+use mathlib.Core.Path.{_≡_, sym, ap, subst, _∙_}
 use mathlib.Core.Logic.{_↔_}
 use mathlib.Core.List.{List}
 use native.Mathlib.Omega.{arith}
@@ -14,7 +14,7 @@ use Rattle.rig.specs.declared.Cycle.{Cycle}
 use Rattle.rig.specs.declared.Rig.{Rig}
 use Rattle.rig.specs.Rules.{Right}
 use Rattle.rig.specs.Forms.{tableOf}
-use Rattle.rig_lines.specs.File.{Fault, fault, faultOf}
+use Rattle.rig_lines.specs.File.{Fault, faultOf}
 use Rattle.rig_lines.specs.Words.{NoneFaulty}
 use Rattle.rig_lines.specs.Laws.FirstFaulty.{none-faulty}
 use Rattle.rig_build.specs.declared.Answer.{Answer}

@@ -22,7 +22,7 @@ use Rattle.rig.specs.Forms.{cycleFlags, tableOf}
 use Rattle.rig_lines.specs.Kinds.{counts, countOf, sorts, sortOf, under}
 use Rattle.rig_lines.specs.Line.{Line}
 use Rattle.rig_fill.specs.OfLines.{zeros}
-use Rattle.rig_round_trips.specs.Built.{Built, built, numbers, noMarks, noTable, nothing, underOne, aboveAfter, rowOf, putFlag, byKind, store, build}
+use Rattle.rig_round_trips.specs.Built.{Built, built, numbers, noMarks, noTable, underOne, aboveAfter, rowOf, putFlag, byKind, store, build}
 use Rattle.laws.specs.Laws.Tables.{zeros-at}
 use Rattle.rig_round_trips.specs.Marked.{begun}
 use Rattle.rig_write.specs.Kept.{kept}

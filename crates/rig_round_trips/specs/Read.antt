@@ -16,7 +16,6 @@ use Rattle.rig.specs.Rules.{Right}
 use Rattle.rig.specs.Forms.{cyclesOf, tableOf}
 use Rattle.rig_whole.specs.Tests.{firstBroken}
 use Rattle.rig_whole.specs.Laws.Whole.{broken-none}
-use Rattle.rig_lines.specs.Line.{Line}
 use Rattle.rig_lines.specs.Text.{text}
 use Rattle.rig_lines.specs.Laws.Judged.{Faultless}
 use Rattle.rig_lines.specs.File.{Fault, faultOf, linesOf}

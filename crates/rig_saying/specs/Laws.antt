@@ -8,7 +8,7 @@ use mathlib.Core.List.{List, [], _++_}
 use native.Mathlib.Omega.{arith}
 use native.Mathlib.Numerals.{add-one}
 use lib.Dec.{eqb}
-use lib.ListN.{length, take, length-append, length-take}
+use lib.ListN.{length, length-append, length-take}
 use borrow.Author.Tests.{eq-eqb, ne-eqb}
 use Rattle.laws.specs.Cases.{if-yes, if-no}
 use Rattle.text.specs.Split.{part}

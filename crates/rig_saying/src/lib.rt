@@ -1,7 +1,6 @@
 // What is said of a rig file: how much it holds, or why it is refused.
 mod counts;
 
-ghost use mathlib.Core.Path.{_≡_};
 ghost use Prim.Native.Nat.{_+_, _≤_};
 ghost use lib.ListN.{length};
 ghost use Rattle.put_text.specs.Wrote.{Wrote};

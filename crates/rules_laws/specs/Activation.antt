@@ -12,7 +12,7 @@ use borrow.Author.Tests.{eqb-true}
 use lib.Dec.{eqb, leb}
 use lib.ListN.{length, getD, set}
 use lib.Seq.{getD-set-other}
-use Rattle.laws.specs.Cases.{by, dec-eq, and-true}
+use Rattle.laws.specs.Cases.{dec-eq, and-true}
 use Rattle.laws.specs.Laws.Tables.{same-under, keeps-under}
 use Rattle.laws.specs.Members.{keep}
 use Rattle.laws.specs.Laws.Members.{in-keep}

@@ -3,7 +3,7 @@
 use mathlib.Core.Path.{_≡_, refl, _∙_, ap}
 use mathlib.Core.List.{List, [], _∷_, _++_}
 use Prim.Native.Nat.{ℕ, _+_}
-use lib.ListN.{take, drop}
+use lib.ListN.{drop}
 use Rattle.laws.specs.Iter.{iter}
 use Rattle.laws.specs.All.{all}
 use Rattle.laws.specs.Any.{any}
@@ -13,7 +13,6 @@ use Rattle.word_parts.specs.Packed.{commandWord}
 use Rattle.text.specs.Split.{onHead, split, led}
 use Rattle.decimal.specs.Decimal as D
 use Rattle.rules.specs.Rig as G
-use Rattle.rules.specs.State as S
 use Rattle.rules.specs.State.{blank}
 use Rattle.rules.specs.Conditions.{relax, met, drive, names}
 use Rattle.rules.specs.Serving.{activate, takes, rouse, wake, ready, offer, offers, serveFlag, serving, serve}
@@ -36,7 +35,7 @@ use Rattle.bench_turn.specs.Turn.{askedBy}
 use Rattle.bench_morning.specs.Morning.{startText, talkText, wholeText, morningText}
 use Rattle.witness.specs.Text.{bytes, lf}
 use Rattle.witness.specs.CodeRig.{codeCycles}
-use Rattle.witness.specs.MorningText.{morningFile, morningScript, morningInput, morningOutput}
+use Rattle.witness.specs.MorningText.{morningScript, morningInput, morningOutput}
 use Rattle.witness.specs.RightRigs.{morningRig}
 use Rattle.witness.specs.Morning.{morning-rig, morning-read}
 use Rattle.witness.specs.MorningRun.{input-rig, input-script}

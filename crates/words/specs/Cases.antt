@@ -1,7 +1,6 @@
 -- The worked cases of the paper that are marked *, as far as they concern words.
-use mathlib.Core.Path.{_≡_, refl}
+use mathlib.Core.Path.{refl}
 use mathlib.Core.List.{List, [], _∷_}
-use Prim.Native.Nat.{ℕ}
 use lib.Count.{ones, onesIn}
 use Rattle.laws.specs.All.{allOf}
 use Rattle.word_parts.specs.Packed.{commandWord, statusWord}

@@ -1,8 +1,7 @@
 -- Laws: the line START.
 use Prim.Native.Nat.{ℕ, _≤_}
 use mathlib.Core.Path.{_≡_, refl, sym, ap, _∙_, subst}
-use mathlib.Core.Logic.{_≢_, _⊎_, _↔_, ⊎-elim}
-use mathlib.Core.Bool.{true, false, false≢true}
+use mathlib.Core.Logic.{_≢_, _⊎_, ⊎-elim}
 use mathlib.Core.List.{List, [], _∷_}
 use native.Mathlib.Omega.{arith}
 use lib.ListN.{length}
@@ -34,7 +33,6 @@ use Rattle.bench_morning.specs.Stream.{deskOf, HoldsIn, fresh, nothingMo
 use Rattle.bench_morning.specs.Laws.Steps.{Begins}
 use Rattle.rig_meaning.specs.Laws.Read.{read-right, read-line}
 use Rattle.bench_morning.specs.declared.Stream.{Stream}
-use Rattle.bench_morning.specs.declared.Phase.{Phase}
 use Rattle.bench_morning.specs.declared.Phase.the-variants.{Opening, Talking, Over}
 use Rattle.bench_morning.specs.declared.Started as Line
 

@@ -1,20 +1,16 @@
 -- WHAT THE OPENING OWES: the line START, and the bytes of the rig's text up to it.
-use Prim.Native.Nat.{ℕ, _+_, _≤_, _<_}
+use Prim.Native.Nat.{ℕ, _≤_, _<_}
 use mathlib.Core.Path.{_≡_}
-use mathlib.Core.Logic.{_⊎_}
 use mathlib.Core.List.{List, []}
 use lib.ListN.{length, take}
-use Rattle.exec.specs.Sound.{rigIn, view, SoundRecord}
 use Rattle.rig_meaning.specs.Reading.{readOf}
-use Rattle.bench_script.specs.Output.{turnRoom}
 use Rattle.put_text.specs.Wrote.{Wrote}
-use Rattle.bench_input.specs.Line.{lineRoom}
 use Rattle.bench_morning.specs.Morning.{startText}
-use Rattle.bench_morning.specs.Desk.{talking, deskStarted, deskAfter, said}
+use Rattle.bench_morning.specs.Desk.{deskStarted, deskAfter, said}
 use Rattle.bench_morning.specs.Stream.{deskOf, HoldsIn}
 use Rattle.bench_morning.specs.declared.Stream.{Stream}
 use Rattle.bench_morning.specs.declared.Fed.{Fed}
-use Rattle.bench_morning.specs.declared.Phase.the-variants.{Opening, Talking}
+use Rattle.bench_morning.specs.declared.Phase.the-variants.{Opening}
 use Rattle.bench_morning.specs.declared.Started.{Started}
 
 -- the rig's text is whole

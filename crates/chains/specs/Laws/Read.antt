@@ -1,7 +1,7 @@
 -- Laws of the definitions of Read.antt.
 use mathlib.Core.Path.{_≡_, sym, _∙_, ap, subst, fun-ext}
 use mathlib.Core.Logic.{_⊎_, inl, inr, ⊎-elim, _≢_}
-use mathlib.Core.Bool.{true, false, true≢false}
+use mathlib.Core.Bool.{true, true≢false}
 use mathlib.Core.List.{List, reverse}
 use Prim.Native.Nat.{ℕ, _≤_, _<_}
 use lib.Dec.{ltb}

@@ -1,5 +1,5 @@
 -- What a call came to, as the next record and the answer, meets what the call owes.
-use mathlib.Core.Path.{_≡_, refl, sym, _∙_, ap, subst}
+use mathlib.Core.Path.{_≡_, refl, sym, ap}
 use mathlib.Core.Logic.{_≢_, ⊎-elim, inl, inr}
 use mathlib.Core.List.{List}
 use Prim.Native.Nat.{ℕ, zero, suc}
@@ -7,14 +7,13 @@ use native.Mathlib.Omega.{arith}
 use Rattle.rules.specs.Rig as G
 use Rattle.rules.specs.State as S
 use Rattle.rules.specs.Calls as R
-use Rattle.exec_outcome.specs.Outcome.{answerIn, refusedBy, Tells}
+use Rattle.exec_outcome.specs.Outcome.{Tells}
 use Rattle.exec_outcome.specs.declared.Outcome.{Outcome}
 use Rattle.exec.specs.Sound.{rigIn, view, SoundRecord}
-use Rattle.exec.specs.Call.{Follows, Meets, ProperAnswer, answerOf, withState, refuse}
+use Rattle.exec.specs.Call.{Meets, ProperAnswer, answerOf, withState, refuse}
 use Rattle.exec.specs.Laws.Made.{answerFrom, reportFrom, stepFrom}
 use Rattle.exec.specs.declared.Exec.{Exec}
 use Rattle.exec.specs.declared.Report.{Report}
-use Rattle.exec.specs.declared.Step.{Step}
 use Rattle.exec.specs.declared.Answer.{Answer}
 use Rattle.exec.specs.declared.Answer.the-variants.{Accepted, Refused}
 

@@ -4,15 +4,14 @@ use mathlib.Core.Logic.{_≢_, inl, inr, ⊎-elim}
 use mathlib.Core.List.{List}
 use Prim.Native.Nat.{ℕ, _≤_}
 use Rattle.rig.specs.declared.Cycle.{Cycle}
-use Rattle.rig.specs.declared.Rig.{Rig}
 use Rattle.rig.specs.Rules.{Right}
-use Rattle.rig.specs.Forms.{cyclesOf, tableOf}
+use Rattle.rig.specs.Forms.{tableOf}
 use Rattle.rig.specs.Laws.Forms.{cycles-of-table}
 use Rattle.rig_build.specs.declared.Answer.{Answer}
 use Rattle.rig_meaning.specs.Reading.{readOf}
 use Rattle.exec.specs.Starting.{Started, Starts}
 use Rattle.exec.specs.declared.Step.{Step}
-use Rattle.host_replies.specs.Told.{coded, refusedFile, StartReplies, StartRepliesFrom}
+use Rattle.host_replies.specs.Told.{coded, refusedFile, StartRepliesFrom}
 use Rattle.rig_meaning.specs.Laws.Read.{read-right, read-line}
 use Rattle.host_replies.specs.declared.Coded.{Coded}
 

@@ -7,7 +7,7 @@ use Rattle.rules.specs.Calls as R
 use Rattle.rules_laws.specs.Refusals.{code-is}
 use Rattle.rig_meaning.specs.Reading.{readOf}
 use Rattle.exec.specs.Sound.{rigIn, view, SoundRecord}
-use Rattle.exec.specs.Call.{Meets, answerOf, refuse}
+use Rattle.exec.specs.Call.{answerOf, refuse}
 use Rattle.exec.specs.Starting.{noExec}
 use Rattle.exec.specs.Laws.Starting.{zeros-refused}
 use Rattle.exec.specs.Laws.Promises.{twelve-exactly, refused-unchanged, stays-sound}

@@ -6,7 +6,7 @@ use Prim.Native.Nat.{ℕ}
 use Rattle.rig.specs.declared.Cycle.{Cycle}
 use Rattle.rig.specs.declared.Rig.{Rig}
 use Rattle.rig.specs.Rules.{Right}
-use Rattle.rig.specs.Forms.{cyclesOf, tableOf}
+use Rattle.rig.specs.Forms.{tableOf}
 use Rattle.rig.specs.Laws.Forms.{cycles-of-table}
 use Rattle.rules.specs.Calls as R
 use Rattle.rig_meaning.specs.Reading.{readOf}

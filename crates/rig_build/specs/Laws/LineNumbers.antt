@@ -9,7 +9,7 @@ use lib.ListN.{length}
 use Rattle.laws.specs.Cases.{by}
 use Rattle.text.specs.Split.{onHead, split}
 use Rattle.rig_lines.specs.Line.{lineOf, placed, judge}
-use Rattle.rig_lines.specs.File.{Fault, fault, firstFault, faultOf}
+use Rattle.rig_lines.specs.File.{Fault, firstFault, faultOf}
 use Rattle.rig_build.specs.declared.Answer.{Answer}
 use Rattle.rig_build.specs.Read.{readComputed}
 use Rattle.rig_build.specs.Laws.Exactly.{Way, long, line, whole, right, way, too-long, faulty, whole-broken, all-right}

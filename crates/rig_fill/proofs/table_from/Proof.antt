@@ -1,10 +1,7 @@
 use borrow.Author.Needs.{needs}
-use mathlib.Core.Path.{_≡_, refl, sym, ap, _∙_}
+use mathlib.Core.Path.{_≡_, refl}
 use native.Mathlib.Omega.{arith}
-use Prim.Native.Nat.{ℕ, _-_, _+_, _*_, _≤_, _<_}
-use Rattle.rig_held.specs.Held.{heldLine, held}
-use Rattle.rig_held.specs.Laws.Rules.{kind-yes, kind-no}
-use Rattle.rig_lines.specs.Kinds.{kindM}
+use Prim.Native.Nat.{_-_, _≤_}
 use Rattle.rig_fill.specs.OfLines.{zeros}
 use Rattle.laws.specs.Laws.Tables.{zeros-at}
 use lib.ListN.{getD-replicate}

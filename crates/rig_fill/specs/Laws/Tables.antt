@@ -1,9 +1,9 @@
 -- The tables of lines that are held, line after line, as the code fills them.
 -- Assumes nothing.
-use Prim.Native.Nat.{ℕ, zero, suc, _+_, _*_, _≤_, _<_}
-use mathlib.Core.Path.{_≡_, refl, sym, ap, ap₂, _∙_}
-use mathlib.Core.Bool.{Bool, true, false, cond, _&&_}
-use mathlib.Core.List.{List, [], _∷_, _++_}
+use Prim.Native.Nat.{ℕ, suc, _+_, _*_, _≤_, _<_}
+use mathlib.Core.Path.{_≡_, refl, sym, ap, _∙_}
+use mathlib.Core.Bool.{Bool, true, false, cond}
+use mathlib.Core.List.{List, []}
 use native.Mathlib.Omega.{arith}
 use lib.Dec.{eqb}
 use lib.ListN.{length, getD, set, length-set}
@@ -17,7 +17,7 @@ use Rattle.rig_lines.specs.Line.{Line}
 use Rattle.rig_lines.specs.Whole.{numberOf, isKind, isFlagLine, howMany, tasksOf, flagsOf, masterOf}
 use Rattle.rig_held.specs.Held.{heldLine, held}
 use Rattle.rig_held.specs.Laws.Lines.{held-at, held-none, held-more}
-use Rattle.rig_held.specs.Laws.Rules.{kind-yes, kind-no, first-is, first-not, many-yes, many-no, many-none, many-most}
+use Rattle.rig_held.specs.Laws.Rules.{first-is, first-not, many-yes, many-no, many-none, many-most}
 use Rattle.rig_fill.specs.OfLines.{zeros, stored, listed, taskTable, conditionTable, one, lineTable, rowSaid, rigFrom, flagsFrom, places, tableFrom}
 use Rattle.rig_fill.specs.Laws.Snoc.{stored-none, stored-snoc, stored-length, listed-none, listed-snoc, listed-length, set-past, places-length, places-at}
 

@@ -1,13 +1,13 @@
 use borrow.Author.Needs.{needs}
 use mathlib.Core.Path.{_≡_, refl, sym, ap, _∙_}
 use native.Mathlib.Omega.{arith}
-use Prim.Native.Nat.{ℕ, _-_, _+_, _*_, _≤_, _<_}
-use Rattle.rig_held.specs.Held.{heldLine, held}
+use Prim.Native.Nat.{ℕ, _-_, _+_, _≤_}
+use Rattle.rig_held.specs.Held.{held}
 use Rattle.rig_held.specs.Laws.Rules.{kind-yes, kind-no}
 use lib.ListN.{length, replicate}
 use Rattle.rig.specs.Rules.{noRow}
-use Rattle.rig_lines.specs.Kinds.{kindB, countOf, counts}
-use Rattle.rig_lines.specs.Whole.{numberOf, isKind, howMany}
+use Rattle.rig_lines.specs.Kinds.{kindB}
+use Rattle.rig_lines.specs.Whole.{isKind, howMany}
 use Rattle.rig_held.specs.Laws.Rules.{many-none, many-yes, many-no}
 use Rattle.rig_fill.specs.OfLines.{listed, rowSaid, rigFrom}
 use Rattle.rig_fill.specs.Laws.Tables.{list-start, list-on, list-past, list-skip, row-says}

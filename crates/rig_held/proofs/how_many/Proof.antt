@@ -1,10 +1,10 @@
 use borrow.Author.Needs.{needs}
 use mathlib.Core.Logic.{⊎-elim}
-use mathlib.Core.Path.{_≡_, refl, sym, _∙_}
+use mathlib.Core.Path.{_≡_, sym, _∙_}
 use native.Mathlib.Omega.{arith}
 use Prim.Native.Nat.{_-_, _≤_}
 use Rattle.rig_lines.specs.Whole.{isKind, howMany}
-use Rattle.rig_held.specs.Held.{heldLine, held}
+use Rattle.rig_held.specs.Held.{held}
 use Rattle.rig_held.specs.Laws.Rules.{many-none, many-yes, many-no, kind-yes, kind-no}
 use Rattle.rig_held.proofs.how_many.Statement.{statement}
 use Rattle.rig_held.proofs.how_many.Tie as tie

@@ -19,7 +19,7 @@ use Rattle.laws.specs.Laws.Decides.{is-eqb, is-ltb, is-and, is-if, is-said}
 use Rattle.decimal.specs.Decimal.{cap, number}
 use Rattle.decimal.specs.Plain.{number-exact}
 use Rattle.text.specs.Split.{split}
-use Rattle.rig_lines.specs.Kinds.{lowOf, highOf, within, periodListed, timed, periods}
+use Rattle.rig_lines.specs.Kinds.{within, periodListed, timed, periods}
 use Rattle.rig_lines.specs.Laws.Kinds.{within-is, within-fits, is-always}
 use Rattle.rig_lines.specs.Line.{Line, lineOf, others, decimals, shaped, fits, sized}
 use Rattle.rig_lines.specs.Words.{Decimals, Shape, Sizes}

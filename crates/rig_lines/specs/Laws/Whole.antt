@@ -8,11 +8,11 @@ use mathlib.Core.Logic.{_⊎_, inl, inr, ⊎-elim, _↔_}
 use mathlib.Core.Bool.{Bool, true, false, cond, _&&_}
 use mathlib.Core.List.{List, [], _∷_, _++_}
 use native.Mathlib.Omega.{arith}
-use lib.Dec.{leb, ltb, eqb}
-use borrow.Author.Tests.{ltb-true, lt-ltb, eqb-true}
+use lib.Dec.{leb, ltb}
+use borrow.Author.Tests.{ltb-true, lt-ltb}
 use Rattle.laws.specs.Cases.{by}
 use Rattle.laws.specs.All.{all}
-use Rattle.laws.specs.Laws.All.{allOf-at, allOf-cons, allOf-nil, and-left, and-right}
+use Rattle.laws.specs.Laws.All.{allOf-at, allOf-cons, allOf-nil}
 use Rattle.laws.specs.First.{firstFalse}
 use Rattle.laws.specs.Laws.First.{first-all, all-first}
 use Rattle.laws.specs.Decides.{Is}

@@ -4,8 +4,6 @@ use Rattle.host_replies.specs.Told.{replyOf}
 use borrow.Author.Needs.{needs}
 use Rattle.host_replies.proofs.calls.reply_of.Statement.{statement}
 use Rattle.host_replies.proofs.calls.reply_of.Tie as tie
-use Rattle.host_replies.proofs.calls.reply_of.Reads as reads
-use Rattle.host_replies.proofs.calls.reply_of.Lts as lts
 
 -- src/calls.rt:17:26
 enum-known-a : tie.Need-enum-known-a

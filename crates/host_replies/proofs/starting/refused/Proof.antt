@@ -4,8 +4,6 @@ use Rattle.host_replies.specs.Told.{codedOf, refusedFile}
 use borrow.Author.Needs.{needs}
 use Rattle.host_replies.proofs.starting.refused.Statement.{statement}
 use Rattle.host_replies.proofs.starting.refused.Tie as tie
-use Rattle.host_replies.proofs.starting.refused.Reads as reads
-use Rattle.host_replies.proofs.starting.refused.Lts as lts
 use Rattle.exec.proofs.none.Reads as none-reads
 
 -- src/starting.rt:10:9

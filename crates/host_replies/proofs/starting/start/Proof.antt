@@ -2,8 +2,6 @@ use Rattle.host_replies.specs.Laws.Beginning.{line-fits, file-refused, f
 use borrow.Author.Needs.{needs}
 use Rattle.host_replies.proofs.starting.start.Statement.{statement}
 use Rattle.host_replies.proofs.starting.start.Tie as tie
-use Rattle.host_replies.proofs.starting.start.Reads as reads
-use Rattle.host_replies.proofs.starting.start.Lts as lts
 use Rattle.exec.proofs.start.Reads as start-reads
 use Rattle.host_replies.proofs.calls.told.Reads as told-reads
 use Rattle.host_replies.proofs.starting.refused.Reads as refused-reads
