@@ -1,6 +1,7 @@
 -- THE BYTES OF SCRIPT AND OUTPUT, by name.
 use Prim.Native.Nat.{ℕ}
-use mathlib.Core.List.{List, [], _∷_}
+use mathlib.Core.List.{List}
+use Rattle.put_text.specs.Text.{ascii}
 pub use Rattle.text.specs.Split.{lf, tab}
 
 -- "S, X, Z task (schedule, cancel, terminate); F; K (tick); U count; R cycles; L or N flag value (latched, unlatched wait);
@@ -54,4 +55,4 @@ runN = 78
 
 -- the name of the first output line
 abbrev pub startName : List ℕ
-startName = 83 ∷ 84 ∷ 65 ∷ 82 ∷ 84 ∷ []
+startName = ascii "START"

@@ -4,6 +4,7 @@ use mathlib.Core.List.{List, [], _∷_, _++_}
 use Prim.Native.Nat.{ℕ, _+_, _≤_, _<_}
 use lib.ListN.{length}
 pub use Rattle.laws.specs.Tables.{at}
+use Rattle.laws.specs.Sizes.{mostTasks, taskPlaces}
 use Rattle.laws.specs.Functions.{upd}
 use Rattle.laws.specs.Members.{In, without}
 use Rattle.laws.specs.Order.{insertBy}
@@ -11,9 +12,13 @@ use Rattle.chains.specs.Link.{last, first}
 use Rattle.chains.specs.Chains.{LinkedChains}
 use Rattle.chains.specs.declared.Links.{Links}
 
+-- the nodes: place 0, which is nobody's, tasks 1 to 64, anchors 65 to 321
+abbrev pub nodes : ℕ
+nodes = 322
+
 -- the arrays hold the chains X
 abbrev pub Held : Links → (ℕ → List ℕ) → Type 0
-Held l X = LinkedChains 64 322 (at (l .next)) (at (l .prev)) (at (l .on)) X
+Held l X = LinkedChains mostTasks nodes (at (l .next)) (at (l .prev)) (at (l .on)) X
 
 -- the arrays hold some chains
 abbrev pub HoldsChains : Links → Type 0
@@ -29,9 +34,9 @@ Joins l s t r = (X : ℕ → List ℕ) → Held l X → Held r (upd X s (X s ++ 
 
 -- the arrays' lengths
 pub record Sized (l : Links) : Type 0 where
-  pub next : length (l .next) ≡ 322
-  pub prev : length (l .prev) ≡ 322
-  pub on : length (l .on) ≡ 65
+  pub next : length (l .next) ≡ nodes
+  pub prev : length (l .prev) ≡ nodes
+  pub on : length (l .on) ≡ taskPlaces
 
 -- t is put behind the node u of the chain of s: its anchor, or a task of it
 abbrev pub Inserts : Links → ℕ → ℕ → ℕ → Links → Type 0

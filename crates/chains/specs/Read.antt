@@ -5,22 +5,24 @@ use mathlib.Core.Bool.{Bool, false, cond, _&&_}
 use mathlib.Core.List.{List, []}
 use Prim.Native.Nat.{ℕ}
 use lib.Dec.{ltb}
+use Rattle.laws.specs.Sizes.{mostTasks}
 use Rattle.chains.specs.Ops.{walk}
-use Rattle.chains.specs.Held.{at}
+use Rattle.chains.specs.Held.{at, nodes}
 use Rattle.chains.specs.declared.Links.{Links}
 
 -- from the anchor s, by next and by prev, as long as there are tasks, at most 64
 abbrev pub chainAt : Links → ℕ → List ℕ
-chainAt l s = walk (at (l .next)) 64 64 s
+chainAt l s = walk (at (l .next)) mostTasks mostTasks s
 
 abbrev pub backAt : Links → ℕ → List ℕ
-backAt l s = walk (at (l .prev)) 64 64 s
+backAt l s = walk (at (l .prev)) mostTasks mostTasks s
+
+-- an anchor: behind the tasks, within the arrays
+abbrev pub inside : ℕ → Bool
+inside s = ltb mostTasks s && ltb s nodes
 
 unfoldable pub chainsOf : Links → ℕ → List ℕ
-chainsOf l s = cond (ltb 64 s && ltb s 322) (chainAt l s) []
-
-abbrev pub inside : ℕ → Bool
-inside s = ltb 64 s && ltb s 322
+chainsOf l s = cond (inside s) (chainAt l s) []
 
 -- no chain but at an anchor
 abbrev pub Only : (ℕ → List ℕ) → Type 0

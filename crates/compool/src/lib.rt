@@ -1,5 +1,6 @@
 // Compool blocks in the lent area, and the bus words of a count in the lent buffer.
 use rig::Row;
+use rig_tables::ROWS;
 use word_parts::packed;
 ghost use mathlib.Core.Path.{_≡_};
 ghost use Prim.Native.Nat.{_+_, _-_, _*_, _<_, _≤_};
@@ -115,7 +116,7 @@ pub fn put_row(row: Row, master: u8, n: usize, out: &mut [u16]) -> usize
 }
 
 // The command words of the rows that are due at the count, in order, and how many they are.
-pub fn bus_words(rows: [Row; 64], many: usize, master: u8, count: u32, out: &mut [u16]) -> usize
+pub fn bus_words(rows: [Row; ROWS], many: usize, master: u8, count: u32, out: &mut [u16]) -> usize
     requires { ⌜ RowsFit many rows × (128 ≤ length (now out)) ⌝ }
     ensures { λ r. ⌜ (r ≡ length (busWords many master (rowsOf rows) count)) × (now (out .exit) ≡ put (now (out .entry)) 0 (busWords many master (rowsOf rows) count)) ⌝ }
 {

@@ -18,14 +18,21 @@ bad = 4294967297
 abbrev pub unread : ℕ
 unread = 4294967298
 
+-- the digits 0 and 9, as bytes
+abbrev pub zeroByte : ℕ
+zeroByte = 48
+
+abbrev pub nineByte : ℕ
+nineByte = 57
+
 abbrev pub digit : ℕ → Bool
-digit b = leb 48 b && leb b 57
+digit b = leb zeroByte b && leb b nineByte
 
 -- one byte more: after nothing the digit's value, after a number its next value, after 0 (a spare zero) and after `bad` nothing good
 unfoldable pub readByte : ℕ → ℕ → ℕ
 readByte m b =
     cond (digit b)
-    (cond (eqb m unread) (b - 48) (cond (eqb m 0) bad (cond (ltb cap m) bad (min cap (m * 10 + (b - 48))))))
+    (cond (eqb m unread) (b - zeroByte) (cond (eqb m 0) bad (cond (ltb cap m) bad (min cap (m * 10 + (b - zeroByte))))))
     bad
 
 unfoldable pub readOn : ℕ → List ℕ → ℕ
@@ -37,8 +44,8 @@ number l = readOn unread l
 
 -- the decimal of n, for n below 10 ^ (k + 1)
 unfoldable pub decBy : ℕ → ℕ → List ℕ
-decBy zero n = (48 + n) ∷ []
-decBy (suc k) n = cond (ltb n 10) ((48 + n) ∷ []) (decBy k (n / 10) ++ ((48 + n % 10) ∷ []))
+decBy zero n = (zeroByte + n) ∷ []
+decBy (suc k) n = cond (ltb n 10) ((zeroByte + n) ∷ []) (decBy k (n / 10) ++ ((zeroByte + n % 10) ∷ []))
 
 unfoldable pub dec : ℕ → List ℕ
 dec n = decBy 9 n

@@ -3,7 +3,7 @@
 --     value           what digits say, each by its place
 --     number-exact    number l ≤ cap ↔ Decimal l
 --     number-value    Decimal l → number l ≡ min cap (value l)
---     number-start    number l ≡ start ↔ length l ≡ 0, of what is no decimal
+--     number-start    number l ≡ unread ↔ length l ≡ 0, of what is no decimal
 --     number-bad      number l ≡ bad ↔ (0 < length l) × (Decimal l → ⊥)
 --     dec-plain       what is written for a number is a decimal, and its value is that number
 -- Assumes nothing.
@@ -17,24 +17,24 @@ use lib.Dec.{ltb, eqb}
 use lib.ListN.{length, getD}
 use borrow.Author.Tests.{ltb-true, ltb-false, eqb-true, eqb-false}
 use Rattle.laws.specs.Cases.{by}
-use Rattle.decimal.specs.Decimal.{cap, bad, unread, digit, readByte, readOn, number, dec}
+use Rattle.decimal.specs.Decimal.{cap, zeroByte, nineByte, bad, unread, digit, readByte, readOn, number, dec}
 use Rattle.decimal.specs.Laws.{digit-of, digit-is, step-start, step-num, step-not, step-zero, step-over, number-dec}
 
--- every byte is a digit, 48 for 0 to 57 for 9
+-- every byte is a digit
 abbrev pub Digits : List ℕ → Type 0
 Digits [] = Unit {0}
-Digits (b ∷ bs) = (48 ≤ b) × (b ≤ 57) × Digits bs
+Digits (b ∷ bs) = (zeroByte ≤ b) × (b ≤ nineByte) × Digits bs
 
 -- "decimal without spare zeros": digits, at least one; the first is 0 only where it is the only one
 pub record Decimal (l : List ℕ) : Type 0 where
   pub some : 0 < length l
   pub digits : Digits l
-  pub spare : getD l 0 0 ≡ 48 → length l ≡ 1
+  pub spare : getD l 0 0 ≡ zeroByte → length l ≡ 1
 
 -- what digits say: each its own value, times ten for every digit behind it
 unfoldable pub value : List ℕ → ℕ
 value [] = 0
-value (b ∷ bs) = (b - 48) * 10 ^ length bs + value bs
+value (b ∷ bs) = (b - zeroByte) * 10 ^ length bs + value bs
 
 -- what is `bad` stays so
 bad-stays : (l : List ℕ) → readOn bad l ≡ bad

@@ -10,6 +10,7 @@ use Rattle.rig.specs.Forms.{cyclesOf, noRig, noCycles}
 use Rattle.rig.specs.declared.Cycle.{Cycle}
 use Rattle.rig.specs.declared.Rig.{Rig}
 use Rattle.rules.specs.Calls as R
+use Rattle.chains.specs.Held.{nodes}
 use Rattle.exec_state.specs.View.{rigOf}
 use Rattle.exec_state.specs.declared.State.{State}
 use Rattle.exec.specs.Sound.{view, SoundRecord}
@@ -25,7 +26,7 @@ noState =
       cond = replicate conditionPlaces 0;
       state = replicate taskPlaces 0;
       wake = replicate taskPlaces 0;
-      links = record { next = replicate 322 0; prev = replicate 322 0; on = replicate taskPlaces 0 };
+      links = record { next = replicate nodes 0; prev = replicate nodes 0; on = replicate taskPlaces 0 };
       running = 0;
     }
 

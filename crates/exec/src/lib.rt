@@ -1,5 +1,11 @@
 // The executive: the record, and every call on it by value. What a call does to the record's parts stands in crates of its
 // own (exec_tasks, exec_waits, exec_flags, exec_bus); here it becomes the next record and the answer.
+use chains::NODES;
+use rig_tables::CONDITIONS;
+use rig_tables::CYCLES;
+use rig_tables::CYCLE_FLAGS;
+use rig_tables::FLAG_PLACES;
+use rig_tables::TASK_PLACES;
 mod answers;
 mod calls;
 
@@ -15,7 +21,7 @@ ghost use Rattle.exec.specs.Starting.{noExec, Starts};
 #[repr(C)]
 pub struct Exec {
     pub rig: Rig,
-    pub cycles: [Cycle; 64],
+    pub cycles: [Cycle; CYCLES],
     pub st: State,
 }
 
@@ -45,14 +51,14 @@ pub fn none() -> Exec
         cycles: rig::no_cycles(),
         st: State {
             count: 0,
-            value: [0; 129],
-            cond: [0; 1040],
-            state: [0; 65],
-            wake: [0; 65],
+            value: [0; FLAG_PLACES],
+            cond: [0; CONDITIONS],
+            state: [0; TASK_PLACES],
+            wake: [0; TASK_PLACES],
             links: Links {
-                next: [0; 322],
-                prev: [0; 322],
-                on: [0; 65],
+                next: [0; NODES],
+                prev: [0; NODES],
+                on: [0; TASK_PLACES],
             },
             running: 0,
         },
@@ -60,7 +66,7 @@ pub fn none() -> Exec
 }
 
 // "Start: count 0, flags and conditions off, all tasks uninvoked; then task 1 is scheduled."
-pub fn start(rig: Rig, cycles: [[u8; 15]; 64]) -> Step
+pub fn start(rig: Rig, cycles: [[u8; CYCLE_FLAGS]; CYCLES]) -> Step
     ensures { λ r. ⌜ Starts rig cycles r ⌝ }
 {
     let rows = rig::cycles_of(cycles);

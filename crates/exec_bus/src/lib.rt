@@ -3,12 +3,13 @@ use exec_outcome::Outcome;
 use exec_state::State;
 use rig::Cycle;
 use rig::Rig;
+use rig_tables::CYCLES;
 ghost use Rattle.rules.specs.Calls.{tick, readBlock, writeBlock};
 ghost use Rattle.exec_outcome.specs.Outcome.{Tells};
 
 // "the count rises by one; tasks due at it become dispatchable; the M list .. is queued .. and served; bus words are
 // written and their number answered"
-pub fn tick(rig: Rig, cycles: [Cycle; 64], st: State, out: &mut [u16]) -> Outcome
+pub fn tick(rig: Rig, cycles: [Cycle; CYCLES], st: State, out: &mut [u16]) -> Outcome
     ensures { λ r. ⌜ Tells rig cycles st (tick (now (out .entry))) r (now (out .exit)) ⌝ }
 {
     let sound = exec_sound::sound(rig, cycles, st);
@@ -26,7 +27,7 @@ pub fn tick(rig: Rig, cycles: [Cycle; 64], st: State, out: &mut [u16]) -> Outcom
 // "read copies the data out"
 pub fn read_block(
     rig: Rig,
-    cycles: [Cycle; 64],
+    cycles: [Cycle; CYCLES],
     st: State,
     k: u32,
     area: &[u16],
@@ -55,7 +56,7 @@ pub fn read_block(
 // "Write stores the data and the count modulo 65,536 as tag and touches no other word"
 pub fn write_block(
     rig: Rig,
-    cycles: [Cycle; 64],
+    cycles: [Cycle; CYCLES],
     st: State,
     k: u32,
     area: &mut [u16],

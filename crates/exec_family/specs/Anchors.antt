@@ -4,15 +4,16 @@ use mathlib.Core.Bool.{Bool, cond, _&&_}
 use mathlib.Core.List.{List}
 use Prim.Native.Nat.{ℕ, _+_, _-_, _*_, _/_, _%_}
 use lib.Dec.{eqb, leb}
+use Rattle.rules.specs.Sizes.{mostTasks, mostFlags}
 use Rattle.rules.specs.State.{Chain, timeChain, chainOf}
 
 -- flags 1 to 128, values 0 and 1
 abbrev pub isFlagValue : ℕ → ℕ → Bool
-isFlagValue f v = leb 1 f && leb f 128 && leb v 1
+isFlagValue f v = leb 1 f && leb f mostFlags && leb v 1
 
 -- what is no chain has no anchor: 0
 abbrev pub flagAnchor : ℕ → ℕ → ℕ
-flagAnchor f v = cond (isFlagValue f v) (64 + 2 * f + v) 0
+flagAnchor f v = cond (isFlagValue f v) (mostTasks + 2 * f + v) 0
 
 abbrev pub anchorOf : Chain → ℕ
 anchorOf timeChain = 65

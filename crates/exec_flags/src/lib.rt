@@ -5,13 +5,14 @@ use exec_state::State;
 use exec_state::Work;
 use rig::Cycle;
 use rig::Rig;
+use rig_tables::CYCLES;
 ghost use mathlib.Core.List.{[]};
 ghost use Rattle.rules.specs.Calls.{signal, readFlag};
 ghost use Rattle.laws.specs.Bits.{bit};
 ghost use Rattle.exec_outcome.specs.Outcome.{Tells};
 
 // "Signal: the flag and value are queued."
-pub fn signal(rig: Rig, cycles: [Cycle; 64], st: State, flag: u32, value: bool) -> Outcome
+pub fn signal(rig: Rig, cycles: [Cycle; CYCLES], st: State, flag: u32, value: bool) -> Outcome
     ensures { λ r. ⌜ Tells rig cycles st (signal flag (bit value)) r [] ⌝ }
 {
     let sound = exec_sound::sound(rig, cycles, st);
@@ -24,7 +25,7 @@ pub fn signal(rig: Rig, cycles: [Cycle; 64], st: State, flag: u32, value: bool) 
 }
 
 // The value of the flag is answered.
-pub fn read_flag(rig: Rig, cycles: [Cycle; 64], st: State, flag: u32) -> Outcome
+pub fn read_flag(rig: Rig, cycles: [Cycle; CYCLES], st: State, flag: u32) -> Outcome
     ensures { λ r. ⌜ Tells rig cycles st (readFlag flag) r [] ⌝ }
 {
     let sound = exec_sound::sound(rig, cycles, st);

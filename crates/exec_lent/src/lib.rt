@@ -3,6 +3,8 @@
 use exec::Answer;
 use exec::Exec;
 use rig::Rig;
+use rig_tables::CYCLES;
+use rig_tables::CYCLE_FLAGS;
 ghost use mathlib.Core.List.{[]};
 ghost use Rattle.rules.specs.Calls as Call;
 ghost use Rattle.exec.specs.Call.{Meets};
@@ -10,7 +12,7 @@ ghost use Rattle.exec.specs.Starting.{Starts};
 ghost use Rattle.exec_lent.specs.Rebuilt.{stepOf};
 
 // Whatever the memory held, it holds a fresh record then, or one of all zeros if the start is refused.
-pub fn start(e: &mut Exec, rig: Rig, cycles: [[u8; 15]; 64]) -> Answer
+pub fn start(e: &mut Exec, rig: Rig, cycles: [[u8; CYCLE_FLAGS]; CYCLES]) -> Answer
     ensures { λ r. ⌜ Starts rig cycles (stepOf (now (e .exit)) r) ⌝ }
 {
     let s = exec::start(rig, cycles);

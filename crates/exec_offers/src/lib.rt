@@ -2,23 +2,26 @@
 use exec_queue::Queue;
 use exec_state::DISPATCHABLE;
 use exec_state::ON;
+use rig_tables::CONDITIONS;
+use rig_tables::LINES;
 use rig_tables::TASKS;
+use rig_tables::TASK_PLACES;
 ghost use Prim.Native.Nat.{_≤_};
 ghost use Rattle.exec_offers.specs.Post.{Offering, Room};
 ghost use Rattle.exec_offers.specs.Set.{withTables};
 
 // Tasks 1 to 64, by rising number: each inactive one that is ready for flag f is activated.
 pub fn offers<'a>(
-    present: &'a [u8; 1040],
-    latched: &'a [u8; 1040],
-    desired: &'a [u8; 1040],
-    lineTask: &'a [u8; 1024],
-    lineFlag: &'a [u8; 1024],
-    activation: &'a [u8; 65],
+    present: &'a [u8; CONDITIONS],
+    latched: &'a [u8; CONDITIONS],
+    desired: &'a [u8; CONDITIONS],
+    lineTask: &'a [u8; LINES],
+    lineFlag: &'a [u8; LINES],
+    activation: &'a [u8; TASK_PLACES],
     n: usize,
     f: u8,
-    cond: &mut [u8; 1040],
-    state: &mut [u8; 65],
+    cond: &mut [u8; CONDITIONS],
+    state: &mut [u8; TASK_PLACES],
     queue: Queue,
 ) -> Queue
     requires { ⌜ n ≤ 1024 ⌝ }

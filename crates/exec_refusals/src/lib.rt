@@ -2,6 +2,9 @@
 // the numbers and tables that it looks at, and with the answer of the soundness check.
 use rig::Cycle;
 use rig::Row;
+use rig_tables::CYCLES;
+use rig_tables::ROWS;
+use rig_tables::TASK_PLACES;
 ghost use mathlib.Core.Path.{_≡_};
 ghost use Prim.Native.Nat.{_-_, _<_};
 ghost use lib.ListN.{getD};
@@ -79,7 +82,7 @@ pub fn of_count(sound: bool, running: u8, above: bool) -> u8
 }
 
 // Of a wait on a flag, and of reading it.
-pub fn of_flag(sound: bool, running: u8, flags: u8, cycles: [Cycle; 64], flag: u32) -> u8
+pub fn of_flag(sound: bool, running: u8, flags: u8, cycles: [Cycle; CYCLES], flag: u32) -> u8
     ensures { λ r. ⌜ r ≡ judge sound (flagRows running flags cycles flag) ⌝ }
 {
     if !sound {
@@ -102,8 +105,8 @@ pub fn of_signal(
     sound: bool,
     running: u8,
     flags: u8,
-    cycles: [Cycle; 64],
-    activation: &[u8; 65],
+    cycles: [Cycle; CYCLES],
+    activation: &[u8; TASK_PLACES],
     flag: u32,
 ) -> u8
     ensures { λ r. ⌜ r ≡ judge sound (signalRows running flags cycles (now (activation .entry)) flag) ⌝ }
@@ -131,7 +134,7 @@ pub fn of_task(
     sound: bool,
     running: u8,
     tasks: u8,
-    controller: &[u8; 65],
+    controller: &[u8; TASK_PLACES],
     task: u32,
     wrong: bool,
 ) -> u8
@@ -176,7 +179,7 @@ pub fn of_block(
     sound: bool,
     running: u8,
     rows: u8,
-    row: [Row; 64],
+    row: [Row; ROWS],
     k: u32,
     area: usize,
     buffer: usize,
@@ -203,7 +206,7 @@ pub fn of_block(
 }
 
 // The words of row k: 0 where there is no such row.
-fn words_of(row: [Row; 64], k: u32) -> usize
+fn words_of(row: [Row; ROWS], k: u32) -> usize
     requires { ⌜ 0 < k ⌝ }
     ensures { λ r. ⌜ r ≡ rowsOf row (k - 1) .words ⌝ }
 {

@@ -1,8 +1,12 @@
 // What is queued is served to its end.
+use chains::NODES;
 use exec_queue::Queue;
 use exec_state::FLAG_CHAINS;
 use exec_state::State;
 use rig::Rig;
+use rig_tables::CONDITIONS;
+use rig_tables::LINES;
+use rig_tables::TASK_PLACES;
 ghost use mathlib.Core.Path.{_≡_};
 ghost use mathlib.Core.Bool.{not};
 ghost use Prim.Native.Nat.{_<_};
@@ -19,7 +23,7 @@ pub struct Done {
 }
 
 // Whether somebody waits in the chain of anchor c.
-fn waited(next: &[u16; 322], c: usize) -> bool
+fn waited(next: &[u16; NODES], c: usize) -> bool
     requires { ⌜ c < 322 ⌝ }
     ensures { λ r. ⌜ r ≡ not (eqb (getD (now (next .entry)) c 0) c) ⌝ }
 {
@@ -33,13 +37,13 @@ pub fn serve<'a>(
     mut st: State,
     queue: Queue,
     n: usize,
-    present: &'a [u8; 1040],
-    latched: &'a [u8; 1040],
-    desired: &'a [u8; 1040],
-    lineTask: &'a [u8; 1024],
-    linePos: &'a [u8; 1024],
-    lineFlag: &'a [u8; 1024],
-    activation: &'a [u8; 65],
+    present: &'a [u8; CONDITIONS],
+    latched: &'a [u8; CONDITIONS],
+    desired: &'a [u8; CONDITIONS],
+    lineTask: &'a [u8; LINES],
+    linePos: &'a [u8; LINES],
+    lineFlag: &'a [u8; LINES],
+    activation: &'a [u8; TASK_PLACES],
 ) -> Done
     requires { ⌜ Begins n (now lineTask) (now linePos) (now activation) st queue ⌝ }
     ensures { λ r. ⌜ ((g : Rig) → Emptied (withTables (now (present .entry)) (now (latched .entry)) (now (desired .entry)) (now (lineTask .entry)) (now (lineFlag .entry)) (now (activation .entry)) n (withPlaces (now (linePos .entry)) g)) st queue r) ⌝ }

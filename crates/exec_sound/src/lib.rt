@@ -1,7 +1,12 @@
 // The soundness check of a record, in time linear in its size.
+use chains::NODES;
 use exec_state::State;
 use rig::Cycle;
 use rig::Rig;
+use rig_tables::CONDITIONS;
+use rig_tables::CYCLES;
+use rig_tables::FLAG_PLACES;
+use rig_tables::TASK_PLACES;
 ghost use mathlib.Core.Path.{_≡_};
 ghost use mathlib.Core.Bool.{true};
 ghost use mathlib.Core.Logic.{_↔_};
@@ -27,17 +32,17 @@ const TIME_CHAIN: usize = 65;
 fn tables_ok<'a>(
     tasks: u8,
     flags: u8,
-    controller: &'a [u8; 65],
-    priority: &'a [u8; 65],
-    privileged: &'a [u8; 65],
-    activation: &'a [u8; 65],
-    present: &'a [u8; 1040],
+    controller: &'a [u8; TASK_PLACES],
+    priority: &'a [u8; TASK_PLACES],
+    privileged: &'a [u8; TASK_PLACES],
+    activation: &'a [u8; TASK_PLACES],
+    present: &'a [u8; CONDITIONS],
     count: u32,
-    value: &'a [u8; 129],
-    cond: &'a [u8; 1040],
-    state: &'a [u8; 65],
-    wake: &'a [u32; 65],
-    on: &'a [u16; 65],
+    value: &'a [u8; FLAG_PLACES],
+    cond: &'a [u8; CONDITIONS],
+    state: &'a [u8; TASK_PLACES],
+    wake: &'a [u32; TASK_PLACES],
+    on: &'a [u16; TASK_PLACES],
     running: u8,
 ) -> bool
     requires { ⌜ Placed tasks (now controller) (now activation) ⌝ }
@@ -83,10 +88,10 @@ fn tables_ok<'a>(
 // The links hold chains, and the time chain is in order of waking count, all above the count.
 fn chains_ok<'a>(
     count: u32,
-    wake: &'a [u32; 65],
-    next: &'a [u16; 322],
-    prev: &'a [u16; 322],
-    on: &'a [u16; 65],
+    wake: &'a [u32; TASK_PLACES],
+    next: &'a [u16; NODES],
+    prev: &'a [u16; NODES],
+    on: &'a [u16; TASK_PLACES],
 ) -> bool
     requires { ⌜ count ≤ 2147483647 ⌝ }
     requires { ⌜ Sized (linksOf (now next) (now prev) (now on)) ⌝ }
@@ -99,7 +104,7 @@ fn chains_ok<'a>(
 }
 
 // Whether the record of these parts is sound: the rig's rules, the tests over the tables, the chains.
-pub fn sound(rig: Rig, cycles: [Cycle; 64], st: State) -> bool
+pub fn sound(rig: Rig, cycles: [Cycle; CYCLES], st: State) -> bool
     ensures { λ r. ⌜ (r ≡ true) ↔ SoundParts rig cycles st ⌝ }
 {
     let row = rig.row;

@@ -2,6 +2,9 @@
 use chains::Links;
 use exec_queue::Queue;
 use rig::Rig;
+use rig_tables::CONDITIONS;
+use rig_tables::FLAG_PLACES;
+use rig_tables::TASK_PLACES;
 ghost use Prim.Native.Nat.{_<_, _≤_};
 ghost use Rattle.chains.specs.Held.{HoldsChains};
 ghost use Rattle.exec_state.specs.Post.{CancelOk, Dispatched, Finished, Terminated, Cancelled, Scheduled, Blank};
@@ -26,10 +29,10 @@ pub const FLAG_CHAINS: usize = 64;
 #[repr(C)]
 pub struct State {
     pub count: u32,
-    pub value: [u8; 129],
-    pub cond: [u8; 1040],
-    pub state: [u8; 65],
-    pub wake: [u32; 65],
+    pub value: [u8; FLAG_PLACES],
+    pub cond: [u8; CONDITIONS],
+    pub state: [u8; TASK_PLACES],
+    pub wake: [u32; TASK_PLACES],
     pub links: Links,
     pub running: u8,
 }
@@ -48,17 +51,17 @@ impl State {
         let links = chains::fresh();
         State {
             count: 0,
-            value: [0; 129],
-            cond: [0; 1040],
-            state: [0; 65],
-            wake: [0; 65],
+            value: [0; FLAG_PLACES],
+            cond: [0; CONDITIONS],
+            state: [0; TASK_PLACES],
+            wake: [0; TASK_PLACES],
             links: links,
             running: 0,
         }
     }
 
     // Who runs.
-    pub fn dispatched<'a>(mut self, privileged: &'a [u8; 65], priority: &'a [u8; 65]) -> State
+    pub fn dispatched<'a>(mut self, privileged: &'a [u8; TASK_PLACES], priority: &'a [u8; TASK_PLACES]) -> State
         requires { ⌜ self .running ≤ 64 ⌝ }
         ensures { λ r. ⌜ ((g : Rig) → Dispatched self (withRanks (now (privileged .entry)) (now (priority .entry)) g) r) ⌝ }
     {

@@ -3,6 +3,7 @@ use exec_outcome::Outcome;
 use exec_state::State;
 use rig::Cycle;
 use rig::Rig;
+use rig_tables::CYCLES;
 ghost use mathlib.Core.List.{[]};
 ghost use Rattle.rules.specs.Calls.{schedule, cancel, terminate, finish};
 ghost use Rattle.exec_outcome.specs.Outcome.{Tells};
@@ -20,7 +21,7 @@ const RIG_BREAKS_A_RULE: u8 = 4;
 const FIRST_TASK: usize = 1;
 
 // "unlatched conditions take the undesired value; inactive; if all conditions are as desired, .. activated"
-pub fn schedule(rig: Rig, cycles: [Cycle; 64], st: State, task: u32) -> Outcome
+pub fn schedule(rig: Rig, cycles: [Cycle; CYCLES], st: State, task: u32) -> Outcome
     ensures { λ r. ⌜ Tells rig cycles st (schedule task) r [] ⌝ }
 {
     let sound = exec_sound::sound(rig, cycles, st);
@@ -33,7 +34,7 @@ pub fn schedule(rig: Rig, cycles: [Cycle; 64], st: State, task: u32) -> Outcome
 }
 
 // "the named task and all its descendants become uninvoked and leave their chains"
-pub fn cancel(rig: Rig, cycles: [Cycle; 64], st: State, task: u32) -> Outcome
+pub fn cancel(rig: Rig, cycles: [Cycle; CYCLES], st: State, task: u32) -> Outcome
     ensures { λ r. ⌜ Tells rig cycles st (cancel task) r [] ⌝ }
 {
     let sound = exec_sound::sound(rig, cycles, st);
@@ -53,7 +54,7 @@ pub fn cancel(rig: Rig, cycles: [Cycle; 64], st: State, task: u32) -> Outcome
 }
 
 // As finish, "for the named active task, taken out of any chain"
-pub fn terminate(rig: Rig, cycles: [Cycle; 64], st: State, task: u32) -> Outcome
+pub fn terminate(rig: Rig, cycles: [Cycle; CYCLES], st: State, task: u32) -> Outcome
     ensures { λ r. ⌜ Tells rig cycles st (terminate task) r [] ⌝ }
 {
     let sound = exec_sound::sound(rig, cycles, st);
@@ -66,7 +67,7 @@ pub fn terminate(rig: Rig, cycles: [Cycle; 64], st: State, task: u32) -> Outcome
 }
 
 // "(the running task): inactive, activation flag queued off"
-pub fn finish(rig: Rig, cycles: [Cycle; 64], st: State) -> Outcome
+pub fn finish(rig: Rig, cycles: [Cycle; CYCLES], st: State) -> Outcome
     ensures { λ r. ⌜ Tells rig cycles st finish r [] ⌝ }
 {
     let sound = exec_sound::sound(rig, cycles, st);
@@ -78,7 +79,7 @@ pub fn finish(rig: Rig, cycles: [Cycle; 64], st: State) -> Outcome
 }
 
 // "Start: count 0, flags and conditions off, all tasks uninvoked; then task 1 is scheduled."
-pub fn start(rig: Rig, cycles: [Cycle; 64]) -> Outcome
+pub fn start(rig: Rig, cycles: [Cycle; CYCLES]) -> Outcome
     ensures { λ r. ⌜ Begins rig cycles r ⌝ }
 {
     let blank = State::blank();

@@ -5,6 +5,7 @@ use exec_state::State;
 use exec_state::Work;
 use rig::Cycle;
 use rig::Rig;
+use rig_tables::CYCLES;
 ghost use mathlib.Core.Path.{_≡_};
 ghost use mathlib.Core.Bool.{_&&_};
 ghost use mathlib.Core.List.{[]};
@@ -18,7 +19,7 @@ ghost use Rattle.exec_waits.specs.Laws.Waits.{flagWait};
 const LAST_COUNT: u64 = 2147483647;
 
 // "if the waking count is at or below the count, no wait; else waiting"
-pub fn wait_until(rig: Rig, cycles: [Cycle; 64], st: State, count: u32) -> Outcome
+pub fn wait_until(rig: Rig, cycles: [Cycle; CYCLES], st: State, count: u32) -> Outcome
     ensures { λ r. ⌜ Tells rig cycles st (waitUntil count) r [] ⌝ }
 {
     let sound = exec_sound::sound(rig, cycles, st);
@@ -35,7 +36,7 @@ pub fn wait_until(rig: Rig, cycles: [Cycle; 64], st: State, count: u32) -> Outco
 }
 
 // The waking count is so many cycles from now: the true sum, which may be above every u32.
-pub fn wait_for(rig: Rig, cycles: [Cycle; 64], st: State, many: u32) -> Outcome
+pub fn wait_for(rig: Rig, cycles: [Cycle; CYCLES], st: State, many: u32) -> Outcome
     ensures { λ r. ⌜ Tells rig cycles st (waitFor many) r [] ⌝ }
 {
     let sound = exec_sound::sound(rig, cycles, st);
@@ -56,7 +57,7 @@ pub fn wait_for(rig: Rig, cycles: [Cycle; 64], st: State, many: u32) -> Outcome
 // that value"
 pub fn wait_on(
     rig: Rig,
-    cycles: [Cycle; 64],
+    cycles: [Cycle; CYCLES],
     st: State,
     latched: bool,
     flag: u32,

@@ -6,6 +6,7 @@ use exec_state::State;
 use exec_state::TIME_CHAIN;
 use exec_state::Work;
 use rig::Cycle;
+use rig_tables::TASK_PLACES;
 ghost use Prim.Native.Nat.{_<_};
 ghost use Rattle.chains.specs.Held.{HoldsChains};
 ghost use Rattle.exec_waking.specs.Post.{Timed, TickOk, Awoken, WokenDue, Ticked};
@@ -14,7 +15,7 @@ ghost use Rattle.exec_waking.specs.Post.{Timed, TickOk, Awoken, WokenDue
 const CYCLES: u32 = 64;
 
 // All who wait in the chain of anchor s become dispatchable.
-pub fn wake(links: Links, state: &mut [u8; 65], s: usize) -> Links
+pub fn wake(links: Links, state: &mut [u8; TASK_PLACES], s: usize) -> Links
     requires { ⌜ HoldsChains links ⌝ }
     requires { ⌜ (64 < s) × (s < 322) ⌝ }
     ensures { λ r. ⌜ Awoken links (now (state .entry)) s r (now (state .exit)) ⌝ }
@@ -51,7 +52,7 @@ pub fn wake_due(mut st: State) -> State
 }
 
 // The count rises by one, the tasks due at it become dispatchable, and the cycle's list is queued.
-pub fn ticked(mut st: State, cycles: [Cycle; 64]) -> Work
+pub fn ticked(mut st: State, cycles: [Cycle; rig_tables::CYCLES]) -> Work
     requires { ⌜ HoldsChains (st .links) ⌝ }
     requires { ⌜ TickOk st ⌝ }
     ensures { λ r. ⌜ Ticked st cycles r ⌝ }

@@ -1,4 +1,5 @@
 // What is answered for a whole rig file.
+use rig_tables::CYCLES;
 ghost use mathlib.Core.Path.{_≡_};
 ghost use Prim.Native.Nat.{ℕ, _≤_};
 ghost use lib.ListN.{getD};
@@ -13,7 +14,7 @@ pub struct Answer {
     pub line: usize,
     pub rule: u16,
     pub rig: rig::Rig,
-    pub cycles: [rig::Cycle; 64],
+    pub cycles: [rig::Cycle; CYCLES],
 }
 
 // The refusal of a file that breaks a rule over the whole of it.
@@ -49,7 +50,7 @@ pub fn refused(no: u8, line: usize, rule: u16) -> Answer
     }
 }
 
-fn taken(g: rig::Rig, cycles: [rig::Cycle; 64]) -> Answer
+fn taken(g: rig::Rig, cycles: [rig::Cycle; CYCLES]) -> Answer
     ensures { λ r. ⌜ r ≡ fileAccepted g cycles ⌝ }
 {
     Answer {

@@ -1,5 +1,9 @@
 // Tables filled from the lines that are held, one pass for each kind of line: the conditions, the A lines and the cycles' flags. The other kinds, and the
 // rig of them all, are in rig_filled.
+use rig_tables::CONDITIONS;
+use rig_tables::CYCLES;
+use rig_tables::CYCLE_FLAGS;
+use rig_tables::LINES;
 ghost use mathlib.Core.Path.{_≡_};
 ghost use Prim.Native.Nat.{_≤_};
 ghost use lib.ListN.{length};
@@ -12,9 +16,9 @@ ghost use Rattle.rig_fill.specs.OfLines.{stored, listed, one, conditionP
 pub fn fill_conditions(
     lines: &[u8; rig_held::ROOM],
     n: usize,
-    present: &mut [u8; 1040],
-    latched: &mut [u8; 1040],
-    desired: &mut [u8; 1040],
+    present: &mut [u8; CONDITIONS],
+    latched: &mut [u8; CONDITIONS],
+    desired: &mut [u8; CONDITIONS],
 )
     requires { ⌜ (n ≤ 10240) × (length (now present) ≡ 1040) × (length (now latched) ≡ 1040) × (length (now desired) ≡ 1040) ⌝ }
     ensures { λ r. ⌜ (now (present .exit) ≡ stored (isKind kindC) conditionPlace one (now (present .entry)) (held (now (lines .entry)) n)) × (now (latched .exit) ≡ stored (isKind kindC) conditionPlace (numberOf 2) (now (latched .entry)) (held (now (lines .entry)) n)) × (now (desired .exit) ≡ stored (isKind kindC) conditionPlace (numberOf 3) (now (desired .entry)) (held (now (lines .entry)) n)) ⌝ }
@@ -27,7 +31,7 @@ pub fn fill_conditions(
             continue;
         }
         let p = 16 * decimal::wide(lines[a + 1]) + decimal::wide(lines[a + 2]);
-        if 1040 <= p {
+        if CONDITIONS <= p {
             continue;
         }
         present[p] = 1;
@@ -40,9 +44,9 @@ pub fn fill_conditions(
 pub fn fill_lines(
     lines: &[u8; rig_held::ROOM],
     n: usize,
-    task: &mut [u8; 1024],
-    pos: &mut [u8; 1024],
-    flag: &mut [u8; 1024],
+    task: &mut [u8; LINES],
+    pos: &mut [u8; LINES],
+    flag: &mut [u8; LINES],
 )
     requires { ⌜ (n ≤ 10240) × (length (now task) ≡ 1024) × (length (now pos) ≡ 1024) × (length (now flag) ≡ 1024) ⌝ }
     ensures { λ r. ⌜ (now (task .exit) ≡ listed (isKind kindA) (numberOf 0) 0 (now (task .entry)) (held (now (lines .entry)) n)) × (now (pos .exit) ≡ listed (isKind kindA) (numberOf 1) 0 (now (pos .entry)) (held (now (lines .entry)) n)) × (now (flag .exit) ≡ listed (isKind kindA) (numberOf 2) 0 (now (flag .entry)) (held (now (lines .entry)) n)) ⌝ }
@@ -57,7 +61,7 @@ pub fn fill_lines(
         }
         let k = c;
         c += 1;
-        if 1024 <= k {
+        if LINES <= k {
             continue;
         }
         task[k] = lines[a + 1];
@@ -67,11 +71,11 @@ pub fn fill_lines(
 }
 
 // M lines.
-pub fn table_from(lines: &[u8; rig_held::ROOM], n: usize) -> [[u8; 15]; 64]
+pub fn table_from(lines: &[u8; rig_held::ROOM], n: usize) -> [[u8; CYCLE_FLAGS]; CYCLES]
     requires { ⌜ n ≤ 10240 ⌝ }
     ensures { λ r. ⌜ r ≡ tableFrom (held (now (lines .entry)) n) ⌝ }
 {
-    let mut table = [[0u8; 15]; 64];
+    let mut table = [[0u8; CYCLE_FLAGS]; CYCLES];
     let mut inside = [0usize; 256];
     let mut i: usize = 0;
     while i < n {
@@ -83,7 +87,7 @@ pub fn table_from(lines: &[u8; rig_held::ROOM], n: usize) -> [[u8; 15]; 64]
         let c = decimal::wide(lines[a + 1]);
         let j = inside[c];
         inside[c] = j + 1;
-        if 64 <= c {
+        if CYCLES <= c {
             continue;
         }
         if 15 <= j {

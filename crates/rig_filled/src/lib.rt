@@ -1,4 +1,8 @@
 // The rig of the lines that are held: the tasks, the rows, and the whole with the tables of rig_fill.
+use rig_tables::CONDITIONS;
+use rig_tables::LINES;
+use rig_tables::ROWS;
+use rig_tables::TASK_PLACES;
 ghost use mathlib.Core.Path.{_≡_};
 ghost use Prim.Native.Nat.{_≤_};
 ghost use lib.ListN.{length, getD};
@@ -11,10 +15,10 @@ ghost use Rattle.rig_fill.specs.OfLines.{stored, rigFrom};
 fn fill_tasks(
     lines: &[u8; rig_held::ROOM],
     n: usize,
-    controller: &mut [u8; 65],
-    priority: &mut [u8; 65],
-    privileged: &mut [u8; 65],
-    activation: &mut [u8; 65],
+    controller: &mut [u8; TASK_PLACES],
+    priority: &mut [u8; TASK_PLACES],
+    privileged: &mut [u8; TASK_PLACES],
+    activation: &mut [u8; TASK_PLACES],
 )
     requires { ⌜ (n ≤ 10240) × (length (now controller) ≡ 65) × (length (now priority) ≡ 65) × (length (now privileged) ≡ 65) × (length (now activation) ≡ 65) ⌝ }
     ensures { λ r. ⌜ (now (controller .exit) ≡ stored (isKind kindT) (numberOf 0) (numberOf 1) (now (controller .entry)) (held (now (lines .entry)) n)) × (now (priority .exit) ≡ stored (isKind kindT) (numberOf 0) (numberOf 2) (now (priority .entry)) (held (now (lines .entry)) n)) × (now (privileged .exit) ≡ stored (isKind kindT) (numberOf 0) (numberOf 3) (now (privileged .entry)) (held (now (lines .entry)) n)) × (now (activation .exit) ≡ stored (isKind kindT) (numberOf 0) (numberOf 4) (now (activation .entry)) (held (now (lines .entry)) n)) ⌝ }
@@ -27,7 +31,7 @@ fn fill_tasks(
             continue;
         }
         let t = decimal::wide(lines[a + 1]);
-        if 65 <= t {
+        if TASK_PLACES <= t {
             continue;
         }
         controller[t] = lines[a + 2];
@@ -38,7 +42,7 @@ fn fill_tasks(
 }
 
 // B lines.
-fn rows_from(lines: &[u8; rig_held::ROOM], n: usize) -> [rig::Row; 64]
+fn rows_from(lines: &[u8; rig_held::ROOM], n: usize) -> [rig::Row; ROWS]
     requires { ⌜ n ≤ 10240 ⌝ }
     ensures { λ r. ⌜ r ≡ rigFrom (held (now (lines .entry)) n) .row ⌝ }
 {
@@ -51,7 +55,7 @@ fn rows_from(lines: &[u8; rig_held::ROOM], n: usize) -> [rig::Row; 64]
         period: 0,
         phase: 0,
     };
-    let mut row = [none; 64];
+    let mut row = [none; ROWS];
     let mut c: usize = 0;
     let mut i: usize = 0;
     while i < n {
@@ -62,7 +66,7 @@ fn rows_from(lines: &[u8; rig_held::ROOM], n: usize) -> [rig::Row; 64]
         }
         let k = c;
         c += 1;
-        if 64 <= k {
+        if ROWS <= k {
             continue;
         }
         row[k] = rig::Row {
@@ -83,10 +87,10 @@ pub fn rig_from(lines: &[u8; rig_held::ROOM], n: usize) -> rig::Rig
     requires { ⌜ (1 ≤ n) × (n ≤ 10240) × (getD (now lines) 0 0 ≡ kindRIG) × (howMany (isKind kindB) (held (now lines) n) ≤ 64) ⌝ }
     ensures { λ r. ⌜ r ≡ rigFrom (held (now (lines .entry)) n) ⌝ }
 {
-    let mut controller = [0u8; 65];
-    let mut priority = [0u8; 65];
-    let mut privileged = [0u8; 65];
-    let mut activation = [0u8; 65];
+    let mut controller = [0u8; TASK_PLACES];
+    let mut priority = [0u8; TASK_PLACES];
+    let mut privileged = [0u8; TASK_PLACES];
+    let mut activation = [0u8; TASK_PLACES];
     fill_tasks(
         lines,
         n,
@@ -95,13 +99,13 @@ pub fn rig_from(lines: &[u8; rig_held::ROOM], n: usize) -> rig::Rig
         &mut privileged,
         &mut activation,
     );
-    let mut present = [0u8; 1040];
-    let mut latched = [0u8; 1040];
-    let mut desired = [0u8; 1040];
+    let mut present = [0u8; CONDITIONS];
+    let mut latched = [0u8; CONDITIONS];
+    let mut desired = [0u8; CONDITIONS];
     rig_fill::fill_conditions(lines, n, &mut present, &mut latched, &mut desired);
-    let mut lineTask = [0u8; 1024];
-    let mut linePos = [0u8; 1024];
-    let mut lineFlag = [0u8; 1024];
+    let mut lineTask = [0u8; LINES];
+    let mut linePos = [0u8; LINES];
+    let mut lineFlag = [0u8; LINES];
     rig_fill::fill_lines(lines, n, &mut lineTask, &mut linePos, &mut lineFlag);
     let row = rows_from(lines, n);
     rig::Rig {

@@ -1,4 +1,6 @@
 // The rules over the whole file that only the lines show, asked of lines that are held.
+use rig_tables::LINES;
+use rig_tables::ROWS;
 ghost use mathlib.Core.Path.{_≡_};
 ghost use Prim.Native.Nat.{_≤_};
 ghost use lib.ListN.{getD};
@@ -17,10 +19,10 @@ pub fn line_rule(lines: &[u8; rig_held::ROOM], n: usize) -> u16
     if !rig_marks::none_above(lines, n, tasks, flags) {
         return 1;
     }
-    if 1024 < rig_held::how_many(lines, n, rig_held::LINE) {
+    if LINES < rig_held::how_many(lines, n, rig_held::LINE) {
         return 2;
     }
-    if 64 < rig_held::how_many(lines, n, rig_held::ROW) {
+    if ROWS < rig_held::how_many(lines, n, rig_held::ROW) {
         return 3;
     }
     if !rig_marks::each_task(rig_marks::task_lines(lines, n), tasks) {

@@ -1,5 +1,6 @@
 // What the rules over a whole file ask of the lines that are held: that no number is above the RIG line's, a mark for each task that has a T line,
 // and how many M lines each cycle has.
+use rig_tables::CYCLES;
 ghost use mathlib.Core.Path.{_≡_};
 ghost use Prim.Native.Nat.{ℕ, _≤_, _<_};
 ghost use lib.Dec.{eqb, ltb};
@@ -111,7 +112,7 @@ pub fn few_flags(many: [usize; 256]) -> bool
     ensures { λ r. ⌜ r ≡ all 64 (fewOne many) ⌝ }
 {
     let mut c: usize = 0;
-    while c < 64 {
+    while c < CYCLES {
         if 15 < many[c] {
             return false;
         }

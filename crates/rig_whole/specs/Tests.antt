@@ -6,6 +6,7 @@ use Prim.Native.Nat.{ℕ}
 use lib.Dec.{eqb, leb}
 use lib.ListN.{length}
 use Rattle.laws.specs.All.{allOf}
+use Rattle.laws.specs.Sizes.{taskPlaces, conditionPlaces, mostLines}
 use Rattle.laws.specs.First.{firstFalse}
 use Rattle.rig_tables.specs.Tests.{within, smallB, conditionsB, linesRiseB, conditionTasksB, linesB, controllersB, servesOneB, notMinorB, namedB, usedB, minorConditionsB, taskZerosB, lineZerosB}
 use Rattle.rig.specs.declared.Row.{Row}
@@ -17,16 +18,16 @@ use Rattle.rig_cycles.specs.Tests.{cyclesRiseB, cyclesSmallB, minorB}
 -- the tables of numbers have their lengths
 unfoldable pub shapedTests : Rig → List Bool
 shapedTests g =
-    eqb (length (g .controller)) 65 ∷
-    eqb (length (g .priority)) 65 ∷
-    eqb (length (g .privileged)) 65 ∷
-    eqb (length (g .activation)) 65 ∷
-    eqb (length (g .present)) 1040 ∷
-    eqb (length (g .latched)) 1040 ∷
-    eqb (length (g .desired)) 1040 ∷
-    eqb (length (g .lineTask)) 1024 ∷
-    eqb (length (g .linePos)) 1024 ∷
-    eqb (length (g .lineFlag)) 1024 ∷
+    eqb (length (g .controller)) taskPlaces ∷
+    eqb (length (g .priority)) taskPlaces ∷
+    eqb (length (g .privileged)) taskPlaces ∷
+    eqb (length (g .activation)) taskPlaces ∷
+    eqb (length (g .present)) conditionPlaces ∷
+    eqb (length (g .latched)) conditionPlaces ∷
+    eqb (length (g .desired)) conditionPlaces ∷
+    eqb (length (g .lineTask)) mostLines ∷
+    eqb (length (g .linePos)) mostLines ∷
+    eqb (length (g .lineFlag)) mostLines ∷
     []
 
 -- ---- the rules by number, in groups: 1 to 9 sizes, 10 and 11 orders, 12 to 22 rules over the whole file, 23 to 25 zeros

@@ -7,6 +7,7 @@ use mathlib.Core.Path.{_≡_}
 use Prim.Native.Nat.{ℕ, suc, _<_, zero}
 use lib.ListN.{length, getD}
 use Rattle.laws.specs.All.{allOf}
+use Rattle.laws.specs.Sizes.{mostRows, minorCycles, flagsACycle}
 use Rattle.rig.specs.declared.Cycle.{Cycle}
 use Rattle.rig.specs.declared.Rig.{Rig}
 use Rattle.rig.specs.Rules.{Right, noCycle, Controllers, Conditions, Rows, LineOrder, CycleOrder, ConditionNumbers, Lines, CycleNumbers, ActivationServesOne, ActivationNotMinor, LineHasCondition, ConditionHasLine, MinorConditions, SenderDiffers, TaskZeros, LineZeros, RowZeros, TaskCount, FlagCount, MasterAddress, LineCount, RowCount, Priorities, Privileges, ActivationNumbers}
@@ -23,9 +24,9 @@ rules g cycles =
     Priorities g ∷
     Privileges g ∷
     Conditions g ∷
-    ((length (g .row) ≡ 64) × Rows g) ∷
+    ((length (g .row) ≡ mostRows) × Rows g) ∷
     LineOrder g ∷
-    ((length cycles ≡ 64) × (((c : ℕ) → c < 64 → length (getD cycles c noCycle .flags) ≡ 15) × CycleOrder cycles)) ∷
+    ((length cycles ≡ minorCycles) × (((c : ℕ) → c < minorCycles → length (getD cycles c noCycle .flags) ≡ flagsACycle) × CycleOrder cycles)) ∷
     ActivationNumbers g ∷
     ConditionNumbers g ∷
     Lines g ∷

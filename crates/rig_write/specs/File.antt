@@ -1,10 +1,11 @@
 -- THE FILE OF A RIG: its lines in the file's order, and their text.
-use Prim.Native.Nat.{ℕ, _+_, _/_, _%_}
+use Prim.Native.Nat.{ℕ, _+_, _*_, _/_, _%_}
 use mathlib.Core.Path.{_≡_}
 use mathlib.Core.Bool.{Bool, not, _&&_}
 use mathlib.Core.List.{List, [], _∷_, _++_}
 use lib.Dec.{eqb, leb, ltb}
 use lib.ListN.{getD}
+use Rattle.laws.specs.Sizes.{taskPlaces, positions, conditionPlaces, mostLines, minorCycles, flagsACycle, mostRows}
 use Rattle.rig.specs.declared.Row.{Row}
 use Rattle.rig.specs.declared.Cycle.{Cycle}
 use Rattle.rig.specs.declared.Rig.{Rig}
@@ -34,7 +35,7 @@ abbrev pub isCondition : Rig → ℕ → Bool
 isCondition g i = eqb (getD (g .present) i 0) 1
 
 abbrev pub conditionLine : Rig → ℕ → Line
-conditionLine g i = line kindC (i / 16 ∷ i % 16 ∷ getD (g .latched) i 0 ∷ getD (g .desired) i 0 ∷ [])
+conditionLine g i = line kindC (i / positions ∷ i % positions ∷ getD (g .latched) i 0 ∷ getD (g .desired) i 0 ∷ [])
 
 -- A, task, position, flag
 abbrev pub isLine : Rig → ℕ → Bool
@@ -45,13 +46,13 @@ flagLine g i = line kindA (getD (g .lineTask) i 0 ∷ getD (g .linePos) i 0 ∷ 
 
 -- M, cycle, flag: the flag at place i is number i % 15 of cycle i / 15
 abbrev pub tableFlagAt : List (List ℕ) → ℕ → ℕ
-tableFlagAt table i = getD (getD table (i / 15) []) (i % 15) 0
+tableFlagAt table i = getD (getD table (i / flagsACycle) []) (i % flagsACycle) 0
 
 abbrev pub isFlag : List (List ℕ) → ℕ → Bool
 isFlag table i = not (eqb (tableFlagAt table i) 0)
 
 abbrev pub cycleLine : List (List ℕ) → ℕ → Line
-cycleLine table i = line kindM (i / 15 ∷ tableFlagAt table i ∷ [])
+cycleLine table i = line kindM (i / flagsACycle ∷ tableFlagAt table i ∷ [])
 
 -- B, sender, its sub-address, receiver, its sub-address, words, period, phase
 abbrev pub isRow : Rig → ℕ → Bool
@@ -67,11 +68,11 @@ rowLine g i = line kindB (busNumbers (getD (g .row) i noRow))
 unfoldable pub linesFrom : Rig → List (List ℕ) → List Line
 linesFrom g table =
     rigLine g ∷
-    (kept 65 (isTask g) (taskLine g) ++
-    (kept 1040 (isCondition g) (conditionLine g) ++
-    (kept 1024 (isLine g) (flagLine g) ++
-    (kept 960 (isFlag table) (cycleLine table) ++
-    kept 64 (isRow g) (rowLine g)))))
+    (kept taskPlaces (isTask g) (taskLine g) ++
+    (kept conditionPlaces (isCondition g) (conditionLine g) ++
+    (kept mostLines (isLine g) (flagLine g) ++
+    (kept (minorCycles * flagsACycle) (isFlag table) (cycleLine table) ++
+    kept mostRows (isRow g) (rowLine g)))))
 
 unfoldable pub fileOf : Rig → List (List ℕ) → List ℕ
 fileOf g table = text (linesFrom g table)

@@ -1,4 +1,10 @@
 // The rig file's writer: lines of a rig, one kind after the other.
+use rig_tables::CONDITIONS;
+use rig_tables::CYCLES;
+use rig_tables::CYCLE_FLAGS;
+use rig_tables::LINES;
+use rig_tables::ROWS;
+use rig_tables::TASK_PLACES;
 ghost use mathlib.Core.Path.{_≡_};
 ghost use Prim.Native.Nat.{_+_, _≤_, _<_};
 ghost use lib.ListN.{length};
@@ -7,6 +13,9 @@ ghost use Rattle.rig_lines.specs.Text.{text};
 ghost use Rattle.rig_write.specs.Kept.{kept, ended};
 ghost use Rattle.rig_write.specs.Written.{writtenReport, writtenOf, bufferOf};
 ghost use Rattle.rig_write.specs.File.{rigLine, isTask, taskLine, isCondition, conditionLine, isLine, flagLine, isFlag, cycleLine, isRow, rowLine, fileOf};
+
+// The flags of all cycles, one behind the other.
+const CYCLE_PLACES: usize = CYCLES * CYCLE_FLAGS;
 
 fn byte(x: usize) -> u8
     requires { ⌜ x < 256 ⌝ }
@@ -34,7 +43,7 @@ fn put_tasks(buf: &mut [u8], at: usize, g: rig::Rig) -> usize
     let tasks = decimal::wide(g.tasks);
     let mut p = at;
     let mut i: usize = 0;
-    while i < 65 {
+    while i < TASK_PLACES {
         let t = i;
         i += 1;
         if t < 1 {
@@ -65,7 +74,7 @@ fn put_conditions(buf: &mut [u8], at: usize, g: rig::Rig) -> usize
 {
     let mut p = at;
     let mut i: usize = 0;
-    while i < 1040 {
+    while i < CONDITIONS {
         let c = i;
         i += 1;
         if g.present[c] != 1 {
@@ -94,7 +103,7 @@ fn put_lines(buf: &mut [u8], at: usize, g: rig::Rig) -> usize
     let n = decimal::wide16(g.lines);
     let mut p = at;
     let mut i: usize = 0;
-    while i < 1024 {
+    while i < LINES {
         let a = i;
         i += 1;
         if n <= a {
@@ -106,13 +115,13 @@ fn put_lines(buf: &mut [u8], at: usize, g: rig::Rig) -> usize
     p
 }
 
-fn put_cycles(buf: &mut [u8], at: usize, table: [[u8; 15]; 64]) -> usize
+fn put_cycles(buf: &mut [u8], at: usize, table: [[u8; CYCLE_FLAGS]; CYCLES]) -> usize
     requires { ⌜ at + length (text (kept 960 (isFlag table) (cycleLine table))) ≤ length (now buf) ⌝ }
     ensures { λ r. ⌜ Wrote (now (buf .entry)) at (text (kept 960 (isFlag table) (cycleLine table))) (now (buf .exit)) r ⌝ }
 {
     let mut p = at;
     let mut i: usize = 0;
-    while i < 960 {
+    while i < CYCLE_PLACES {
         let c = i / 15;
         let n = i % 15;
         i += 1;
@@ -137,7 +146,7 @@ fn put_rows(buf: &mut [u8], at: usize, g: rig::Rig) -> usize
     let n = decimal::wide(g.rows);
     let mut p = at;
     let mut i: usize = 0;
-    while i < 64 {
+    while i < ROWS {
         let k = i;
         i += 1;
         if n <= k {
@@ -161,7 +170,7 @@ fn put_rows(buf: &mut [u8], at: usize, g: rig::Rig) -> usize
 }
 
 // The whole file, from the buffer's start.
-fn put_file(buf: &mut [u8], g: rig::Rig, table: [[u8; 15]; 64]) -> usize
+fn put_file(buf: &mut [u8], g: rig::Rig, table: [[u8; CYCLE_FLAGS]; CYCLES]) -> usize
     requires { ⌜ length (fileOf g table) ≤ length (now buf) ⌝ }
     ensures { λ r. ⌜ Wrote (now (buf .entry)) 0 (fileOf g table) (now (buf .exit)) r ⌝ }
 {
@@ -188,7 +197,7 @@ pub enum Written {
 
 // Writes the file of a rig into the lent buffer. It is put together in a buffer of its own, which the file of a right rig
 // always fits, so that nothing is written where the lent one is too short.
-pub fn write(buf: &mut [u8], g: rig::Rig, cycles: [rig::Cycle; 64]) -> Written
+pub fn write(buf: &mut [u8], g: rig::Rig, cycles: [rig::Cycle; CYCLES]) -> Written
     ensures { λ r. ⌜ (writtenReport r ≡ writtenOf g cycles (length (now (buf .entry)))) × (now (buf .exit) ≡ bufferOf g cycles (now (buf .entry))) ⌝ }
 {
     if !rig_whole::right(g, cycles) {
