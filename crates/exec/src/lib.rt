@@ -2,10 +2,11 @@
 // own (exec_tasks, exec_waits, exec_flags, exec_bus); here it becomes the next record and the answer.
 use chains::NODES;
 use rig_tables::CONDITIONS;
-use rig_tables::CYCLES;
 use rig_tables::CYCLE_FLAGS;
+use rig_tables::CYCLES;
 use rig_tables::FLAG_PLACES;
 use rig_tables::TASK_PLACES;
+
 mod answers;
 mod calls;
 

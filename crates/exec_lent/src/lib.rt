@@ -3,8 +3,8 @@
 use exec::Answer;
 use exec::Exec;
 use rig::Rig;
-use rig_tables::CYCLES;
 use rig_tables::CYCLE_FLAGS;
+use rig_tables::CYCLES;
 ghost use mathlib.Core.List.{[]};
 ghost use Rattle.rules.specs.Calls as Call;
 ghost use Rattle.exec.specs.Call.{Meets};

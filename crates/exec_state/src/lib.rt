@@ -61,7 +61,11 @@ impl State {
     }
 
     // Who runs.
-    pub fn dispatched<'a>(mut self, privileged: &'a [u8; TASK_PLACES], priority: &'a [u8; TASK_PLACES]) -> State
+    pub fn dispatched<'a>(
+        mut self,
+        privileged: &'a [u8; TASK_PLACES],
+        priority: &'a [u8; TASK_PLACES],
+    ) -> State
         requires { ⌜ self .running ≤ 64 ⌝ }
         ensures { λ r. ⌜ ((g : Rig) → Dispatched self (withRanks (now (privileged .entry)) (now (priority .entry)) g) r) ⌝ }
     {

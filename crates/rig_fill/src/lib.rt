@@ -1,8 +1,8 @@
 // Tables filled from the lines that are held, one pass for each kind of line: the conditions, the A lines and the cycles' flags. The other kinds, and the
 // rig of them all, are in rig_filled.
 use rig_tables::CONDITIONS;
-use rig_tables::CYCLES;
 use rig_tables::CYCLE_FLAGS;
+use rig_tables::CYCLES;
 use rig_tables::LINES;
 ghost use mathlib.Core.Path.{_≡_};
 ghost use Prim.Native.Nat.{_≤_};

@@ -1,7 +1,7 @@
 // The rig file's writer: lines of a rig, one kind after the other.
 use rig_tables::CONDITIONS;
-use rig_tables::CYCLES;
 use rig_tables::CYCLE_FLAGS;
+use rig_tables::CYCLES;
 use rig_tables::LINES;
 use rig_tables::ROWS;
 use rig_tables::TASK_PLACES;
