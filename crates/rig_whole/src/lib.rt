@@ -238,8 +238,8 @@ fn rest_rules<'a>(
     0
 }
 
-// The number of the first rule that the rig of these tables and its cycles break, 0 for none. The tables are lent, so that who
-// has a rig hands no copy of it on; what is lent does not tell its length, so that the caller does.
+// The number of the first rule that the rig of these tables and its cycles break, 0 for none. The tables are lent one by one, so that
+// a caller who holds a rig does not copy it. What is lent does not tell its length; the caller does.
 pub fn broken_in<'a>(
     tasks: u8,
     flags: u8,
