@@ -1,4 +1,4 @@
-/* Algolmallet for C hosts: the executive of an avionics training bench, on a record that the host keeps.
+/* Algolmallet for C hosts: the executive of an avionics training bench, on a record that the host keeps, and the monitor's side of the bus.
  *
  * Link with libalgolmallet.a, which `./install PREFIX` puts beside this header's folder (pkg-config algolmallet); in the repository it
  * is target/staticlib/libhost.a, which `rt staticlib host` proves and writes. It is for x86-64. The archive has the entries below and
@@ -21,8 +21,12 @@
  *     the record.
  *
  * WHAT IS PROVED of each entry, for every record and every argument: the record after it, its reply and every word of the
- * lent buffers are those that the paper's rules give (crates/host_replies/specs/Told.antt). "A refused call returns the record
+ * lent buffers are those that the paper's rules give (crates/host_replies/specs/Told.antt; of the word entries
+ * crates/word_numbers/specs/Numbers.antt and crates/word_judging/specs/Judging.antt). "A refused call returns the record
  * unchanged and writes nothing." No call traps.
+ *
+ * A terminal's side of the bus, which makes words and sends them, is another library: algolmallet_terminal.h. Both may be used in one
+ * program.
  */
 #ifndef ALGOLMALLET_H
 #define ALGOLMALLET_H
@@ -36,8 +40,8 @@ extern "C" {
 #endif
 
 /* The version of this header: first, second and third number, and all three as one, which rises. */
-#define ALGOLMALLET_VERSION "0.1.0"
-#define ALGOLMALLET_VERSION_NUMBER 1000 /* 1,000,000 times the first, 1,000 times the second, and the third */
+#define ALGOLMALLET_VERSION "0.2.0"
+#define ALGOLMALLET_VERSION_NUMBER 2000 /* 1,000,000 times the first, 1,000 times the second, and the third */
 
 /* The version of the archive: ALGOLMALLET_VERSION_NUMBER, if this header belongs to it. */
 uint32_t algolmallet_version(void);
@@ -80,7 +84,7 @@ enum algolmallet_refusal {
     ALGOLMALLET_COUNT_TOO_HIGH = 9,
     /* "a lent buffer has not the length that this paper states for it" */
     ALGOLMALLET_WRONG_LENGTH = 10,
-    /* "a word's field, an expected address or a status image is outside its size": of the word entries, no call's */
+    /* "a word's field, an expected address or a status image is outside its size": of algolmallet_judge, no call's */
     ALGOLMALLET_WORD_OUTSIDE_SIZE = 11,
     /* "the record handed in is not sound" */
     ALGOLMALLET_NOT_SOUND = 12
@@ -102,7 +106,7 @@ typedef struct {
     uint32_t running; /* the running task after the call, as the record has it, 0 for none */
 } algolmallet_reply;
 
-/* The library's side of these offsets is proved in crates/host/proofs/Offsets.antt. */
+/* The library's side of these offsets is proved in crates/host_layout/proofs/Offsets.antt. */
 #ifdef __cplusplus
 #define ALGOLMALLET_HOLDS(fact, text) static_assert(fact, text)
 #else
@@ -112,7 +116,6 @@ ALGOLMALLET_HOLDS(sizeof(algolmallet_reply) == 28, "the size of a reply");
 ALGOLMALLET_HOLDS(offsetof(algolmallet_reply, served) == 8, "the layout of a reply");
 ALGOLMALLET_HOLDS(offsetof(algolmallet_reply, running) == 24, "the layout of a reply");
 ALGOLMALLET_HOLDS(sizeof(size_t) == 8, "the library is for x86-64");
-#undef ALGOLMALLET_HOLDS
 
 /* The bytes of a record, and what its address must be a multiple of (what malloc gives always is). */
 size_t algolmallet_record_size(void);
@@ -165,6 +168,49 @@ algolmallet_reply algolmallet_read_block(algolmallet_record *r, uint32_t row, co
                                          uint16_t *buffer, size_t words);
 algolmallet_reply algolmallet_write_block(algolmallet_record *r, uint32_t row, uint16_t *area, size_t area_words,
                                           const uint16_t *data, size_t words);
+
+/* ---- The monitor's side of the bus: words that are heard. No record is needed. ---- */
+
+/* A command word by its fields. `last` is the number of words, 1 to 32, or at sub-address 0, "a mode command", its number, 0 to 31. */
+typedef struct {
+    uint32_t address;
+    uint32_t transmit; /* 0 receive, 1 transmit */
+    uint32_t sub_address;
+    uint32_t last;
+} algolmallet_command;
+
+/* A status word by its fields. */
+typedef struct {
+    uint32_t address;
+    uint32_t error;   /* message error, 0 or 1 */
+    uint32_t status;  /* the nine status bits, 0 to 511 */
+    uint32_t failure; /* terminal failure, 0 or 1 */
+} algolmallet_status;
+
+/* The library's side of these offsets is proved in crates/word_numbers/proofs/Offsets.antt. */
+ALGOLMALLET_HOLDS(sizeof(algolmallet_command) == 16, "the size of a command's fields");
+ALGOLMALLET_HOLDS(offsetof(algolmallet_command, last) == 12, "the layout of a command's fields");
+ALGOLMALLET_HOLDS(sizeof(algolmallet_status) == 16, "the size of a status's fields");
+ALGOLMALLET_HOLDS(offsetof(algolmallet_status, failure) == 12, "the layout of a status's fields");
+#undef ALGOLMALLET_HOLDS
+
+/* The fields of any word. Nothing is refused: every word is a command's and a status's. What algolmallet_command_word and
+ * algolmallet_status_word of the terminal's library make of these fields is this word again. */
+algolmallet_command algolmallet_command_fields(uint16_t word);
+algolmallet_status algolmallet_status_fields(uint16_t word);
+
+/* What an image is "against an expected address": "an error (bad parity or another address), an exception (any other field not zero), or
+ * clean". */
+enum algolmallet_verdict {
+    ALGOLMALLET_CLEAN = 0,
+    ALGOLMALLET_EXCEPTION = 1,
+    ALGOLMALLET_ERROR = 2
+};
+
+/* Judges "a 17-bit image, word times two plus parity", against the address from which it should come. The answer is an enum
+ * algolmallet_verdict, or ALGOLMALLET_WORD_OUTSIDE_SIZE alone if the image is above 131,071 or the address above 31: no verdict has
+ * that number. */
+uint32_t algolmallet_judge(uint32_t image, uint32_t address);
 
 #ifdef __cplusplus
 }

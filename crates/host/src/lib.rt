@@ -2,26 +2,27 @@
 // Each entry calls the method by value of its name, has its step told in numbers, stores the record over the lent one, and replies.
 use exec::Exec;
 use host_replies::Reply;
+use word_numbers::CommandNumbers;
+use word_numbers::StatusNumbers;
 ghost use mathlib.Core.Path.{_≡_};
 ghost use mathlib.Core.List.{[]};
+ghost use Rattle.command_words.specs.Command.{commandFields};
+ghost use Rattle.status_words.specs.Status.{statusFields};
+ghost use Rattle.word_judging.specs.Answers.{numberTold};
+ghost use Rattle.word_judging.specs.Judging.{judgedAs};
+ghost use Rattle.word_numbers.specs.Numbers.{commandNumbers, statusNumbers};
 ghost use Rattle.rules.specs.Calls as Call;
 ghost use Rattle.exec.specs.Call.{bit};
 ghost use Rattle.host_replies.specs.Told.{codedOf, Replies, StartRepliesFrom};
 ghost use Rattle.refusal_texts.specs.Texts.{refusalText, Given};
-ghost use Rattle.host.specs.Library.{recordSize, recordAlign, version};
-
-const RECORD_SIZE: usize = 10788;
-
-const RECORD_ALIGN: usize = 4;
-
-const VERSION: u32 = 1000;
+ghost use Rattle.host_layout.specs.Library.{recordSize, recordAlign, version};
 
 // The version, of which the header has the same number.
 #[no_mangle]
 pub extern "C" fn algolmallet_version() -> u32
     ensures { λ r. ⌜ r ≡ version ⌝ }
 {
-    VERSION
+    host_layout::version_number()
 }
 
 // A refusal's text in the caller's buffer, with the byte 0 behind it.
@@ -32,12 +33,12 @@ pub extern "C" fn algolmallet_refusal_text(number: u32, out: &mut [u8]) -> usize
     refusal_texts::refusal_text(number, out)
 }
 
-// The bytes of a record: proofs/Offsets.antt ties the number to the record's type.
+// The bytes of a record.
 #[no_mangle]
 pub extern "C" fn algolmallet_record_size() -> usize
     ensures { λ r. ⌜ r ≡ recordSize ⌝ }
 {
-    RECORD_SIZE
+    host_layout::record_size()
 }
 
 // What a record's address is a multiple of.
@@ -45,7 +46,7 @@ pub extern "C" fn algolmallet_record_size() -> usize
 pub extern "C" fn algolmallet_record_align() -> usize
     ensures { λ r. ⌜ r ≡ recordAlign ⌝ }
 {
-    RECORD_ALIGN
+    host_layout::record_align()
 }
 
 // Whatever the memory held, it holds a fresh record then, or one of all zeros if the file is refused.
@@ -183,4 +184,27 @@ pub extern "C" fn algolmallet_write_block(
     let s = host_replies::told((*e).write_block(row, area, words));
     *e = s.exec;
     s.reply
+}
+
+// The monitor's side of the bus: words that it hears, taken apart and judged. No record is needed.
+#[no_mangle]
+pub extern "C" fn algolmallet_command_fields(word: u16) -> CommandNumbers
+    ensures { λ r. ⌜ r ≡ commandNumbers (commandFields word) ⌝ }
+{
+    word_numbers::command_fields(word)
+}
+
+#[no_mangle]
+pub extern "C" fn algolmallet_status_fields(word: u16) -> StatusNumbers
+    ensures { λ r. ⌜ r ≡ statusNumbers (statusFields word) ⌝ }
+{
+    word_numbers::status_fields(word)
+}
+
+// 0 clean, 1 exception, 2 error; 11 alone for an image or an address outside its size.
+#[no_mangle]
+pub extern "C" fn algolmallet_judge(image: u32, address: u32) -> u32
+    ensures { λ r. ⌜ r ≡ numberTold (judgedAs image address) ⌝ }
+{
+    word_judging::judge_told(image, address)
 }

@@ -9,11 +9,11 @@
 //     judge      image address                           number verdict
 use command_words::Command;
 use libc::STDOUT_FILENO;
-use status_words::Judged;
 use status_words::Status;
-use status_words::Verdict;
 use word_answers::Encoded;
-use word_parts::parity;
+use word_judging::Judged;
+use word_judging::Verdict;
+use word_judging::parity;
 
 fn text(t: &[u8]) {
     io::write_all(STDOUT_FILENO, t);
@@ -78,7 +78,7 @@ fn ask_status(address: u32, error: bool, bits: u32, failure: bool) {
     field(answer.number());
     if let Encoded::Word(w) = answer {
         field(w as u32);
-        field(status_words::image(w));
+        field(word_sending::image(w));
     }
     end();
 }
@@ -113,7 +113,7 @@ fn ask_judge(image: u32, address: u32) {
     text(b"judge");
     field(image);
     field(address);
-    let answer = status_words::judge(image, address);
+    let answer = word_judging::judge(image, address);
     field(answer.number());
     if let Judged::As(v) = answer {
         verdict_text(v);

@@ -1,2 +1,3 @@
 pub mod PackedCases
 pub mod Parity
+pub mod ParityCases

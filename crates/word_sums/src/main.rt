@@ -19,9 +19,7 @@
 //                             for each image 0 to 131075: 11 refused, 2 error, 1 exception, 0 clean; then how many of each
 use command_words::Command;
 use libc::STDOUT_FILENO;
-use status_words::Judged;
 use status_words::Status;
-use status_words::Verdict;
 use word_answers::Encoded;
 
 fn mixed(sum: u32, value: u32) -> u32 {
@@ -57,7 +55,7 @@ fn mixed_status(sum: u32, word: u16) -> u32 {
     let sum = mixed(sum, s.status);
     let sum = mixed_bit(sum, s.failure);
     let sum = mixed_answer(sum, status_words::word(s));
-    mixed(sum, status_words::image(word))
+    mixed(sum, word_sending::image(word))
 }
 
 // The sums of the words of a block as commands and as statuses.
@@ -143,17 +141,6 @@ struct Tally {
     clean: u32,
 }
 
-fn value_of(answer: Judged) -> u32 {
-    match answer {
-        Judged::OutsideSize => answer.number(),
-        Judged::As(v) => match v {
-            Verdict::Error => 2,
-            Verdict::Exception => 1,
-            Verdict::Clean => 0,
-        },
-    }
-}
-
 fn counted(count: u32, value: u32, wanted: u32) -> u32 {
     if value == wanted {
         std::num::wrapping_add_u32(count, 1)
@@ -182,7 +169,7 @@ fn all_images(address: u32) -> Tally {
     };
     let mut image: u32 = 0;
     while image < 131076 {
-        t = with_judged(t, value_of(status_words::judge(image, address)));
+        t = with_judged(t, word_judging::judge_told(image, address));
         image += 1;
     }
     t

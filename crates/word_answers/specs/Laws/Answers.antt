@@ -30,6 +30,12 @@ accepted-same {A} x y e = let l : x ∷ [] ≡ y ∷ [] = ap (λ (r : WordReport
 pub accepted-never : {A : Type 0} (x : A) → wordAnswered x ≡ wordRefused 11 → ⊥
 accepted-never {A} x e = let z : _≡_ {A = ℕ} 0 11 = ap (λ (r : WordReport A). r .number) e in omega arith
 
+-- what is accepted is in its size, and the value is the one that is answered
+pub sized-accepted : {A : Type 0} (inSize : Bool) (x y : A) → ifInSize inSize x ≡ wordAnswered y → (inSize ≡ true) × (x ≡ y)
+unfolding ifInSize
+sized-accepted true x y e = (refl, accepted-same x y e)
+sized-accepted false x y e = absurd (accepted-never y (sym e))
+
 -- two answers with one report are one answer
 pub encoded-same : (a b : Encoded) → encodedReport a ≡ encodedReport b → a ≡ b
 encoded-same (encoded.Word v) (encoded.Word w) e = ap (λ (x : ℕ). encoded.Word x) (accepted-same v w e)

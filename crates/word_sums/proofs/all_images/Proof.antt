@@ -13,11 +13,8 @@ abbrev μ-loop : tie.MeasureT-loop
 loop-holds : tie.Need-loop-holds Inv-loop μ-loop
 loop-holds c = tt
 
-judge-requires : tie.Need-judge-requires Inv-loop μ-loop
-judge-requires c κs = tt
-
-value-of-requires : tie.Need-value-of-requires Inv-loop μ-loop
-value-of-requires c κs = tt
+judge-told-requires : tie.Need-judge-told-requires Inv-loop μ-loop
+judge-told-requires c κs = tt
 
 with-judged-requires : tie.Need-with-judged-requires Inv-loop μ-loop
 with-judged-requires c κs = tt
@@ -41,8 +38,7 @@ all-images-spec =
     Inv-loop
     μ-loop
     loop-holds
-    judge-requires
-    value-of-requires
+    judge-told-requires
     with-judged-requires
     add-image
     loop-less
