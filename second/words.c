@@ -73,9 +73,14 @@ unsigned parity(uint16_t word)
     return odd_ones[word >> 8] ^ odd_ones[word & 255] ^ 1u;
 }
 
+unsigned counted_parity(uint16_t word)
+{
+    return ((unsigned)__builtin_popcount(word) + 1) % 2;
+}
+
 uint32_t status_image(uint16_t word)
 {
-    return (uint32_t)word * 2 + parity(word);
+    return (uint32_t)word * 2 + counted_parity(word);
 }
 
 enum refusal status_judge(uint32_t image, uint32_t expected, verdict *out)

@@ -96,6 +96,29 @@ static void every_status_round_trips(void)
     CHECK_IS(wrong, 0);
 }
 
+/* The terminal's way to the parity and the monitor's, on every word; and both are odd parity. */
+static void counting_and_table_agree(void)
+{
+    unsigned wrong = 0;
+    for (uint32_t w = 0; w <= UINT16_MAX; w++) {
+        wrong += counted_parity((uint16_t)w) != parity((uint16_t)w);
+        wrong += (ones(w) + counted_parity((uint16_t)w)) % 2 != 1;
+    }
+    CHECK_IS(wrong, 0);
+}
+
+/* What the terminal sends is no error at its own address, and one wrong bit on the way makes it one. */
+static void every_image_sent_is_judged(void)
+{
+    unsigned wrong = 0;
+    for (uint32_t w = 0; w <= UINT16_MAX; w++) {
+        uint32_t image = status_image((uint16_t)w);
+        wrong += judged(image, w >> 11) != (w % 2048 == 0 ? VERDICT_CLEAN : VERDICT_EXCEPTION);
+        wrong += judged(image ^ 1u << w % 17, w >> 11) != VERDICT_ERROR;
+    }
+    CHECK_IS(wrong, 0);
+}
+
 static void every_image_at_every_address(void)
 {
     unsigned wrong = 0, clean = 0;
@@ -131,6 +154,8 @@ static void questions_on_words(void)
     check_answers("command 7 0 2 32\ncommand 7 0 2 33 0 5\n", "command 7 0 2 32 0 14400\ncommand 7 0 2 33 11\n");
     check_answers("fields 14400 x\nbits 15360\nparity 14400 1\n", "fields 14400 7 0 2 32\nbits 15360 7 1 0 0\nparity 14400 1\n");
     check_answers("status 7 1 0 0\nstatus 7 2 0 0\n", "status 7 1 0 0 0 15360 30721\nstatus 7 2 0 0 11\n");
+    check_answers("image 14400\nimage 1 x\nimage 65535\nimage 65536\nimage\n",
+                  "image 14400 28801\nimage 1 2\nimage 65535 131071\n?\n?\n");
     check_answers("judge 28672 7\njudge 28673 7\njudge 30721 7\n",
                   "judge 28672 7 0 clean\njudge 28673 7 0 error\njudge 30721 7 0 exception\n");
     check_answers("judge 131072 7\njudge 28672 32\n", "judge 131072 7 11\njudge 28672 32 11\n");
@@ -145,5 +170,7 @@ void words_tests(void)
     RUN(fields_outside_sizes);
     RUN(every_command_round_trips);
     RUN(every_status_round_trips);
+    RUN(counting_and_table_agree);
+    RUN(every_image_sent_is_judged);
     RUN(every_image_at_every_address);
 }
