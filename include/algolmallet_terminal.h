@@ -13,7 +13,7 @@
  *
  * WHAT IS PROVED of each entry, for all arguments: its answer is the paper's word, or the refusal "given exactly when" a field "is outside
  * its size" (crates/word_numbers/specs/Numbers.antt); the image is the paper's (crates/word_sending), on every word with the parity that
- * the monitor looks up in its table. No call traps.
+ * the monitor looks up in its table (crates/words/specs/Agree.antt). No call traps.
  */
 #ifndef ALGOLMALLET_TERMINAL_H
 #define ALGOLMALLET_TERMINAL_H
@@ -41,6 +41,7 @@ typedef struct {
     uint16_t word;    /* 0 after a refusal */
 } algolmallet_word;
 
+/* The library's side of these offsets is proved in crates/word_numbers/proofs/Offsets.antt. */
 #ifdef __cplusplus
 #define ALGOLMALLET_HOLDS(fact, text) static_assert(fact, text)
 #else
