@@ -13,9 +13,10 @@
 /*
  * Number, name and what is wrong.  1 to 5 are the paper's "Slips seen on benches".
  * Who must tell it apart, by the letter that its line begins with: M the inputs of the comparison, E the lines of
- * entries.h alone, P the comparison's streams alone, S the tests of streams that block, fail or are answered line by line.
+ * entries.h alone, P the comparison's streams alone, S the tests of streams that block, fail or are answered line by line,
+ * W all words and images, as wordsall.h prints them.
  */
-#define MUTANT_LIST(M, E, P, S) \
+#define MUTANT_LIST(M, E, P, S, W) \
     M(1, WORDS_UNREDUCED, "32 words put unreduced into the count field") \
     M(2, EQUAL_RANK_TAKES, "an equal-priority task that wakes takes the processor") \
     M(3, PHASE_BEFORE_TICK, "the phase is compared with the count before the tick") \
@@ -76,14 +77,21 @@
     S(58, BLOCKED_IS_WRITTEN, "a write that would block is taken for done") \
     S(59, FAILED_WRITE_UNTOLD, "a failed write is not told") \
     S(60, FAILED_READ_ENDS, "a failed read is taken for the end of the input") \
-    S(61, LATE_INPUT_ENDS, "a read that would block is taken for the end of the input")
+    S(61, LATE_INPUT_ENDS, "a read that would block is taken for the end of the input") \
+    W(62, EVEN_PARITY_SENT, "the sending side's parity is even") \
+    W(63, LOW_BYTE_COUNTED, "the sending side counts the ones of the low byte alone") \
+    W(64, HIGHEST_BIT_UNCOUNTED, "the sending side does not count the highest bit") \
+    W(65, PARITY_ABOVE_WORD, "the parity stands above the word in the image") \
+    W(66, BIT_CUT, "a field of one bit above 1 is cut to its lowest bit") \
+    W(67, EXCEPTION_CLEAN, "an exception is judged clean") \
+    W(68, ENTRY_WRONG, "one entry of the monitor's table is wrong")
 
 #define MUTANT_NAME(number, name, text) MUTANT_##name = number,
-enum { MUTANT_LIST(MUTANT_NAME, MUTANT_NAME, MUTANT_NAME, MUTANT_NAME) MUTANT_END };
+enum { MUTANT_LIST(MUTANT_NAME, MUTANT_NAME, MUTANT_NAME, MUTANT_NAME, MUTANT_NAME) MUTANT_END };
 #undef MUTANT_NAME
 
-/* Where line numbers are cut by the mutant of that name. */
-enum { LINE_NUMBERS_CUT_FROM = 4096 };
+/* Where line numbers are cut by the mutant of that name, and the entry that is wrong. */
+enum { LINE_NUMBERS_CUT_FROM = 4096, WRONG_ENTRY = 200 };
 
 #define MUTATED(name) (MUTANT == MUTANT_##name)
 

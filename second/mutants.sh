@@ -1,12 +1,24 @@
 #!/bin/sh
-# The comparison and the tests of streams are checked themselves: each wrong version of the second program (mutant.h)
-# must be told from the right one by what its letter there names.  Prints a line for each.
+# The comparison, the tests of streams and the outputs of all words are checked themselves: each wrong version of the
+# second program (mutant.h) must be told from the right one by what its letter there names.  Prints a line for each.
 #   mutants.sh COMPILE...      the compiler's command line, sources last; run in second/
 set -u
 build=build/mutants
 mkdir -p "$build"
 passed=0
 failed=0
+
+# all_words RUNNER: status 1 if RUNNER prints other answers on words and images than build/runner, with the first line
+# that differs; 2 if it could not print them
+all_words() {
+    for mode in --terminal-all --monitor-all; do
+        build/runner "$mode" >"$build/right" && "$1" "$mode" >"$build/wrong" || return 2
+        line=$(cmp "$build/right" "$build/wrong" 2>&1 | sed 's/.*line \([0-9]*\).*/\1/')
+        [ -n "$line" ] || continue
+        echo "LINE: $line of $mode, $(sed -n "${line}p" "$build/right" | cut -c1-32 | tr '\t' ' ')"
+        return 1
+    done
+}
 
 # told_apart LETTER RUNNER: status 1 if RUNNER is told from the right program
 told_apart() {
@@ -15,15 +27,16 @@ told_apart() {
         P) build/compare --most 1 --keep "$build" --only streams "$2" ;;
         E) build/compare --most 1 --keep "$build" --only entries --entries "$2 --entries" - ;;
         S) ../tools/tests/streams.py --patience 5 "$2" ;;
+        W) all_words "$2" ;;
     esac
 }
 
-# where LOG: the input, or the test, that told it
+# where LOG: the input, the test, or the line of all words, that told it
 where() {
-    sed -n 's/^DIFFERENT: failing-\(.*\)/input \1/p; s/^FAIL \([^:]*\):.*/test "\1"/p' "$1" | head -1
+    sed -n 's/^DIFFERENT: failing-\(.*\)/input \1/p; s/^FAIL \([^:]*\):.*/test "\1"/p; s/^LINE: \(.*\), \(.*\)/line \1 "\2"/p' "$1" | head -1
 }
 
-list=$(sed -n 's/^ *\([MEPS]\)(\([0-9]*\), [A-Z_]*, "\(.*\)").*/\1 \2 \3/p' mutant.h)
+list=$(sed -n 's/^ *\([MEPSW]\)(\([0-9]*\), [A-Z_]*, "\(.*\)").*/\1 \2 \3/p' mutant.h)
 while read -r letter number text; do
     runner=$build/runner-$number
     log=$build/log-$number

@@ -5,16 +5,19 @@
 #include "rigtimes.h"
 #include "runner.h"
 #include "wordlist.h"
+#include "wordsall.h"
 #include "wordsums.h"
 
 static int usage(FILE *to, int status)
 {
-    fputs("usage: runner               rig, RUN and script on standard input; answers on standard output\n"
-          "       runner --echo-rig    read a rig and write it back\n"
-          "       runner --entries     as the first, with the lines of entries.h besides\n"
-          "       runner --words       answer questions on bus words, as wordlist.h says\n"
-          "       runner --sums        print sums over all words and images, as wordsums.h says\n"
-          "       runner --rig-times   read and write a rig many times over, as rigtimes.h says\n",
+    fputs("usage: runner                 rig, RUN and script on standard input; answers on standard output\n"
+          "       runner --echo-rig      read a rig and write it back\n"
+          "       runner --entries       as the first, with the lines of entries.h besides\n"
+          "       runner --words         answer questions on bus words, as wordlist.h says\n"
+          "       runner --sums          print sums over all words and images, as wordsums.h says\n"
+          "       runner --terminal-all  print all that a terminal sends, as wordsall.h says\n"
+          "       runner --monitor-all   print all that a monitor takes apart and judges, as wordsall.h says\n"
+          "       runner --rig-times     read and write a rig many times over, as rigtimes.h says\n",
           to);
     return status;
 }
@@ -32,6 +35,10 @@ int main(int argc, char **argv)
         done = wordlist_print(0, 1);
     else if (argc == 2 && strcmp(argv[1], "--sums") == 0)
         done = wordsums_print();
+    else if (argc == 2 && strcmp(argv[1], "--terminal-all") == 0)
+        done = wordsall_terminal(1);
+    else if (argc == 2 && strcmp(argv[1], "--monitor-all") == 0)
+        done = wordsall_monitor(1);
     else if (argc == 2 && strcmp(argv[1], "--rig-times") == 0)
         done = rigtimes_print(0);
     else if (argc == 2 && strcmp(argv[1], "--help") == 0)

@@ -51,6 +51,11 @@ static char *answer_parity(char *at, const uint32_t *asked)
     return print_field(at, parity((uint16_t)asked[0]));
 }
 
+static char *answer_image(char *at, const uint32_t *asked)
+{
+    return print_field(at, status_image((uint16_t)asked[0]));
+}
+
 static char *answer_judge(char *at, const uint32_t *asked)
 {
     static const char *const words[] = {
@@ -77,7 +82,8 @@ typedef struct {
 static const question questions[] = {
     {"command", 4, UINT32_MAX, answer_command}, {"fields", 1, UINT16_MAX, answer_fields},
     {"status", 4, UINT32_MAX, answer_status},   {"bits", 1, UINT16_MAX, answer_bits},
-    {"parity", 1, UINT16_MAX, answer_parity},   {"judge", 2, UINT32_MAX, answer_judge}};
+    {"parity", 1, UINT16_MAX, answer_parity},   {"image", 1, UINT16_MAX, answer_image},
+    {"judge", 2, UINT32_MAX, answer_judge}};
 
 static const question *question_of(const in_line *line, size_t verb_length)
 {

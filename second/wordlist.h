@@ -9,11 +9,12 @@
  *   status   address error status failure           number [word image]
  *   bits     word                                   address error status failure
  *   parity   word                                   parity
+ *   image    word                                   image
  *   judge    image address                          number [verdict]
  *
  * The number is 0 if accepted; only then the fields in brackets follow.  A
- * verdict is error, exception or clean.  A line that is no question is
- * answered by ? alone.
+ * verdict is error, exception or clean.  A line that is no question, has no
+ * LF or more than 65,535 bytes before it, is answered by ? alone.
  */
 #ifndef SECOND_WORDLIST_H
 #define SECOND_WORDLIST_H

@@ -25,15 +25,27 @@ static bool last_field_fits(const command_fields *f)
     return f->last >= 1 && f->last <= ROW_WORDS_MAX;
 }
 
+/* Whether a field of one bit is within its size. */
+static bool is_bit(uint32_t field)
+{
+    return field <= 1 || MUTATED(BIT_CUT);
+}
+
+/* The lowest bit at a place of the word: all of a field of one bit that is within its size. */
+static uint32_t bit_at(uint32_t field, unsigned place)
+{
+    return (field & 1) << place;
+}
+
 enum refusal command_word(const command_fields *f, uint16_t *out)
 {
-    if (f->address > ADDRESS_MAX || f->transmit > 1 || f->subaddress > COMMAND_SUBADDRESS_MAX ||
+    if (f->address > ADDRESS_MAX || !is_bit(f->transmit) || f->subaddress > COMMAND_SUBADDRESS_MAX ||
         !last_field_fits(f))
         return BAD_FIELD;
     uint32_t low = f->last % 32; /* 32 words are written as 0 */
     if (MUTATED(WORDS_UNREDUCED))
         low = f->last;
-    *out = (uint16_t)((f->address << 11 | f->transmit << 10 | f->subaddress << 5) + low);
+    *out = (uint16_t)((f->address << 11 | bit_at(f->transmit, 10) | f->subaddress << 5) + low);
     return ACCEPTED;
 }
 
@@ -52,9 +64,9 @@ command_fields command_apart(uint16_t word)
 
 enum refusal status_word(const status_fields *f, uint16_t *out)
 {
-    if (f->address > ADDRESS_MAX || f->error > 1 || f->status > STATUS_MAX || f->failure > 1)
+    if (f->address > ADDRESS_MAX || !is_bit(f->error) || f->status > STATUS_MAX || !is_bit(f->failure))
         return BAD_FIELD;
-    *out = (uint16_t)(f->address << 11 | f->error << 10 | f->status << 1 | f->failure);
+    *out = (uint16_t)(f->address << 11 | bit_at(f->error, 10) | f->status << 1 | bit_at(f->failure, 0));
     return ACCEPTED;
 }
 
@@ -68,14 +80,39 @@ status_fields status_apart(uint16_t word)
     };
 }
 
+static unsigned looked_up(unsigned byte)
+{
+    if (MUTATED(ENTRY_WRONG) && byte == WRONG_ENTRY)
+        return odd_ones[byte] ^ 1u;
+    return odd_ones[byte];
+}
+
 unsigned parity(uint16_t word)
 {
-    return odd_ones[word >> 8] ^ odd_ones[word & 255] ^ 1u;
+    return looked_up(word >> 8) ^ looked_up(word & 255) ^ 1u;
+}
+
+static unsigned ones_of(unsigned word)
+{
+    if (MUTATED(LOW_BYTE_COUNTED))
+        word &= 0xff;
+    if (MUTATED(HIGHEST_BIT_UNCOUNTED))
+        word &= 0x7fff;
+    return (unsigned)__builtin_popcount(word);
+}
+
+unsigned counted_parity(uint16_t word)
+{
+    unsigned ones = ones_of(word);
+    return MUTATED(EVEN_PARITY_SENT) ? ones % 2 : (ones + 1) % 2;
 }
 
 uint32_t status_image(uint16_t word)
 {
-    return (uint32_t)word * 2 + parity(word);
+    unsigned bit = counted_parity(word);
+    if (MUTATED(PARITY_ABOVE_WORD))
+        return (uint32_t)bit << 16 | word;
+    return (uint32_t)word * 2 + bit;
 }
 
 enum refusal status_judge(uint32_t image, uint32_t expected, verdict *out)
@@ -86,7 +123,7 @@ enum refusal status_judge(uint32_t image, uint32_t expected, verdict *out)
     status_fields f = status_apart(word);
     if (parity(word) != (image & 1) || f.address != expected)
         *out = VERDICT_ERROR;
-    else if (f.error != 0 || f.status != 0 || f.failure != 0)
+    else if (!MUTATED(EXCEPTION_CLEAN) && (f.error != 0 || f.status != 0 || f.failure != 0))
         *out = VERDICT_EXCEPTION;
     else
         *out = VERDICT_CLEAN;

@@ -33,10 +33,15 @@ command_fields command_apart(uint16_t word);
 enum refusal status_word(const status_fields *fields, uint16_t *out);
 status_fields status_apart(uint16_t word);
 
-/* The bit that makes the number of ones in word and parity odd. */
+/* The bit that makes the number of ones in word and parity odd, "looked up byte by byte in a fixed table": the
+ * monitor's way, and the one that judges. */
 unsigned parity(uint16_t word);
 
-/* The 17-bit image: word times two plus parity. */
+/* The same bit "by counting the word's ones with the machine's own operation": the way of a terminal that sends, which
+ * has no room for a table. */
+unsigned counted_parity(uint16_t word);
+
+/* The 17-bit image that is sent: word times two plus parity. */
 uint32_t status_image(uint16_t word);
 
 enum refusal status_judge(uint32_t image, uint32_t expected, verdict *out);

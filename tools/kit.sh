@@ -153,15 +153,31 @@ build_host() {
     make_x86 -C host
 }
 
-# entries_of_archive, entries_of_header: what the library shows, and what its header declares
+# build_words: host/build/terminal and host/build/monitor, the examples on bus words, each linked with its proved library
+build_words() {
+    need_x86_c
+    prove target/staticlib/libterminal.a staticlib terminal
+    prove target/staticlib/libhost.a staticlib host
+    make_x86 -C host words
+}
+
+# x86_tool NAME: the binary tool of that name that knows x86-64: nm, readelf, objdump
+x86_tool() {
+    if is_x86_64; then echo "$1"; else echo "x86_64-linux-gnu-$1"; fi
+}
+
+# entries_of_archive ARCHIVE, entries_of_header HEADER: what a library shows, and what its header declares
 entries_of_archive() {
-    local nm=nm
-    is_x86_64 || nm=x86_64-linux-gnu-nm
-    $nm -g --defined-only target/staticlib/libhost.a | awk 'NF == 3 { print $3 }' | sort
+    $(x86_tool nm) -g --defined-only "$1" | awk 'NF == 3 { print $3 }' | sort
 }
 
 entries_of_header() {
-    sed -n 's/^[a-z0-9_]* \(algolmallet_[a-z_]*\)(.*/\1/p' include/algolmallet.h | sort
+    sed -n 's/^[a-z0-9_]* \(algolmallet_[a-z_]*\)(.*/\1/p' "$1" | sort
+}
+
+# needed_by_archive ARCHIVE: what it needs of others
+needed_by_archive() {
+    $(x86_tool nm) -u "$1" | awk '$1 == "U" { print $2 }' | sort -u
 }
 
 # tools_of_kit: the folder of the kit's own tools for this processor

@@ -46,6 +46,9 @@ static void read_block(void) { reply = algolmallet_read_block(record, 1, area, r
 static void write_block(void) { reply = algolmallet_write_block(record, 1, area, rows * ALGOLMALLET_ROW_WORDS, data, row_words); }
 static void numbers(void) { reply.refusal = algolmallet_version() && algolmallet_record_size() && algolmallet_record_align() ? 0 : 1; }
 static void refusal_text(void) { reply.refusal = algolmallet_refusal_text(ALGOLMALLET_NOT_ALLOWED, text, sizeof text) == 0; }
+static void command_fields(void) { reply.refusal = algolmallet_command_fields(14400).last != 32; }
+static void status_fields(void) { reply.refusal = algolmallet_status_fields(15360).error != 1; }
+static void judge(void) { reply.refusal = algolmallet_judge(30721, 7) != ALGOLMALLET_EXCEPTION; }
 
 static const struct {
     const char *name;
@@ -56,7 +59,8 @@ static const struct {
     {"wait_until", wait_until}, {"wait_for", wait_for},         {"wait_latched", wait_latched},
     {"wait_unlatched", wait_unlatched}, {"signal", signal_flag}, {"read_flag", read_flag},
     {"read_block", read_block}, {"write_block", write_block},   {"record_size", numbers},
-    {"refusal_text", refusal_text},
+    {"refusal_text", refusal_text}, {"command_fields", command_fields}, {"status_fields", status_fields},
+    {"judge", judge},
 };
 
 static ucontext_t here, there;

@@ -34,7 +34,7 @@ void check_run(const char *input, const char *output, const char *file, int line
 #define CHECK_RUN(input, output) check_run((input), (output), __FILE__, __LINE__)
 
 /* The output of the runner, or of another mode of the program, for an input given as bytes. */
-enum run_mode { MODE_RUN, MODE_ENTRIES, MODE_ECHO, MODE_WORDS };
+enum run_mode { MODE_RUN, MODE_ENTRIES, MODE_ECHO, MODE_WORDS, MODE_TERMINAL_ALL, MODE_MONITOR_ALL };
 void run_bytes(enum run_mode mode, const void *bytes, size_t length, text *output);
 
 /* Where the example rigs are. */

@@ -7,6 +7,7 @@
 #include "check.h"
 #include "runner.h"
 #include "wordlist.h"
+#include "wordsall.h"
 
 const char *rigs_folder = "../rigs";
 
@@ -78,10 +79,24 @@ static void take_all(FILE *from, text *out)
         text_add(out, part, (size_t)n);
 }
 
+static int terminal_all(int in, int out)
+{
+    (void)in;
+    return wordsall_terminal(out);
+}
+
+static int monitor_all(int in, int out)
+{
+    (void)in;
+    return wordsall_monitor(out);
+}
+
 static int (*const modes[])(int in, int out) = {[MODE_RUN] = runner_run,
                                                 [MODE_ENTRIES] = runner_run_entries,
                                                 [MODE_ECHO] = runner_echo_rig,
-                                                [MODE_WORDS] = wordlist_print};
+                                                [MODE_WORDS] = wordlist_print,
+                                                [MODE_TERMINAL_ALL] = terminal_all,
+                                                [MODE_MONITOR_ALL] = monitor_all};
 
 void run_bytes(enum run_mode mode, const void *bytes, size_t length, text *output)
 {
