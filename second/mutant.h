@@ -1,14 +1,11 @@
 /*
- * Deliberate faults, for `make mutants`: each build with -DMUTANT=n carries
- * one, and the comparison must tell it from the right program.  A right build
- * has none: MUTATED(...) is then a constant 0 and the branch is gone.
+ * Deliberate faults, for `make mutants`: a build with -DMUTANTS carries them
+ * all, and a run of it the one whose number the environment variable MUTANT
+ * has; the comparison must tell that run from the right program.  A right
+ * build has none: MUTATED(...) is then a constant 0 and the branch is gone.
  */
 #ifndef SECOND_MUTANT_H
 #define SECOND_MUTANT_H
-
-#ifndef MUTANT
-#define MUTANT 0
-#endif
 
 /*
  * Number, name and what is wrong.  1 to 5 are the paper's "Slips seen on benches".
@@ -93,6 +90,13 @@ enum { MUTANT_LIST(MUTANT_NAME, MUTANT_NAME, MUTANT_NAME, MUTANT_NAME, MUTANT_NA
 /* Where line numbers are cut by the mutant of that name, and the entry that is wrong. */
 enum { LINE_NUMBERS_CUT_FROM = 4096, WRONG_ENTRY = 200 };
 
-#define MUTATED(name) (MUTANT == MUTANT_##name)
+#ifdef MUTANTS
+extern unsigned mutant; /* the number of the fault that this run carries */
+#define MUTATED(name) (mutant == MUTANT_##name)
+enum { WITH_MUTANTS = 1 };
+#else
+#define MUTATED(name) 0
+enum { WITH_MUTANTS = 0 };
+#endif
 
 #endif

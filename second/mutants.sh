@@ -1,12 +1,16 @@
 #!/bin/sh
 # The comparison, the tests of streams and the outputs of all words are checked themselves: each wrong version of the
 # second program (mutant.h) must be told from the right one by what its letter there names.  Prints a line for each.
+# One build carries them all; which one a run has is in its environment.
 #   mutants.sh COMPILE...      the compiler's command line, sources last; run in second/
 set -u
 build=build/mutants
 mkdir -p "$build"
+runner=$build/runner
 passed=0
 failed=0
+
+"$@" -DMUTANTS -o "$runner" || exit 1
 
 # all_words RUNNER: status 1 if RUNNER prints other answers on words and images than build/runner, with the first line
 # that differs; 2 if it could not print them
@@ -38,13 +42,8 @@ where() {
 
 list=$(sed -n 's/^ *\([MEPSW]\)(\([0-9]*\), [A-Z_]*, "\(.*\)").*/\1 \2 \3/p' mutant.h)
 while read -r letter number text; do
-    runner=$build/runner-$number
     log=$build/log-$number
-    if ! "$@" "-DMUTANT=$number" -o "$runner"; then
-        echo "mutant $number: does not build"
-        failed=$((failed + 1))
-        continue
-    fi
+    export MUTANT="$number"
     told_apart "$letter" "$runner" >"$log" 2>&1
     status=$?
     if [ "$status" -eq 1 ]; then

@@ -1,12 +1,28 @@
 /* The bench runner as a program.  Exit status 0 unless it could not run. */
 #include <stdio.h>
+#include <stdlib.h>
 #include <string.h>
 
+#include "mutant.h"
 #include "rigtimes.h"
 #include "runner.h"
 #include "wordlist.h"
 #include "wordsall.h"
 #include "wordsums.h"
+
+#ifdef MUTANTS
+unsigned mutant;
+
+static void choose_mutant(void)
+{
+    const char *number = getenv("MUTANT");
+    mutant = number != NULL ? (unsigned)strtoul(number, NULL, 10) : 0;
+}
+#else
+static void choose_mutant(void)
+{
+}
+#endif
 
 static int usage(FILE *to, int status)
 {
@@ -25,6 +41,7 @@ static int usage(FILE *to, int status)
 int main(int argc, char **argv)
 {
     int done;
+    choose_mutant();
     if (argc == 1)
         done = runner_run(0, 1);
     else if (argc == 2 && strcmp(argv[1], "--echo-rig") == 0)

@@ -15,7 +15,7 @@ static void make_dispatchable(exec *e, unsigned task)
 
 static void line_insert(exec_line *line, unsigned at, unsigned task)
 {
-    if (MUTANT && line->tasks == TASKS_MAX) /* a right line has each task once */
+    if (WITH_MUTANTS && line->tasks == TASKS_MAX) /* a right line has each task once */
         return;
     memmove(line->task + at + 1, line->task + at, line->tasks - at);
     line->task[at] = (uint8_t)task;

@@ -9,7 +9,7 @@
 #include "mutant.h"
 
 /* A call serves at most 79 flags, so never queues more; a mutant may. */
-enum { QUEUE_ROOM = SERVED_MAX + (MUTANT ? TASKS_MAX : 0) };
+enum { QUEUE_ROOM = SERVED_MAX + (WITH_MUTANTS ? TASKS_MAX : 0) };
 
 typedef struct {
     unsigned served;
