@@ -51,6 +51,17 @@ met() {
     echo "$kind${told%,}"
 }
 
+# manners COMMAND: what a new user meets: help, misuse, an output that cannot be written
+manners() {
+    local status=0
+    $1 --help | grep -q '^usage:' || fail "$1 --help says no usage"
+    $1 --none 2>"$room/said" >/dev/null || status=$?
+    [ "$status" -eq 2 ] && grep -q '^usage:' "$room/said" || fail "$1 --none: status $status, or no usage"
+    status=0
+    $1 --all 2>/dev/null >/dev/full || status=$?
+    [ "$status" -eq 1 ] || fail "$1 --all into a full device: status $status"
+}
+
 questions=$(wc -l <$list)
 [ "$questions" -ge 39 ] || fail "word_list prints $questions lines only"
 $second --words <$list | cmp - $list || fail "word_list and the second program differ"
@@ -75,3 +86,7 @@ $monitor --all >"$room/monitor"
 $second --monitor-all | cmp - "$room/monitor" || fail "monitor --all and the second program differ"
 judged=$(met "$room/monitor" judge clean exception error refused)
 echo "words: everything that the monitor answers is the same: all words taken apart; $judged"
+
+manners "$terminal"
+manners "$monitor"
+echo "words: terminal and monitor tell how they are used, refuse misuse by status 2, and tell an output that fails by status 1"

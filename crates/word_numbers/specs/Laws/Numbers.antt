@@ -21,7 +21,7 @@ use Rattle.word_numbers.specs.Numbers.{isBit, commandOf, statusOf, comma
 
 -- a number of one bit, as a bit and back
 bit-back : (n : ℕ) → isBit n ≡ true → bit (isOne n) ≡ n
-bit-back n e = bit-isOne n (omega (arith, leb-true n 1 e))
+bit-back n e = bit-isOne n (omega (arith, leb-true n _ e))
 
 -- ---- commands
 
