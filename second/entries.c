@@ -20,6 +20,8 @@ static uint32_t check_number(const uint16_t *words, size_t n)
     return check;
 }
 
+/* ---- Judging ---- */
+
 bool entries_judge(const uint8_t *line, size_t length, entries_call *out)
 {
     const uint8_t *at = line, *end = line + length;
@@ -38,10 +40,14 @@ bool entries_judge(const uint8_t *line, size_t length, entries_call *out)
     case 'J':
         return script_number(&at, end, &out->words) && at == end &&
                out->words <= ENTRIES_ROOM_MAX;
+    case 'H':
+        return script_number(&at, end, &out->harm) && at == end && out->harm < HARMS;
     default:
         return false;
     }
 }
+
+/* ---- Blocks and ticks ---- */
 
 static answer run_write(exec *e, entries_area *area, const entries_call *call, uint32_t *check)
 {
@@ -65,15 +71,73 @@ static answer run_lent(exec *e, const entries_area *area, const entries_call *ca
     return a;
 }
 
-size_t entries_run(exec *e, entries_area *area, const entries_call *call, answer *a, char *out)
+/* ---- Harmed records ---- */
+
+/* The bytes of a record that are harmed. */
+typedef struct {
+    size_t from, length;
+} harmed_bytes;
+
+static harmed_bytes bytes_harmed(enum harm harm)
 {
+    size_t half = sizeof(exec) / 2;
+    switch (harm) {
+    case HARM_NONE:
+        return (harmed_bytes){0, 0};
+    case HARM_FIRST_HALF:
+        return (harmed_bytes){0, half};
+    case HARM_SECOND_HALF:
+        return (harmed_bytes){half, sizeof(exec) - half};
+    default:
+        return (harmed_bytes){0, sizeof(exec)};
+    }
+}
+
+static void do_harm(exec *e, enum harm harm)
+{
+    static const rig no_rig;
+    harmed_bytes h = bytes_harmed(harm);
+    if (harm == HARM_REFUSED_START)
+        (void)exec_start(e, &no_rig);
+    else
+        memset((uint8_t *)e + h.from, harm == HARM_ZEROS ? 0 : 255, h.length);
+}
+
+static void undo_harm(exec *e, enum harm harm, const exec *before)
+{
+    harmed_bytes h = bytes_harmed(harm);
+    memcpy((uint8_t *)e + h.from, (const uint8_t *)before + h.from, h.length);
+}
+
+static size_t run_harmed(const exec *e, const entries_call *call, answer *a, char *out)
+{
+    static exec copy;
     char *at = out;
-    uint32_t check;
-    *a = call->verb == 'W' ? run_write(e, area, call, &check) : run_lent(e, area, call, &check);
+    copy = *e;
+    do_harm(&copy, call->harm);
+    *a = exec_next_waking(&copy);
+    undo_harm(&copy, call->harm, e);
+    answer again = exec_next_waking(&copy);
     *at++ = call->verb;
     at = print_field(at, a->refusal);
-    at = print_field(at, e->count);
-    at = print_field(at, e->running);
+    at = print_field(at, a->served);
+    at = print_field(at, a->words);
+    at = print_field(at, a->value);
+    at = print_field(at, again.refusal);
+    at = print_field(at, again.value);
+    *at++ = '\n';
+    return (size_t)(at - out);
+}
+
+/* ---- All four ---- */
+
+size_t entries_run(exec *e, entries_area *area, const entries_call *call, answer *a, char *out)
+{
+    uint32_t check;
+    if (call->verb == 'H')
+        return run_harmed(e, call, a, out);
+    *a = call->verb == 'W' ? run_write(e, area, call, &check) : run_lent(e, area, call, &check);
+    char *at = print_head(out, call->verb, a, e);
     at = print_field(at, a->served);
     at = print_field(at, check);
     *at++ = '\n';

@@ -1,6 +1,7 @@
 /*
  * The entries that no line of the bench runner's script reaches: block write
- * and block read of the compool area, and a tick with a buffer of any length.
+ * and block read of the compool area, a tick with a buffer of any length, and
+ * the next waking asked of records that are not sound.
  *
  * Input is as the runner's: a rig, the line RUN, script lines.  All lines of
  * the runner mean the same here and print the same.  There are also
@@ -10,18 +11,29 @@
  *                            `words` words: first, first + 1, ... modulo 65,536
  *   D row area words         block read into a buffer of `words` words
  *   J room                   a tick lent a buffer of `room` words
+ *   H harm                   the next waking, asked of a copy of the record
+ *                            that was harmed: 0 not at all, 1 by a refused
+ *                            start, 2 all its bytes 0, 3 all 255, 4 the first
+ *                            half of them 255, 5 the second half
  *
  * with tabs between the fields, `area` up to 4,096, `words` up to 64, `room`
- * up to 256; larger numbers are of wrong shape (? alone).  The program's area
- * has 4,096 words, at the start word i (from 0) is (7 i + 1) modulo 65,536;
- * a buffer lent to D or J holds before the call, at word i, 9 i + 2.
+ * up to 256, `harm` up to 5; larger numbers are of wrong shape (? alone).  The
+ * program's area has 4,096 words, at the start word i (from 0) is (7 i + 1)
+ * modulo 65,536; a buffer lent to D or J holds before the call, at word i,
+ * 9 i + 2.
  *
- * Each prints verb, answer, count, running task, the number of flags served
- * (0 if refused) and then, also if refused, one check number: of the whole
- * area for W, of the whole lent buffer (all `words` or `room` of it) for D and
- * J.  So what a refused call writes, and what an accepted one writes past its
- * own words, is seen.  The check number of words w0, w1, ... starts as 0 and
- * with each becomes (31 check + word) modulo 65,521.
+ * W, D and J print verb, answer, count, running task, the number of flags
+ * served (0 if refused) and then, also if refused, one check number: of the
+ * whole area for W, of the whole lent buffer (all `words` or `room` of it) for
+ * D and J.  So what a refused call writes, and what an accepted one writes past
+ * its own words, is seen.  The check number of words w0, w1, ... starts as 0
+ * and with each becomes (31 check + word) modulo 65,521.
+ *
+ * H prints verb, answer, flags served, words and value, as they are told (a
+ * value of 0 for none), and then answer and value once more, asked of the copy
+ * when the harmed bytes have been put back: the question has left the others
+ * as they were.  Count and running task are not printed: a harmed record may
+ * have any.
  */
 #ifndef SECOND_ENTRIES_H
 #define SECOND_ENTRIES_H
@@ -41,15 +53,19 @@ typedef struct {
 
 void entries_fill_area(entries_area *area);
 
+/* What H does to its copy of the record. */
+enum harm { HARM_NONE, HARM_REFUSED_START, HARM_ZEROS, HARM_ALL, HARM_FIRST_HALF, HARM_SECOND_HALF, HARMS };
+
 typedef struct {
-    char verb;      /* W, D or J */
+    char verb;      /* W, D, J or H */
     uint32_t row;   /* W, D */
     uint32_t area;  /* W, D */
     uint32_t words; /* W, D: data words; J: room */
     uint32_t first; /* W */
+    uint32_t harm;  /* H */
 } entries_call;
 
-/* Whether a line without its LF is one of the three. */
+/* Whether a line without its LF is one of the four. */
 bool entries_judge(const uint8_t *line, size_t length, entries_call *out);
 
 /* Makes the call and prints its line; answers the line's length. */

@@ -269,6 +269,62 @@ answer exec_wait_unlatched(exec *e, uint32_t flag, bool value)
     return wait_for_flag(e, flag, value, MUTATED(UNLATCHED_SATISFIED));
 }
 
+/* ---- When the bench next wakes someone ---- */
+
+static bool waits_on_time(const exec *e, unsigned task)
+{
+    return e->state[task] == WAITING && e->wait[task].kind == WAIT_TIME;
+}
+
+/*
+ * Every task is looked at: the verified program reads the head of its chain,
+ * and this is to be another way to the same count.  A waking count is above
+ * the count, so never 0, which is left for none.
+ */
+static uint32_t lowest_waking(const exec *e)
+{
+    uint32_t lowest = 0;
+    for (unsigned t = 1; t <= e->rig.tasks; t++) {
+        if (!waits_on_time(e, t) || (MUTATED(LOWEST_NUMBER_WAKES) && lowest != 0))
+            continue;
+        uint32_t wake = e->wait[t].wake;
+        if (lowest == 0 || (MUTATED(LAST_WAKES) ? wake > lowest : wake < lowest))
+            lowest = wake;
+    }
+    return lowest;
+}
+
+/* For mutants alone: what they make of the lowest waking count. */
+static uint32_t waking_told(const exec *e, uint32_t lowest)
+{
+    static uint32_t told;
+    if (!WITH_MUTANTS)
+        return lowest;
+    if (MUTATED(COUNT_FOR_WAKING) && lowest != 0)
+        return e->count;
+    if (MUTATED(CYCLES_FOR_WAKING) && lowest != 0)
+        return lowest - e->count;
+    if (MUTATED(NEXT_COUNT_ALWAYS))
+        return e->count + 1;
+    if ((MUTATED(ONE_UNSEEN) && e->timed.tasks == 1) || (MUTATED(FLAG_WAITS_HIDE) && e->flagged.tasks > 0))
+        return 0;
+    if (MUTATED(TOLD_STANDS) && told > e->count && (lowest == 0 || lowest > told))
+        return told;
+    told = lowest;
+    return lowest;
+}
+
+answer exec_next_waking(const exec *e)
+{
+    if (!exec_sound(e))
+        return MUTATED(UNSOUND_IS_NONE) ? go_on() : refused(NOT_SOUND);
+    if (MUTATED(QUESTION_NEEDS_TASK) && e->running == 0)
+        return refused(NONE_RUNNING);
+    answer a = go_on();
+    a.value = waking_told(e, lowest_waking(e));
+    return a;
+}
+
 /* ---- Flags ---- */
 
 answer exec_signal(exec *e, uint32_t flag, bool value)

@@ -58,8 +58,8 @@ typedef struct {
 typedef struct {
     enum refusal refusal;
     uint8_t served;  /* flags served by this call */
-    uint8_t value;   /* exec_read_flag */
     uint16_t words;  /* exec_tick: bus words written */
+    uint32_t value;  /* exec_read_flag: the flag's; exec_next_waking: the waking count, 0 for none */
 } answer;
 
 /* A refused start (4) leaves a record of all zeros. */
@@ -75,6 +75,12 @@ answer exec_wait_latched(exec *e, uint32_t flag, bool value);
 answer exec_wait_unlatched(exec *e, uint32_t flag, bool value);
 answer exec_signal(exec *e, uint32_t flag, bool value);
 answer exec_read_flag(exec *e, uint32_t flag);
+
+/*
+ * "the lowest waking count among tasks waiting on time", or none.  No running
+ * task is needed; refused by 12 alone, for which both builds test the record.
+ */
+answer exec_next_waking(const exec *e);
 
 /* `words` has room for `room` words, at least 128; words past those written stay. */
 answer exec_tick(exec *e, uint16_t *words, size_t room);

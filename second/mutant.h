@@ -11,9 +11,9 @@
  * Number, name and what is wrong.  1 to 5 are the paper's "Slips seen on benches".
  * Who must tell it apart, by the letter that its line begins with: M the inputs of the comparison, E the lines of
  * entries.h alone, P the comparison's streams alone, S the tests of streams that block, fail or are answered line by line,
- * W all words and images, as wordsall.h prints them.
+ * V the comparison's inputs for the panel, W all words and images, as wordsall.h prints them.
  */
-#define MUTANT_LIST(M, E, P, S, W) \
+#define MUTANT_LIST(M, E, P, S, V, W) \
     M(1, WORDS_UNREDUCED, "32 words put unreduced into the count field") \
     M(2, EQUAL_RANK_TAKES, "an equal-priority task that wakes takes the processor") \
     M(3, PHASE_BEFORE_TICK, "the phase is compared with the count before the tick") \
@@ -81,10 +81,22 @@
     W(65, PARITY_ABOVE_WORD, "the parity stands above the word in the image") \
     W(66, BIT_CUT, "a field of one bit above 1 is cut to its lowest bit") \
     W(67, EXCEPTION_CLEAN, "an exception is judged clean") \
-    W(68, ENTRY_WRONG, "one entry of the monitor's table is wrong")
+    W(68, ENTRY_WRONG, "one entry of the monitor's table is wrong") \
+    V(69, LAST_WAKES, "the waking count of the last to wake is told, not of the first") \
+    V(70, COUNT_FOR_WAKING, "the count is told for the waking count") \
+    V(71, ONE_UNSEEN, "none is told where one task alone waits on time") \
+    V(72, QUESTION_NEEDS_TASK, "the next waking is refused by 5 while no task is running") \
+    V(73, NEXT_COUNT_ALWAYS, "the next count is told, whoever waits") \
+    V(74, LOWEST_NUMBER_WAKES, "the waking count of the lowest task number is told") \
+    V(75, CYCLES_FOR_WAKING, "the cycles up to the waking are told, not its count") \
+    V(76, FLAG_WAITS_HIDE, "none is told while a task waits for a flag") \
+    V(77, TOLD_STANDS, "a waking count that was told stands, though its task was cancelled or terminated") \
+    V(78, PANEL_TAKES_FIELDS, "a V line with fields is taken") \
+    M(79, PANEL_ALWAYS_ON, "the runner answers the panel's verbs") \
+    E(80, UNSOUND_IS_NONE, "none is told of a record that is not sound")
 
 #define MUTANT_NAME(number, name, text) MUTANT_##name = number,
-enum { MUTANT_LIST(MUTANT_NAME, MUTANT_NAME, MUTANT_NAME, MUTANT_NAME, MUTANT_NAME) MUTANT_END };
+enum { MUTANT_LIST(MUTANT_NAME, MUTANT_NAME, MUTANT_NAME, MUTANT_NAME, MUTANT_NAME, MUTANT_NAME) MUTANT_END };
 #undef MUTANT_NAME
 
 /* Where line numbers are cut by the mutant of that name, and the entry that is wrong. */

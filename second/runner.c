@@ -6,6 +6,7 @@
 #include "entries.h"
 #include "exec.h"
 #include "mutant.h"
+#include "panel.h"
 #include "rig.h"
 #include "script.h"
 #include "stream.h"
@@ -75,18 +76,23 @@ static size_t run_line(exec *e, const in_line *line, char *out)
     return print_call(out, &call, &a, e, words);
 }
 
+static entries_area area; /* filled at the start of each run with entries */
+
 static size_t run_entries_line(exec *e, const in_line *line, char *out)
 {
-    static entries_area area;
-    static bool filled;
     entries_call call;
     answer a;
-    if (!filled) {
-        entries_fill_area(&area);
-        filled = true;
-    }
     if (line->whole && entries_judge(line->text, line->length, &call))
         return entries_run(e, &area, &call, &a, out);
+    return run_line(e, line, out);
+}
+
+static size_t run_panel_line(exec *e, const in_line *line, char *out)
+{
+    panel_call call;
+    answer a;
+    if (line->whole && panel_judge(line->text, line->length, &call))
+        return panel_run(e, &call, &a, out);
     return run_line(e, line, out);
 }
 
@@ -143,12 +149,18 @@ static void run_script(session *s, line_runner *run)
 
 static void run_lines(session *s)
 {
-    run_script(s, run_line);
+    run_script(s, MUTATED(PANEL_ALWAYS_ON) ? run_panel_line : run_line);
 }
 
 static void run_entries_lines(session *s)
 {
+    entries_fill_area(&area);
     run_script(s, run_entries_line);
+}
+
+static void run_panel_lines(session *s)
+{
+    run_script(s, run_panel_line);
 }
 
 static void echo_rig(session *s)
@@ -167,6 +179,11 @@ int runner_run(int in, int out)
 int runner_run_entries(int in, int out)
 {
     return with_rig(in, out, run_entries_lines);
+}
+
+int runner_run_panel(int in, int out)
+{
+    return with_rig(in, out, run_panel_lines);
 }
 
 int runner_echo_rig(int in, int out)

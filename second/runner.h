@@ -32,8 +32,9 @@ input_parts find_parts(const uint8_t *head, size_t length);
 /* Answers 0, or -1 if reading or writing failed. */
 int runner_run(int in, int out);
 
-/* The same with the lines of entries.h besides. */
+/* The same with the lines of entries.h, or of panel.h, besides. */
 int runner_run_entries(int in, int out);
+int runner_run_panel(int in, int out);
 
 /* Reads a rig (the whole input, or up to RUN) and writes it back. */
 int runner_echo_rig(int in, int out);

@@ -27,8 +27,9 @@ static void choose_mutant(void)
 static int usage(FILE *to, int status)
 {
     fputs("usage: runner                 rig, RUN and script on standard input; answers on standard output\n"
-          "       runner --echo-rig      read a rig and write it back\n"
+          "       runner --panel         as the first, with the lines of panel.h besides\n"
           "       runner --entries       as the first, with the lines of entries.h besides\n"
+          "       runner --echo-rig      read a rig and write it back\n"
           "       runner --words         answer questions on bus words, as wordlist.h says\n"
           "       runner --sums          print sums over all words and images, as wordsums.h says\n"
           "       runner --terminal-all  print all that a terminal sends, as wordsall.h says\n"
@@ -44,10 +45,12 @@ int main(int argc, char **argv)
     choose_mutant();
     if (argc == 1)
         done = runner_run(0, 1);
-    else if (argc == 2 && strcmp(argv[1], "--echo-rig") == 0)
-        done = runner_echo_rig(0, 1);
+    else if (argc == 2 && strcmp(argv[1], "--panel") == 0)
+        done = runner_run_panel(0, 1);
     else if (argc == 2 && strcmp(argv[1], "--entries") == 0)
         done = runner_run_entries(0, 1);
+    else if (argc == 2 && strcmp(argv[1], "--echo-rig") == 0)
+        done = runner_echo_rig(0, 1);
     else if (argc == 2 && strcmp(argv[1], "--words") == 0)
         done = wordlist_print(0, 1);
     else if (argc == 2 && strcmp(argv[1], "--sums") == 0)

@@ -136,14 +136,19 @@ static size_t end_line(char *out, char *at)
     return (size_t)(at - out);
 }
 
+char *print_head(char *out, char verb, const answer *a, const exec *e)
+{
+    char *at = out;
+    *at++ = verb;
+    at = print_field(at, a->refusal);
+    at = print_field(at, e->count);
+    return print_field(at, e->running);
+}
+
 size_t print_call(char *out, const script_call *call, const answer *a, const exec *e,
                   const uint16_t *words)
 {
-    char *at = out;
-    *at++ = call->verb;
-    at = print_field(at, a->refusal);
-    at = print_field(at, e->count);
-    at = print_field(at, e->running);
+    char *at = print_head(out, call->verb, a, e);
     if (a->refusal == ACCEPTED && call->verb == 'Q')
         at = print_field(at, a->value);
     for (unsigned i = 0; i < a->words; i++)

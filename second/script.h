@@ -38,6 +38,9 @@ size_t print_wrong_line(char *out);
 size_t print_started(char *out, const exec *e);
 size_t print_refused_rig(char *out, const rig_verdict *v);
 
+/* Verb, answer, count and running task, as the line of every call begins; answers where the text ends. */
+char *print_head(char *out, char verb, const answer *a, const exec *e);
+
 /* A tab and the number; answers where the text ends. */
 char *print_field(char *at, uint32_t value);
 

@@ -29,13 +29,15 @@ void read_right_rig(const char *spaced, rig *out);
 /* A record started with such a rig. */
 void start_with(const char *spaced, exec *out);
 
-/* Runs the runner on an input and checks its whole output. */
-void check_run(const char *input, const char *output, const char *file, int line);
-#define CHECK_RUN(input, output) check_run((input), (output), __FILE__, __LINE__)
-
 /* The output of the runner, or of another mode of the program, for an input given as bytes. */
-enum run_mode { MODE_RUN, MODE_ENTRIES, MODE_ECHO, MODE_WORDS, MODE_TERMINAL_ALL, MODE_MONITOR_ALL };
+enum run_mode { MODE_RUN, MODE_PANEL, MODE_ENTRIES, MODE_ECHO, MODE_WORDS, MODE_TERMINAL_ALL, MODE_MONITOR_ALL };
 void run_bytes(enum run_mode mode, const void *bytes, size_t length, text *output);
+
+/* Runs the program on an input and checks its whole output. */
+void check_run(enum run_mode mode, const char *input, const char *output, const char *file, int line);
+#define CHECK_RUN(input, output) check_run(MODE_RUN, (input), (output), __FILE__, __LINE__)
+#define CHECK_PANEL(input, output) check_run(MODE_PANEL, (input), (output), __FILE__, __LINE__)
+#define CHECK_ENTRIES(input, output) check_run(MODE_ENTRIES, (input), (output), __FILE__, __LINE__)
 
 /* Where the example rigs are. */
 extern const char *rigs_folder;
@@ -47,6 +49,7 @@ void rig_tests(void);
 void exec_tests(void);
 void serving_tests(void);
 void sound_tests(void);
+void panel_tests(void);
 void runner_tests(void);
 void gen_tests(void);
 

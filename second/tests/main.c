@@ -92,6 +92,7 @@ static int monitor_all(int in, int out)
 }
 
 static int (*const modes[])(int in, int out) = {[MODE_RUN] = runner_run,
+                                                [MODE_PANEL] = runner_run_panel,
                                                 [MODE_ENTRIES] = runner_run_entries,
                                                 [MODE_ECHO] = runner_echo_rig,
                                                 [MODE_WORDS] = wordlist_print,
@@ -115,13 +116,13 @@ void run_bytes(enum run_mode mode, const void *bytes, size_t length, text *outpu
     fclose(out);
 }
 
-void check_run(const char *input, const char *output, const char *file, int line)
+void check_run(enum run_mode mode, const char *input, const char *output, const char *file, int line)
 {
     text in = {NULL, 0, 0}, want = {NULL, 0, 0}, got = {NULL, 0, 0};
     tabbed(input, &in);
     tabbed(output, &want);
     text_add(&want, "", 1);
-    run_bytes(MODE_RUN, in.bytes, in.length, &got);
+    run_bytes(mode, in.bytes, in.length, &got);
     check_text(&got, (const char *)want.bytes, "output", file, line);
     text_free(&in);
     text_free(&want);
@@ -137,6 +138,7 @@ int main(int argc, char **argv)
     exec_tests();
     serving_tests();
     sound_tests();
+    panel_tests();
     runner_tests();
     gen_tests();
     printf("%u passed, %u failed\n", passed, failed);

@@ -36,6 +36,7 @@ static void every_call_refuses(void)
     CHECK_IS(exec_wait_unlatched(&bad, 9, true).refusal, NOT_SOUND);
     CHECK_IS(exec_signal(&bad, 9, true).refusal, NOT_SOUND);
     CHECK_IS(exec_read_flag(&bad, 9).refusal, NOT_SOUND);
+    CHECK_IS(exec_next_waking(&bad).refusal, NOT_SOUND);
     CHECK_IS(exec_tick(&bad, words, 0).refusal, NOT_SOUND);
     CHECK_IS(exec_write_block(&bad, 9, area, 0, data, 0).refusal, NOT_SOUND);
     CHECK_IS(exec_read_block(&bad, 9, area, 0, data, 0).refusal, NOT_SOUND);

@@ -1,0 +1,33 @@
+/*
+ * The panel: the bench runner with more verbs, those of requests that came
+ * after the build paper.
+ *
+ * Input, output and streaming are the runner's, and all its lines mean the
+ * same here and print the same.  There is also
+ *
+ *   V     "When does the bench next wake someone?" (request L4)
+ *
+ * alone on its line.  It prints verb, answer, count and running task, and then
+ * the lowest waking count among tasks waiting on time; nothing more if no task
+ * so waits.  The record stays as it is.
+ */
+#ifndef SECOND_PANEL_H
+#define SECOND_PANEL_H
+
+#include <stdbool.h>
+#include <stddef.h>
+#include <stdint.h>
+
+#include "exec.h"
+
+typedef struct {
+    char verb; /* V */
+} panel_call;
+
+/* Whether a line without its LF is one of the panel's own. */
+bool panel_judge(const uint8_t *line, size_t length, panel_call *out);
+
+/* Makes the call and prints its line; answers the line's length. */
+size_t panel_run(const exec *e, const panel_call *call, answer *a, char *out);
+
+#endif
