@@ -2,7 +2,8 @@
  * The random comparison: another runner against the second program, output
  * byte for byte.
  *
- *   compare [--also COMMAND] [--entries COMMAND] [--only PART] [--keep DIR] [--most N] COMMAND [SEED [COUNT]]
+ *   compare [--also COMMAND] [--entries COMMAND] [--panel COMMAND] [--only PART] [--keep DIR] [--most N]
+ *           COMMAND [SEED [COUNT]]
  *
  * COMMAND is the other runner; it is split at spaces and run once for each
  * input, with the input as standard input.  The right output is made in this
@@ -10,9 +11,10 @@
  * COUNT inputs, and one tenth of that more that try the stream: long lines,
  * outputs that pass a room's end, input that comes in pieces.  --entries
  * names a program that reads the lines of entries.h (one twentieth of COUNT
- * inputs more).  Without it the second program's own block and tick entries
- * are run in this process alone, to be counted.  --only leaves the other
- * parts out: PART is inputs, streams or entries; for entries COMMAND is -.
+ * inputs more), --panel one that reads those of panel.h (one fifth of COUNT
+ * more).  Without them the second program's own are run in this process alone,
+ * to be counted.  --only leaves the other parts out: PART is inputs, streams,
+ * entries or panel; for the last two COMMAND is -.
  *
  * A failing input is kept in DIR (the present one without --keep) beside the
  * output it must have and the output it got; after N differences (5 without
@@ -34,6 +36,7 @@ enum {
     LEAST_HITS = 50,
     STREAM_SHARE = 10,  /* one input for the stream for each so many others */
     ENTRIES_SHARE = 20, /* one input of entries for each so many others */
+    PANEL_SHARE = 5,    /* one input for the panel for each so many others */
     NAME_ROOM = 64
 };
 
@@ -120,7 +123,7 @@ typedef struct {
     void (*make)(uint64_t seed, uint64_t index, text *out);
     const char *(*kind_name)(uint64_t index);
     feeding (*feeding_of)(uint64_t index);
-    bool entries;
+    line_set taken;
     const command *other[2];
 } input_kind;
 
@@ -143,7 +146,7 @@ static void compare_input(comparison *k, const input_kind *kind, uint64_t index,
     text_clear(&bytes);
     text_clear(&right);
     kind->make(k->seed, index, &bytes);
-    tally_run(t, &bytes, kind->entries, &right);
+    tally_run(t, &bytes, kind->taken, &right);
     t->stream.fed[input.fed]++;
     input.sizes = chance_of(k->seed, index);
     input.bytes = &bytes;
@@ -164,12 +167,12 @@ static void compare_inputs(comparison *k, const input_kind *kind, uint64_t count
 
 /* ---- The command line ---- */
 
-enum part { INPUTS, STREAMS, ENTRIES, PARTS, ALL_PARTS = PARTS };
+enum part { INPUTS, STREAMS, ENTRIES, PANEL, PARTS, ALL_PARTS = PARTS };
 
-static const char *const part_names[PARTS] = {"inputs", "streams", "entries"};
+static const char *const part_names[PARTS] = {"inputs", "streams", "entries", "panel"};
 
 typedef struct {
-    command runner, also, entries;
+    command runner, also, entries, panel;
     enum part only;
     uint64_t count;
 } wishes;
@@ -180,10 +183,10 @@ static bool wants(const wishes *w, enum part part)
 }
 
 static const char usage[] =
-    "usage: compare [--also COMMAND] [--entries COMMAND] [--only inputs|streams|entries] [--keep DIR] [--most N]\n"
-    "               COMMAND [SEED [COUNT]]\n"
+    "usage: compare [--also COMMAND] [--entries COMMAND] [--panel COMMAND] [--only inputs|streams|entries|panel]\n"
+    "               [--keep DIR] [--most N] COMMAND [SEED [COUNT]]\n"
     "SEED, COUNT and N are decimal numbers without spare zeros; COUNT and N are at least 1.\n"
-    "With --only entries COMMAND is -.\n";
+    "With --only entries and --only panel COMMAND is -.\n";
 
 static bool take_part(const char *name, wishes *w)
 {
@@ -206,6 +209,8 @@ static bool take_option(const char *name, char *value, wishes *w, comparison *k)
         w->also = command_of(value);
     else if (strcmp(name, "--entries") == 0)
         w->entries = command_of(value);
+    else if (strcmp(name, "--panel") == 0)
+        w->panel = command_of(value);
     else if (strcmp(name, "--keep") == 0)
         k->keep = value;
     else
@@ -224,7 +229,7 @@ static bool take_words(int argc, char **argv, wishes *w, comparison *k)
         return false;
     if (strcmp(argv[at], "-") != 0)
         w->runner = command_of(argv[at]);
-    if (is_given(&w->runner) == (w->only == ENTRIES))
+    if (is_given(&w->runner) == (w->only == ENTRIES || w->only == PANEL))
         return false;
     return (left < 2 || number_of(argv[at + 1], 0, UINT64_MAX, &k->seed)) &&
            (left < 3 || number_of(argv[at + 2], LEAST_COUNT, MOST_COUNT, &w->count));
@@ -236,11 +241,13 @@ static unsigned print_seldom(const tally *t, const wishes *w)
 {
     unsigned n = 0;
     if (wants(w, INPUTS))
-        n += tally_missing(t, LEAST_HITS, stdout);
+        n += tally_missing(t, LEAST_HITS, stdout) + tally_panel_missing_off(&t->panel, LEAST_HITS, stdout);
     if (wants(w, STREAMS))
         n += tally_stream_missing(&t->stream, LEAST_HITS, stdout);
     if (wants(w, ENTRIES))
-        n += tally_missing_calls(t, "WDJ", LEAST_HITS, stdout);
+        n += tally_missing_calls(t, "WDJ", LEAST_HITS, stdout) + tally_panel_missing_harmed(&t->panel, LEAST_HITS, stdout);
+    if (wants(w, PANEL))
+        n += tally_panel_missing(&t->panel, LEAST_HITS, stdout);
     return n;
 }
 
@@ -249,7 +256,9 @@ static int report(const comparison *k, const tally *t, const wishes *w)
     unsigned seldom = 0;
     tally_print(t, stdout);
     if (wants(w, ENTRIES) && !is_given(&w->entries))
-        printf("(W, D and J were run in this process alone: no --entries)\n");
+        printf("(W, D, J and H were run in this process alone: no --entries)\n");
+    if (wants(w, PANEL) && !is_given(&w->panel))
+        printf("(V was run in this process alone: no --panel)\n");
     if (k->differences == 0 && w->count >= DEFAULT_COUNT)
         seldom = print_seldom(t, w);
     printf("seed %llu: %llu inputs, %u different%s\n", (unsigned long long)k->seed, (unsigned long long)t->inputs,
@@ -257,19 +266,28 @@ static int report(const comparison *k, const tally *t, const wishes *w)
     return k->differences > 0 ? 1 : seldom > 0 ? 3 : 0;
 }
 
+/* One for each so many, and one for what is left. */
+static uint64_t share_of(uint64_t count, unsigned share)
+{
+    return (count + share - 1) / share;
+}
+
 static void compare_all(comparison *k, const wishes *w, tally *t)
 {
     static const command none;
-    const input_kind inputs = {"", gen_input, gen_kind_name, as_file, false, {&w->runner, &w->also}};
-    const input_kind streams = {"stream-", gen_stream_input, gen_stream_name, gen_stream_feeding, false,
+    const input_kind inputs = {"", gen_input, gen_kind_name, as_file, RUNNER_LINES, {&w->runner, &w->also}};
+    const input_kind streams = {"stream-", gen_stream_input, gen_stream_name, gen_stream_feeding, RUNNER_LINES,
                                 {&w->runner, &w->also}};
-    const input_kind entries = {"entries-", gen_entries_input, entries_name, as_file, true, {&w->entries, &none}};
+    const input_kind entries = {"entries-", gen_entries_input, entries_name, as_file, ENTRIES_LINES, {&w->entries, &none}};
+    const input_kind panel = {"panel-", gen_panel_input, gen_panel_name, as_file, PANEL_LINES, {&w->panel, &none}};
     if (wants(w, INPUTS))
         compare_inputs(k, &inputs, w->count, t);
     if (wants(w, STREAMS))
-        compare_inputs(k, &streams, (w->count + STREAM_SHARE - 1) / STREAM_SHARE, t);
+        compare_inputs(k, &streams, share_of(w->count, STREAM_SHARE), t);
     if (wants(w, ENTRIES))
-        compare_inputs(k, &entries, (w->count + ENTRIES_SHARE - 1) / ENTRIES_SHARE, t);
+        compare_inputs(k, &entries, share_of(w->count, ENTRIES_SHARE), t);
+    if (wants(w, PANEL))
+        compare_inputs(k, &panel, share_of(w->count, PANEL_SHARE), t);
 }
 
 int main(int argc, char **argv)

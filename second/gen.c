@@ -8,6 +8,7 @@ enum input_kind {
     RESTARTS,
     FAMILIES,
     RACES,
+    SLEEPERS,
     SERVES_79,
     SCRIPT_DAMAGED,
     LINE_SHAPE,
@@ -33,7 +34,15 @@ static const uint8_t kinds[] = {
     RULE_BROKEN + RULE_MINOR_LATCHED, RULE_BROKEN + RULE_MINOR_DESIRES_OFF, RULE_BROKEN + RULE_SAME_ENDS,
     SMALL, SMALL};
 
-enum { ROUND = sizeof kinds };
+/* One round of kinds for the panel: right rigs, most of them with many tasks that wait on time, and two that are refused. */
+static const uint8_t panel_kinds[] = {
+    SLEEPERS, SMALL, SLEEPERS, FAMILIES, SLEEPERS, SLEEPERS, MEDIUM, SLEEPERS, RESTARTS, SLEEPERS,
+    SLEEPERS, SMALL, SLEEPERS, RACES, SLEEPERS, SLEEPERS, SCRIPT_DAMAGED, SLEEPERS, FUZZED, LINE_ORDER};
+
+enum { ROUND = sizeof kinds, PANEL_ROUND = sizeof panel_kinds };
+
+/* Of a hundred lines, those before which lines are woven in: questions for the runner and for the panel; harmed ones. */
+enum { ASKED_RUNNER = 3, ASKED_PANEL = 40, ASKED_HARMED = 6 };
 
 void gen_add_run(text *out)
 {
@@ -128,6 +137,15 @@ static void race_input(chance *c, text *out)
     gen_race_script(c, &r, pick(c, 150, 350), out);
 }
 
+static void sleepers_input(chance *c, text *out)
+{
+    static rig r;
+    gen_sleepers_rig(c, &r);
+    gen_print_rig(&r, out);
+    gen_add_run(out);
+    gen_sleepers_script(c, &r, pick(c, 40, 140), out);
+}
+
 static void full_serving_input(chance *c, text *out)
 {
     static rig r;
@@ -202,6 +220,7 @@ static const struct {
     [RESTARTS] = {"restarting tasks", restarts_input},
     [FAMILIES] = {"families", families_input},
     [RACES] = {"races", race_input},
+    [SLEEPERS] = {"sleepers", sleepers_input},
     [SERVES_79] = {"79 served", full_serving_input},
     [SCRIPT_DAMAGED] = {"damaged script", damaged_script_input},
     [LINE_SHAPE] = {"line of wrong shape", shape_input},
@@ -222,24 +241,49 @@ const char *gen_kind_name(uint64_t index)
     return kind >= RULE_BROKEN ? rig_rule_text[kind - RULE_BROKEN] : makers[kind].name;
 }
 
+const char *gen_panel_name(uint64_t index)
+{
+    return makers[panel_kinds[index % PANEL_ROUND]].name;
+}
+
+/* Numbers of their own for what is woven in, so that the rest of an input is the same with or without it. */
+static chance weaving_chance(uint64_t seed, uint64_t index)
+{
+    return chance_of(seed ^ UINT64_C(0x7765617665733131), index);
+}
+
 void gen_input(uint64_t seed, uint64_t index, text *out)
 {
-    chance c = chance_of(seed, index);
+    chance c = chance_of(seed, index), woven = weaving_chance(seed, index);
     unsigned kind = kinds[index % ROUND];
+    size_t start = out->length;
     if (kind >= RULE_BROKEN)
         broken_rule_input(&c, (rig_rule)(kind - RULE_BROKEN), out);
     else
         makers[kind].make(&c, out);
+    gen_weave(&woven, ASKED_RUNNER, add_question, start, out);
+}
+
+void gen_panel_input(uint64_t seed, uint64_t index, text *out)
+{
+    uint64_t own = seed ^ UINT64_C(0x70616e656c733131);
+    chance c = chance_of(own, index), woven = weaving_chance(own, index);
+    size_t start = out->length;
+    makers[panel_kinds[index % PANEL_ROUND]].make(&c, out);
+    gen_weave(&woven, ASKED_PANEL, add_question, start, out);
 }
 
 void gen_entries_input(uint64_t seed, uint64_t index, text *out)
 {
     static rig r;
-    chance c = chance_of(seed ^ UINT64_C(0x656e747269657331), index);
+    uint64_t own = seed ^ UINT64_C(0x656e747269657331);
+    chance c = chance_of(own, index), woven = weaving_chance(own, index);
+    size_t start = out->length;
     gen_rig(&c, (rig_size)(index % 3), &r);
     gen_print_rig(&r, out);
     gen_add_run(out);
     gen_entries_script(&c, &r, pick(&c, 100, 300), out);
+    gen_weave(&woven, ASKED_HARMED, add_harmed_question, start, out);
 }
 
 /* The first full-size rig of the seed that has all 1,024 A lines and all 64 rows. */

@@ -22,6 +22,24 @@ unsigned gen_round(void);
 /* The same for the lines of entries.h. */
 void gen_entries_input(uint64_t seed, uint64_t index, text *out);
 
+/* The same for the panel. */
+void gen_panel_input(uint64_t seed, uint64_t index, text *out);
+const char *gen_panel_name(uint64_t index);
+
+/* ---- Lines put between those of a script (gen_weave.c) ---- */
+
+/* Appends a line that leaves the record as it is. */
+typedef void line_adder(chance *c, text *out);
+
+/* The panel's V, now and then with something behind the verb; H of entries.h. */
+line_adder add_question, add_harmed_question;
+
+/*
+ * Adds such a line before so many of a hundred lines of the script of the input that begins at `start` of `out`.  The
+ * script's own lines mean what they meant.
+ */
+void gen_weave(chance *c, unsigned percent, line_adder *add, size_t start, text *out);
+
 /* ---- Inputs for the stream (gen_stream.c) ---- */
 
 enum {
@@ -64,6 +82,9 @@ void gen_family_rig(chance *c, rig *out);
 /* Watchers that start or not by which of two flags is served first. */
 void gen_race_rig(chance *c, rig *out);
 
+/* Tasks that start when they are scheduled, so that many wait at once; task 1 acts when the others rest. */
+void gen_sleepers_rig(chance *c, rig *out);
+
 /* 64 tasks and a cycle of 15 flags, whose tick can serve 79. */
 void gen_full_serving_rig(chance *c, rig *out);
 
@@ -98,6 +119,9 @@ void gen_full_serving_script(chance *c, const rig *r, text *out);
 
 /* Plays a race rig: keeps its tasks ready, starts runners together, cancels them together. */
 void gen_race_script(chance *c, const rig *r, unsigned lines, text *out);
+
+/* Plays a sleepers rig: many wait on time, some are cancelled or terminated, most often the earliest; or nobody runs. */
+void gen_sleepers_script(chance *c, const rig *r, unsigned lines, text *out);
 
 /* Plays a growth rig: puts its tasks to waits of both kinds, then ticks, signals and reads by turns. */
 void gen_growth_script(chance *c, const rig *r, unsigned lines, text *out);

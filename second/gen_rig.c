@@ -388,6 +388,24 @@ void gen_race_rig(chance *c, rig *out)
     make_cycles(c, out, &m);
 }
 
+/* ---- Sleepers ---- */
+
+void gen_sleepers_rig(chance *c, rig *out)
+{
+    makings m = {.tasks = likely(c, 90) ? pick(c, 3, 10) : pick(c, 11, TASKS_MAX)};
+    memset(out, 0, sizeof *out);
+    m.flags = m.tasks + pick(c, 1, 6);
+    divide_flags(c, &m, pick(c, 0, 3), pick(c, 0, m.tasks));
+    out->tasks = (uint8_t)m.tasks;
+    out->flags = (uint8_t)m.flags;
+    make_controllers(c, out);
+    make_ranks(c, out);
+    out->task[1].privileged = 0;
+    out->task[1].priority = 0;
+    give_activation_flags(c, out, &m);
+    make_cycles(c, out, &m);
+}
+
 enum { TRIGGER_CYCLE = 1, FULL_CYCLE = 3 };
 
 /*

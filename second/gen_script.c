@@ -453,6 +453,62 @@ void gen_race_script(chance *c, const rig *r, unsigned lines, text *out)
     }
 }
 
+/* Cancels or terminates the first of the time line, if it is the running task's to do. */
+static bool strike_earliest(player *p)
+{
+    unsigned task = p->e.timed.tasks > 0 ? p->e.timed.task[0] : 0;
+    if (task == 0 || p->e.rig.task[task].controller != p->e.running)
+        return false;
+    call(p, likely(p->c, 60) ? 'X' : 'Z', task, 0);
+    return true;
+}
+
+/* Waking counts so far apart that who begins later often wakes earlier; equal ones too. */
+static void sleep_a_while(player *p)
+{
+    unsigned cycles = pick(p->c, 1, likely(p->c, 60) ? 4 : 16);
+    if (likely(p->c, 50))
+        call(p, 'R', cycles, 0);
+    else
+        call(p, 'U', p->e.count + cycles, 0);
+}
+
+static void sleepers_step(player *p)
+{
+    unsigned way = pick(p->c, 0, 99);
+    if (p->e.running == 0)
+        call(p, 'K', 0, 0);
+    else if (way < 40 && do_schedule(p))
+        return;
+    else if (way < 52 && strike_earliest(p))
+        return;
+    else if (way < 58 && (likely(p->c, 60) ? do_cancel(p) : do_terminate(p)))
+        return;
+    else if (way < 62 && do_wait_flag(p))
+        return;
+    else if (way < 66 && do_finish(p))
+        return;
+    else if (way < 74)
+        call(p, 'K', 0, 0);
+    else
+        sleep_a_while(p);
+}
+
+/* No task has conditions: where none runs and none waits on time, none will. */
+static bool is_over(const player *p)
+{
+    return p->e.running == 0 && p->e.timed.tasks == 0;
+}
+
+void gen_sleepers_script(chance *c, const rig *r, unsigned lines, text *out)
+{
+    static player p;
+    play(&p, c, r, out);
+    for (unsigned i = 0; i < lines && !is_over(&p); i++)
+        sleepers_step(&p);
+    call(&p, 'K', 0, 0);
+}
+
 void gen_growth_script(chance *c, const rig *r, unsigned lines, text *out)
 {
     static player p;

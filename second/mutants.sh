@@ -30,6 +30,7 @@ told_apart() {
         M) build/compare --most 1 --keep "$build" --only inputs "$2" ;;
         P) build/compare --most 1 --keep "$build" --only streams "$2" ;;
         E) build/compare --most 1 --keep "$build" --only entries --entries "$2 --entries" - ;;
+        V) build/compare --most 1 --keep "$build" --only panel --panel "$2 --panel" - ;;
         S) ../tools/tests/streams.py --patience 5 "$2" ;;
         W) all_words "$2" ;;
     esac
@@ -40,7 +41,7 @@ where() {
     sed -n 's/^DIFFERENT: failing-\(.*\)/input \1/p; s/^FAIL \([^:]*\):.*/test "\1"/p; s/^LINE: \(.*\), \(.*\)/line \1 "\2"/p' "$1" | head -1
 }
 
-list=$(sed -n 's/^ *\([MEPSW]\)(\([0-9]*\), [A-Z_]*, "\(.*\)").*/\1 \2 \3/p' mutant.h)
+list=$(sed -n 's/^ *\([MEPSVW]\)(\([0-9]*\), [A-Z_]*, "\(.*\)").*/\1 \2 \3/p' mutant.h)
 while read -r letter number text; do
     log=$build/log-$number
     export MUTANT="$number"

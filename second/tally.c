@@ -4,6 +4,7 @@
 
 #include "entries.h"
 #include "exec.h"
+#include "panel.h"
 #include "runner.h"
 #include "script.h"
 
@@ -12,6 +13,7 @@ typedef struct {
     tally *t;
     exec e, before;
     char wait_verb[TASKS_MAX + 1]; /* that began the task's wait; 0 if it does not wait */
+    panel_waits waits;
     entries_area area;
     text *output;
 } run;
@@ -93,6 +95,7 @@ static void count_call(run *r, const script_call *call, const answer *a)
         return;
     count_serving(r, call, a);
     count_waits(r, call);
+    tally_panel_waits(&r->waits, &r->before, &r->e, r->before.running, strchr("XZ", call->verb) != NULL);
 }
 
 /* ---- Running ---- */
@@ -104,6 +107,8 @@ static size_t run_entries_call(run *r, const entries_call *call, char *out)
     size_t n = entries_run(&r->e, &r->area, call, &a, out);
     script_call tick = {.verb = 'K'};
     r->t->call[(unsigned char)call->verb][a.refusal]++;
+    if (call->verb == 'H')
+        tally_panel_harmed(&r->t->panel, call, &a);
     if (call->verb == 'J' && a.refusal == ACCEPTED) {
         count_serving(r, &tick, &a);
         count_waits(r, &tick);
@@ -111,16 +116,41 @@ static size_t run_entries_call(run *r, const entries_call *call, char *out)
     return n;
 }
 
-static size_t run_line(run *r, const uint8_t *line, size_t length, bool whole, bool entries, char *out)
+static size_t run_panel_call(run *r, const panel_call *call, char *out)
+{
+    answer a;
+    size_t n = panel_run(&r->e, call, &a, out);
+    r->t->call[(unsigned char)call->verb][a.refusal]++;
+    tally_panel_answer(&r->t->panel, &r->waits, &r->e, &a);
+    return n;
+}
+
+/* Runs a line that is not the runner's own, if it is one of those taken. */
+static bool ran_besides(run *r, const uint8_t *line, size_t length, line_set taken, char *out, size_t *printed)
+{
+    entries_call entry;
+    panel_call asked;
+    if (taken == ENTRIES_LINES && entries_judge(line, length, &entry))
+        *printed = run_entries_call(r, &entry, out);
+    else if (taken == PANEL_LINES && panel_judge(line, length, &asked))
+        *printed = run_panel_call(r, &asked, out);
+    else
+        return false;
+    return true;
+}
+
+static size_t run_line(run *r, const uint8_t *line, size_t length, bool whole, line_set taken, char *out)
 {
     script_call call;
-    entries_call entry;
     uint16_t words[TICK_WORDS];
+    size_t printed;
     r->t->lines++;
-    if (whole && entries && entries_judge(line, length, &entry))
-        return run_entries_call(r, &entry, out);
+    if (whole && ran_besides(r, line, length, taken, out, &printed))
+        return printed;
     if (!whole || !script_judge(line, length, &call)) {
         r->t->call['?'][BAD_SHAPE]++;
+        if (whole)
+            tally_panel_wrong(&r->t->panel, line, length, taken == PANEL_LINES);
         return print_wrong_line(out);
     }
     r->before = r->e;
@@ -129,19 +159,19 @@ static size_t run_line(run *r, const uint8_t *line, size_t length, bool whole, b
     return print_call(out, &call, &a, &r->e, words);
 }
 
-static void run_script(run *r, const uint8_t *at, const uint8_t *end, bool entries)
+static void run_script(run *r, const uint8_t *at, const uint8_t *end, line_set taken)
 {
     char out[OUTPUT_LINE_MAX];
     while (at < end) {
         const uint8_t *lf = memchr(at, '\n', (size_t)(end - at));
         const uint8_t *stop = lf != NULL ? lf : end;
         tally_stream_line(&r->t->stream, at, (size_t)(stop - at), lf != NULL, r->output->length);
-        text_add(r->output, out, run_line(r, at, (size_t)(stop - at), lf != NULL, entries, out));
+        text_add(r->output, out, run_line(r, at, (size_t)(stop - at), lf != NULL, taken, out));
         at = lf != NULL ? lf + 1 : end;
     }
 }
 
-void tally_run(tally *t, const text *input, bool entries, text *output)
+void tally_run(tally *t, const text *input, line_set taken, text *output)
 {
     static run r;
     static rig made;
@@ -165,7 +195,7 @@ void tally_run(tally *t, const text *input, bool entries, text *output)
     (void)exec_start(&r.e, &made);
     text_add(output, out, print_started(out, &r.e));
     if (parts.has_script)
-        run_script(&r, bytes + parts.rig_length + RUN_LINE_LENGTH, bytes + input->length, entries);
+        run_script(&r, bytes + parts.rig_length + RUN_LINE_LENGTH, bytes + input->length, taken);
 }
 
 /* ---- Printing ---- */
@@ -180,7 +210,7 @@ static const struct {
     {'F', "finish", "e"},          {'K', "tick", ""},                {'U', "wait until", "ei"},
     {'R', "wait cycles", "ei"},    {'L', "wait latched", "efg"},     {'N', "wait unlatched", "efg"},
     {'G', "signal", "efg"},        {'Q', "read flag", "efg"},        {'W', "block write", "efj"},
-    {'D', "block read", "efj"},    {'J', "tick, any room", "j"}};
+    {'D', "block read", "efj"},    {'J', "tick, any room", "j"},     {'V', "next waking", ""}};
 
 enum { VERBS = sizeof verbs / sizeof verbs[0] };
 
@@ -234,6 +264,7 @@ void tally_print(const tally *t, FILE *to)
             (unsigned long long)t->cascades, (unsigned long long)t->deepest,
             (unsigned long long)t->most_served, (unsigned long long)t->served_most);
     tally_stream_print(&t->stream, to);
+    tally_panel_print(&t->panel, to);
 }
 
 /* ---- What was hit too seldom ---- */

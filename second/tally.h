@@ -12,6 +12,7 @@
 #include "chance.h"
 #include "paper.h"
 #include "rig.h"
+#include "tally_panel.h"
 #include "tally_stream.h"
 
 enum { REFUSALS = NOT_SOUND + 1 };
@@ -33,10 +34,14 @@ typedef struct {
     uint64_t cancelled[128];       /* by X, by the verb that began the wait */
     uint64_t terminated[128];      /* by Z */
     stream_tally stream;
+    panel_tally panel;
 } tally;
 
-/* Appends the right output of a runner's input; with `entries`, of an input of entries.h. */
-void tally_run(tally *t, const text *input, bool entries, text *output);
+/* Which lines a program takes: the runner's alone, or those of entries.h or panel.h besides. */
+typedef enum { RUNNER_LINES, ENTRIES_LINES, PANEL_LINES } line_set;
+
+/* Appends the right output of an input, for a program that takes these lines. */
+void tally_run(tally *t, const text *input, line_set taken, text *output);
 
 void tally_print(const tally *t, FILE *to);
 

@@ -26,7 +26,7 @@ static void right_rigs_are_right(void)
     static rig r;
     for (unsigned i = 0; i < 600; i++) {
         chance c = chance_of(6, i);
-        switch (i % 7) {
+        switch (i % 8) {
         case 3:
             gen_restarting_rig(&c, &r);
             break;
@@ -39,8 +39,11 @@ static void right_rigs_are_right(void)
         case 6:
             gen_full_serving_rig(&c, &r);
             break;
+        case 7:
+            gen_sleepers_rig(&c, &r);
+            break;
         default:
-            gen_rig(&c, (rig_size)(i % 7), &r);
+            gen_rig(&c, (rig_size)(i % 8), &r);
             break;
         }
         CHECK_IS(rig_broken_rule(&r), RULE_KEPT);
@@ -64,7 +67,7 @@ static void growth_rigs_have_their_size(void)
         text_clear(&in);
         gen_growth_load(8, 100, &sizes[i], &in);
         memset(&t, 0, sizeof t);
-        tally_run(&t, &in, false, &out);
+        tally_run(&t, &in, RUNNER_LINES, &out);
         CHECK_IS(t.call['K'][ACCEPTED], 20);
         CHECK_IS(t.call['G'][ACCEPTED], 40);
         CHECK_IS(t.call['S'][ACCEPTED], sizes[i].tasks - 1);
@@ -73,54 +76,73 @@ static void growth_rigs_have_their_size(void)
     text_free(&out);
 }
 
-/* Each rule is met by the input made for it, and the runner prints what the comparison expects. */
-static void rounds_of_inputs(void)
+/* A kind of generated inputs, and the mode of the program that they are for. */
+typedef struct {
+    void (*make)(uint64_t seed, uint64_t index, text *out);
+    line_set taken;
+    enum run_mode mode;
+} input_kind;
+
+/* For each of so many inputs the program prints what the comparison expects. */
+static void check_rounds(const input_kind *kind, uint64_t inputs, tally *t)
 {
-    static tally t;
     text in = {NULL, 0, 0}, want = {NULL, 0, 0}, got = {NULL, 0, 0};
     unsigned different = 0;
-    for (uint64_t i = 0; i < 6 * gen_round(); i++) {
+    for (uint64_t i = 0; i < inputs; i++) {
         text_clear(&in);
         text_clear(&want);
         text_clear(&got);
-        gen_input(7, i, &in);
-        tally_run(&t, &in, false, &want);
-        run_bytes(MODE_RUN, in.bytes, in.length, &got);
+        kind->make(7, i, &in);
+        tally_run(t, &in, kind->taken, &want);
+        run_bytes(kind->mode, in.bytes, in.length, &got);
         different += got.length != want.length || memcmp(got.bytes, want.bytes, got.length) != 0;
     }
     CHECK_IS(different, 0);
-    for (unsigned rule = RULE_TASK_ABOVE; rule < RIG_RULE_COUNT; rule++)
-        CHECK(t.rule[rule] > 0);
-    for (unsigned verb = 0; verb < 128; verb++)
-        CHECK_IS(t.call[verb][NOT_SOUND], 0); /* 12 never follows from an accepted start */
-    CHECK_IS(t.most_served, SERVED_MAX);
     text_free(&in);
     text_free(&want);
     text_free(&got);
 }
 
-/* Each input for the stream is right in the runner too; every place of a room, and all else, is hit. */
+/* Each rule is met by the input made for it. */
+static void rounds_of_inputs(void)
+{
+    static tally t;
+    check_rounds(&(input_kind){gen_input, RUNNER_LINES, MODE_RUN}, 6 * gen_round(), &t);
+    for (unsigned rule = RULE_TASK_ABOVE; rule < RIG_RULE_COUNT; rule++)
+        CHECK(t.rule[rule] > 0);
+    for (unsigned verb = 0; verb < 128; verb++)
+        CHECK_IS(t.call[verb][NOT_SOUND], 0); /* 12 never follows from an accepted start */
+    CHECK_IS(t.most_served, SERVED_MAX);
+    CHECK(t.panel.off > 0 && t.panel.counts == 0);
+}
+
+/* Every place of a room, and all else, is hit. */
 static void rounds_of_streams(void)
 {
     static tally t;
-    text in = {NULL, 0, 0}, want = {NULL, 0, 0}, got = {NULL, 0, 0};
-    unsigned different = 0;
-    for (uint64_t i = 0; i < 120; i++) {
-        text_clear(&in);
-        text_clear(&want);
-        text_clear(&got);
-        gen_stream_input(7, i, &in);
-        tally_run(&t, &in, false, &want);
-        run_bytes(MODE_RUN, in.bytes, in.length, &got);
-        different += got.length != want.length || memcmp(got.bytes, want.bytes, got.length) != 0;
-    }
-    CHECK_IS(different, 0);
+    check_rounds(&(input_kind){gen_stream_input, RUNNER_LINES, MODE_RUN}, 120, &t);
     CHECK_IS(t.stream.places, USUAL_ROOM);
     CHECK(t.stream.tails > 0 && t.stream.below > 0 && t.stream.above > 0);
     CHECK(t.stream.unfinished > 0 && t.stream.far_faults > 0);
-    text_free(&in);
-    text_free(&want);
-    text_free(&got);
+}
+
+static void rounds_for_the_panel(void)
+{
+    static tally t;
+    check_rounds(&(input_kind){gen_panel_input, PANEL_LINES, MODE_PANEL}, 60, &t);
+    CHECK_IS(t.call['V'][ACCEPTED], t.panel.counts + t.panel.nones);
+    CHECK_IS(t.call['V'][NOT_SOUND] + t.panel.off, 0);
+    CHECK(t.panel.counts > 0 && t.panel.nones > 0 && t.panel.nobody_runs > 0 && t.panel.fields > 0);
+    CHECK(t.panel.several > 0 && t.panel.overtaken > 0 && t.panel.struck > 0);
+}
+
+static void rounds_of_entries(void)
+{
+    static tally t;
+    check_rounds(&(input_kind){gen_entries_input, ENTRIES_LINES, MODE_ENTRIES}, 12, &t);
+    CHECK(t.call['W'][ACCEPTED] > 0 && t.call['J'][ACCEPTED] > 0);
+    for (unsigned harm = HARM_NONE; harm < HARMS; harm++)
+        CHECK(t.panel.harmed[harm] > 0);
 }
 
 static bool is_number(const char *word)
@@ -146,6 +168,8 @@ void gen_tests(void)
 {
     RUN(numbers_are_strict);
     RUN(rounds_of_streams);
+    RUN(rounds_for_the_panel);
+    RUN(rounds_of_entries);
     RUN(same_seed_same_input);
     RUN(right_rigs_are_right);
     RUN(growth_rigs_have_their_size);
