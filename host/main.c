@@ -3,7 +3,8 @@
  * It reads a rig, the line RUN and a script, and prints what the bench runner prints.
  *
  *   host             rig, RUN and script on standard input
- *   host --entries   the same, with the lines of blocks.h besides
+ *   host --panel     the same, with the panel's lines of panel.h besides
+ *   host --entries   the same, with the lines of blocks.h and harmed.h besides
  */
 #include <inttypes.h>
 #include <stdio.h>
@@ -13,15 +14,25 @@
 #include "algolmallet.h"
 #include "blocks.h"
 #include "calls.h"
+#include "harmed.h"
 #include "input.h"
+#include "panel.h"
+#include "record.h"
 #include "script.h"
 
-/* Memory for the record. The library says how much; what is in it is the library's own matter. */
-static algolmallet_record *make_room_for_record(void)
+/* Runs a line that is not the script's, and prints its answer; false, with nothing done, if it is none of its own. */
+typedef bool more_calls(algolmallet_record *record, const struct script_line *line);
+
+static bool run_none(algolmallet_record *record, const struct script_line *line)
 {
-    size_t align = algolmallet_record_align();
-    size_t rounded = (algolmallet_record_size() + align - 1) / align * align;
-    return aligned_alloc(align, rounded);
+    (void)record;
+    (void)line;
+    return false;
+}
+
+static bool run_entries_call(algolmallet_record *record, const struct script_line *line)
+{
+    return run_block_call(record, line) || run_harmed_call(record, line);
 }
 
 static void print_start(const algolmallet_reply *reply)
@@ -33,19 +44,18 @@ static void print_start(const algolmallet_reply *reply)
     putchar('\n');
 }
 
-static void run_script(algolmallet_record *record, bool with_blocks)
+static void run_script(algolmallet_record *record, more_calls *run_more)
 {
     struct input_line text;
     struct script_line line;
     while (!ferror(stdout) && read_line(&text)) {
-        bool done = take_apart(&text, &line) &&
-                    (run_call(record, &line) || (with_blocks && run_block_call(record, &line)));
+        bool done = take_apart(&text, &line) && (run_call(record, &line) || run_more(record, &line));
         if (!done)
             puts("?");
     }
 }
 
-static void run_bench(algolmallet_record *record, bool with_blocks)
+static void run_bench(algolmallet_record *record, more_calls *run_more)
 {
     static uint8_t rig[RIG_ROOM];
     struct rig_part part = read_rig(rig);
@@ -54,27 +64,40 @@ static void run_bench(algolmallet_record *record, bool with_blocks)
     algolmallet_reply reply = algolmallet_start(record, rig, part.length);
     print_start(&reply);
     if (reply.refusal == ALGOLMALLET_ACCEPTED && part.has_script)
-        run_script(record, with_blocks);
+        run_script(record, run_more);
 }
 
-static int usage(void)
+static int usage(FILE *to, int status)
 {
-    fputs("usage: host [--entries]     a rig, the line RUN and a script on standard input\n", stderr);
-    return 2;
+    fputs("usage: host               a rig, the line RUN and a script on standard input\n"
+          "       host --panel       the same; a line V asks when the bench next wakes someone\n"
+          "       host --entries     the same; lines W, D, J and H as blocks.h and harmed.h say\n",
+          to);
+    return status;
+}
+
+/* What is run besides the script's calls, by the command's words; NULL for words that it does not take. */
+static more_calls *wanted(int argc, char **argv)
+{
+    if (argc == 1)
+        return run_none;
+    if (argc == 2 && strcmp(argv[1], "--panel") == 0)
+        return run_panel_call;
+    if (argc == 2 && strcmp(argv[1], "--entries") == 0)
+        return run_entries_call;
+    return NULL;
 }
 
 int main(int argc, char **argv)
 {
-    bool with_blocks = argc == 2 && strcmp(argv[1], "--entries") == 0;
-    if (argc > 1 && !with_blocks)
-        return usage();
+    if (argc == 2 && strcmp(argv[1], "--help") == 0)
+        return usage(stdout, 0);
+    more_calls *run_more = wanted(argc, argv);
+    if (run_more == NULL)
+        return usage(stderr, 2);
     algolmallet_record *record = make_room_for_record();
-    if (record == NULL) {
-        perror("host");
-        return 1;
-    }
     fill_area();
-    run_bench(record, with_blocks);
+    run_bench(record, run_more);
     free(record);
     if (ferror(stdin) || fflush(stdout) != 0 || ferror(stdout)) {
         perror("host");

@@ -4,7 +4,7 @@
  * is target/staticlib/libhost.a, which `rt staticlib host` proves and writes. It is for x86-64. The archive has the entries below and
  * nothing else that can be seen from outside, keeps no memory of its own, uses no heap, and needs of the host only
  *     memcpy memset
- * The words in quotes are the build paper's.
+ * The words in quotes are the build paper's, or those of a request that came after it, where one is named.
  *
  * WHAT A HOST DOES. It keeps memory for one record, has algolmallet_start fill it from a rig file, and lends it to each
  * call, "to be changed where it stands". Any bytes may be handed in as a record: what is no sound record, as memory that was
@@ -40,8 +40,8 @@ extern "C" {
 #endif
 
 /* The version of this header: first, second and third number, and all three as one, which rises. */
-#define ALGOLMALLET_VERSION "0.2.0"
-#define ALGOLMALLET_VERSION_NUMBER 2000 /* 1,000,000 times the first, 1,000 times the second, and the third */
+#define ALGOLMALLET_VERSION "0.3.0"
+#define ALGOLMALLET_VERSION_NUMBER 3000 /* 1,000,000 times the first, 1,000 times the second, and the third */
 
 /* The version of the archive: ALGOLMALLET_VERSION_NUMBER, if this header belongs to it. */
 uint32_t algolmallet_version(void);
@@ -71,7 +71,7 @@ enum algolmallet_refusal {
     ALGOLMALLET_OUT_OF_ORDER = 3,
     /* "a whole-file rule is broken (line 0)" */
     ALGOLMALLET_RULE_BROKEN = 4,
-    /* "any call on a record but the tick .., while no task is running" */
+    /* "any call on a record but the tick .., while no task is running"; algolmallet_next_waking needs none either */
     ALGOLMALLET_NOBODY_RUNS = 5,
     /* "no such task, flag or row" */
     ALGOLMALLET_NO_SUCH = 6,
@@ -101,7 +101,7 @@ typedef struct {
     uint32_t line;    /* of a start refused by 1 to 4: the rig file's line, 0 for the whole file; else 0 */
     uint32_t served;  /* flag changes that the call served, "at most 79" */
     uint32_t words;   /* bus words written by a tick */
-    uint32_t value;   /* of a flag read, 0 or 1 */
+    uint32_t value;   /* of a flag read, 0 or 1; of algolmallet_next_waking a waking count, 0 for none; else 0 */
     uint32_t count;   /* the count after the call, as the record has it; 0 after a refused start */
     uint32_t running; /* the running task after the call, as the record has it, 0 for none */
 } algolmallet_reply;
@@ -160,6 +160,11 @@ algolmallet_reply algolmallet_signal(algolmallet_record *r, uint32_t flag, bool 
 
 /* The reply's `value` is the flag's. Refused by 12, 5, 6, 7. */
 algolmallet_reply algolmallet_read_flag(algolmallet_record *r, uint32_t flag);
+
+/* "When does the bench next wake someone?" (request L4). The reply's `value` is "the lowest waking count among tasks waiting on time, read at
+ * the head of the time chain; none exactly when no task so waits". 0 stands for none: a waking count is above the count, so never 0. "No
+ * running task is needed." The record is as it was, and nothing is served. Refused by 12 alone. */
+algolmallet_reply algolmallet_next_waking(algolmallet_record *r);
 
 /* "Row k's block starts at word 33(k - 1) of the lent area: a tag word, then its data. The area has exactly 33 words a row;
  * the caller's buffer has exactly the row's words." Read "copies the data out"; write "stores the data and the count modulo

@@ -1,4 +1,4 @@
-/* The README's small host: a rig file is started, and its bench ticks ten times. */
+/* The README's small host: a rig file is started, its running task waits until count 12, and its bench ticks ten times. */
 #include <stdio.h>
 #include <stdlib.h>
 
@@ -18,11 +18,13 @@ int main(void)
         printf("line %u: %s\n", reply.line, text);
         return 1;
     }
+    algolmallet_wait_until(record, 12);
     for (int i = 0; i < 10; i++) {
         uint16_t words[ALGOLMALLET_TICK_WORDS];
         reply = algolmallet_tick(record, words, ALGOLMALLET_TICK_WORDS);
-        printf("count %u, task %u runs, %u bus words\n", reply.count, reply.running, reply.words);
+        printf("count %u, running task %u, %u bus words\n", reply.count, reply.running, reply.words);
     }
+    printf("the next waking is at count %u\n", algolmallet_next_waking(record).value); /* 0 for none */
     free(record);
     return 0;
 }

@@ -1,0 +1,22 @@
+/*
+ * What the library makes of memory that is no sound record: the next waking, asked of a copy of the record that was harmed.
+ *
+ *   H harm    0 the copy as it is, 1 after a refused start, 2 all its bytes 0, 3 all 255, 4 the first half of them 255,
+ *             5 the second half
+ *
+ * Prints verb, answer, flags served, words and value as the reply has them (a value of 0 for none), and then answer and value
+ * once more, asked of the copy when the harmed bytes have been put back: the question has left the others as they were. Count and
+ * running task are not printed: a harmed record may have any.
+ */
+#ifndef HOST_HARMED_H
+#define HOST_HARMED_H
+
+#include <stdbool.h>
+
+#include "algolmallet.h"
+#include "script.h"
+
+/* Runs a line with the verb H and prints its answer; false, with nothing done, if it is none. */
+bool run_harmed_call(const algolmallet_record *record, const struct script_line *line);
+
+#endif

@@ -1,0 +1,19 @@
+/*
+ * The panel's lines, for what was asked for after the bench runner's script:
+ *
+ *   V     "When does the bench next wake someone?" (request L4)
+ *
+ * It prints what the other calls print and then, if a task waits on time, the lowest waking count of those that do.
+ */
+#ifndef HOST_PANEL_H
+#define HOST_PANEL_H
+
+#include <stdbool.h>
+
+#include "algolmallet.h"
+#include "script.h"
+
+/* Runs a line with the verb V and prints its answer; false, with nothing done, if it is none. */
+bool run_panel_call(algolmallet_record *record, const struct script_line *line);
+
+#endif
