@@ -1,6 +1,6 @@
-"""A bench morning as it was run: the script's lines beside the runner's answers. What the table and the picture share.
+"""A bench morning as it was run: the script's lines beside the answers of the runner or the panel. What the table and the picture share.
 
-A rig and a script are those of `./bench --help`; the answers are what the runner printed for them.
+A rig and a script are those of `./bench --help` and `./bench --panel --help`; the answers are what was printed for them.
 """
 import collections
 import sys
@@ -24,9 +24,13 @@ CALLS = {
     "N": "unlatched %s=%s",
     "G": "signal %s=%s",
     "Q": "read flag %s",
+    "V": "next waking",
 }
 
 NOT_A_CALL = "?"
+
+OF_VALUES = "QV"  # verbs that ask, and are answered by one number
+NO_VALUE = {"V": "none"}  # how it is told that an accepted question was answered by no number
 
 OF_TASKS = "SXZ"
 OF_COUNTS = "UR"
@@ -66,8 +70,9 @@ REFUSED_RIGS = {
 
 TOO_LONG = "the rig is longer than 40,960 bytes"
 
-# One line of the script and its answer. `caller` ran before it, `running` runs after it; 0 is no task. A line that is
-# none has no count of its own: it shows that of the line before.
+# One line of the script and its answer. `caller` ran before it, `running` runs after it; 0 is no task. `value` is what a
+# question was answered by, as text, None for all other lines. A line that is none has no count of its own: it shows that
+# of the line before.
 Step = collections.namedtuple("Step", "number verb call refusal why count caller running words value")
 
 Task = collections.namedtuple("Task", "number priority privileged")
@@ -121,13 +126,19 @@ def wrong_step(number, line, before):
     return Step(number, NOT_A_CALL, shown(line), 1, why_of(NOT_A_CALL, 1), before.count, before.running, before.running, [], None)
 
 
+def value_of(verb, refusal, numbers):
+    if verb not in OF_VALUES or refusal != 0:
+        return None
+    return str(numbers[0]) if numbers else NO_VALUE.get(verb)
+
+
 def called_step(number, line, fields, before):
     verb, numbers = fields[0], [int(f) for f in fields[1:]]
     refusal, count, running = numbers[:3]
     rest = numbers[WORD_COLUMN - 1 :]
     call = CALLS[verb] % tuple(line.decode("ascii").split("\t")[1:])
     words = rest if verb == "K" else []
-    value = rest[0] if verb == "Q" and rest else None
+    value = value_of(verb, refusal, rest)
     return Step(number, verb, call, refusal, why_of(verb, refusal), count, before.running, running, words, value)
 
 
@@ -191,7 +202,7 @@ def put(text):
 def run_tool(name, write):
     """A tool's main: write(morning, title) makes the text; status 1 for a refused rig or a failure."""
     if len(sys.argv) != 4:
-        print("usage: %s INPUT OUTPUT TITLE     what the runner was given and printed" % name, file=sys.stderr)
+        print("usage: %s INPUT OUTPUT TITLE     what the runner or the panel was given and printed" % name, file=sys.stderr)
         return 2
     try:
         morning = read_morning(sys.argv[1], sys.argv[2])

@@ -106,7 +106,7 @@ def label_of(step):
         return ""
     if step.verb == NOT_A_CALL:
         return NOT_A_CALL
-    told = step.call if step.value is None else "%s: %d" % (step.call, step.value)
+    told = step.call if step.value is None else "%s: %s" % (step.call, step.value)
     return told if step.refusal == 0 else "%s (%d)" % (told, step.refusal)
 
 

@@ -16,7 +16,7 @@ def answer_of(step):
 def word_rows(step):
     """The last column: a value, or the bus words, some on a row."""
     if step.value is not None:
-        return [str(step.value)]
+        return [step.value]
     words = [hex_word(w) for w in step.words]
     rows = [" ".join(words[i : i + WORDS_A_ROW]) for i in range(0, len(words), WORDS_A_ROW)]
     return rows or [""]

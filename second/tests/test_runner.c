@@ -157,30 +157,30 @@ static bool load(const char *path, text *out)
     return true;
 }
 
-static void check_example(const char *name)
+static void check_example(enum run_mode mode, const char *folder, const char *name)
 {
-    char path[512];
+    char path[1024];
     text in = {NULL, 0, 0}, want = {NULL, 0, 0}, got = {NULL, 0, 0};
-    snprintf(path, sizeof path, "%s/%s.rig", rigs_folder, name);
+    snprintf(path, sizeof path, "%s/%s.rig", folder, name);
     CHECK(load(path, &in));
-    snprintf(path, sizeof path, "%s/%s.out", rigs_folder, name);
+    snprintf(path, sizeof path, "%s/%s.out", folder, name);
     CHECK(load(path, &want));
     text_add(&want, "", 1);
-    run_bytes(MODE_RUN, in.bytes, in.length, &got);
+    run_bytes(mode, in.bytes, in.length, &got);
     check_text(&got, (const char *)want.bytes, name, __FILE__, __LINE__);
     text_free(&in);
     text_free(&want);
     text_free(&got);
 }
 
-/* Every example of rigs/ has the output kept beside it. */
-static void example_rigs(void)
+/* Every example of a folder has the output kept beside it; answers how many there are. */
+static unsigned check_examples(enum run_mode mode, const char *path)
 {
-    DIR *folder = opendir(rigs_folder);
+    DIR *folder = opendir(path);
     unsigned found = 0;
     CHECK(folder != NULL);
     if (folder == NULL)
-        return;
+        return 0;
     for (struct dirent *d; (d = readdir(folder)) != NULL;) {
         char name[256];
         snprintf(name, sizeof name, "%s", d->d_name);
@@ -188,11 +188,21 @@ static void example_rigs(void)
         if (end == NULL || strcmp(end, ".rig") != 0)
             continue;
         *end = 0;
-        check_example(name);
+        check_example(mode, path, name);
         found++;
     }
     closedir(folder);
-    CHECK(found >= 4);
+    return found;
+}
+
+/* The panel prints what the runner prints where its verbs are not used. */
+static void example_rigs(void)
+{
+    char panel[512];
+    snprintf(panel, sizeof panel, "%s/panel", rigs_folder);
+    CHECK(check_examples(MODE_RUN, rigs_folder) >= 4);
+    CHECK(check_examples(MODE_PANEL, rigs_folder) >= 4);
+    CHECK(check_examples(MODE_PANEL, panel) >= 1);
 }
 
 void runner_tests(void)

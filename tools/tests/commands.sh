@@ -5,6 +5,7 @@ set -u
 cd "$(dirname "$0")/../.." || exit 2
 . tools/kit.sh
 build runner
+build panel
 build rigcheck
 make -s -C second all tools
 room=$(mktemp -d)
@@ -43,6 +44,9 @@ helps() {
         expect 0 '^Exit status\|^Every number' "$command" --help
         expect 0 "^usage: $command" "$command" -h
     done
+    expect 0 '^Panel:   V ' ./bench --panel --help
+    expect 0 '^Panel:   V ' ./bench --help --panel
+    expect_in 0 '^0$' './bench --help | grep -c "^Panel:" || true'
     for command in second/build/compare second/build/gen second/build/runner; do
         expect 0 "^usage: ${command##*/}" "$command" --help
     done
@@ -58,6 +62,12 @@ runs() {
     expect 0 "^S${tab}8${tab}0${tab}1$" ./bench rigs/refusals.rig
     expect 1 "^START${tab}3${tab}6$" ./bench rigs/broken/order.rig
     expect_in 1 "^START${tab}1${tab}1$" './bench < /dev/null'
+    expect 0 "^V${tab}0${tab}0${tab}0${tab}3$" ./bench --panel rigs/panel/waking.rig
+    expect_in 0 "^V${tab}0${tab}5${tab}1$" './bench --panel < rigs/panel/waking.rig'
+    expect_in 0 '^0$' './bench rigs/panel/waking.rig | grep -c "^V" || true'
+    expect_in 0 '^same$' 'cmp <(./bench --panel rigs/morning.rig) rigs/morning.out && echo same'
+    expect 0 'next waking  *accepted  *0  *none  *3$' ./bench --table --panel rigs/panel/waking.rig
+    expect 1 "^START${tab}3${tab}6$" ./bench --panel rigs/broken/order.rig
     expect 0 '^right' ./rigcheck rigs/morning-rig.rig
     expect_in 0 '^right' './rigcheck < rigs/morning-rig.rig'
     expect 1 '^refused' ./rigcheck rigs/broken/order.rig
@@ -89,8 +99,12 @@ numbers() {
     expect 2 '^usage: compare' second/build/compare --most 0 second/build/runner
     expect 2 '^usage: compare' second/build/compare --only none second/build/runner
     expect 2 '^usage: compare' second/build/compare --only entries second/build/runner
+    expect 2 '^usage: compare' second/build/compare --only panel second/build/runner
+    expect 2 '^usage: compare' second/build/compare --only inputs -
     expect 2 '^usage: runner' second/build/runner --none
-    expect 0 '3 inputs, 0 different' second/build/compare second/build/runner 7 1
+    expect 0 '4 inputs, 0 different' second/build/compare second/build/runner 7 1
+    expect 0 '1 inputs, 0 different' second/build/compare --only panel --panel 'second/build/runner --panel' - 7 1
+    expect_in 1 '1 inputs, 1 different' 'second/build/compare --keep '"'$room'"' --only panel --panel second/build/runner - 7 1'
     expect 2 '^usage: ./perf' ./perf none
     expect 2 '^usage: ./perf' ./perf growth 5
 }
@@ -111,6 +125,11 @@ helps
 runs
 misused ./bench
 misused ./rigcheck
+expect 2 'there is no file rigs/none.rig' ./bench --panel rigs/none.rig
+expect 2 'there is no option --none' ./bench --panel --none
+expect 2 'one file is taken, not 2' ./bench --panel rigs/morning.rig --table
+expect 2 'one of --table and --picture is taken' ./bench --table --panel --picture rigs/morning.rig
+expect_in 1 'No space left on device' './bench --panel rigs/morning-rig.rig >/dev/full'
 expect 2 '^usage: ./bench FILE' ./bench --table rigs/none.rig
 expect 2 '^usage: ./bench FILE' ./bench --picture rigs/morning.rig rigs/family.rig
 numbers

@@ -1,11 +1,13 @@
 #!/usr/bin/env python3
 """How a bench runner reads and writes: answers as lines come, writes that block or fail, reads that are late or fail.
 
-usage: tools/tests/streams.py [--patience SECONDS] COMMAND [WORD ...]
+usage: tools/tests/streams.py [--patience SECONDS] [--panel] COMMAND [WORD ...]
 
 COMMAND reads a rig, the line RUN and a script from standard input and prints the answers (target/bin/runner, the example
-host, ./bench); it gets so many seconds for each answer, 30 if not given. A failure must be told on standard error; a run that goes well prints nothing there. One line for each
-test; the last line is `streams: N passed, M failed`. Exit status 0 if all passed, 1 if one failed, 2 for misuse.
+host, ./bench); it gets so many seconds for each answer, 30 if not given. With --panel it answers the panel's verbs too, as
+target/bin/panel does; without, it must not. A failure must be told on standard error; a run that goes well prints nothing
+there. One line for each test; the last line is `streams: N passed, M failed`. Exit status 0 if all passed, 1 if one failed,
+2 for misuse.
 """
 import contextlib
 import fcntl
@@ -40,6 +42,12 @@ class Patience:
     """How long a program may take for one answer, or to end."""
 
     seconds = 30
+
+
+class Verbs:
+    """Whether the program answers the panel's."""
+
+    panel = False
 
 
 def tick(count):
@@ -171,6 +179,10 @@ def ask(to, come_from, line, right):
     must_be(receive(come_from, len(right)), right)
 
 
+def ask_panel(to, come_from, line, right):
+    ask(to, come_from, line, right if Verbs.panel else b"?\n")
+
+
 def must_be_silent(descriptor):
     if select.select([descriptor], [], [], LATE)[0]:
         raise Wrong("an answer came before its line ended: %r" % os.read(descriptor, PIECE))
@@ -189,6 +201,9 @@ def answers_come_as_lines_come(command):
         ask(there[1], back[0], b"Q\t1\n\nK\nQ", b"Q\t0\t30\t1\t0\n?\n" + tick(31))
         must_be_silent(back[0])
         ask(there[1], back[0], b"\t1\n", b"Q\t0\t31\t1\t0\n")
+        ask_panel(there[1], back[0], b"V\n", b"V\t0\t31\t1\n")
+        ask(there[1], back[0], b"U\t40\n", b"U\t0\t31\t0\n")
+        ask_panel(there[1], back[0], b"V\n", b"V\t0\t31\t0\t40\n")
         os.write(there[1], b"K")
         close(there, 1)
         must_be(receive_all(back[0]), b"?\n")
@@ -374,6 +389,9 @@ def main(command):
     if len(command) > 1 and command[0] == "--patience" and command[1].isdecimal():
         Patience.seconds = int(command[1])
         command = command[2:]
+    if command and command[0] == "--panel":
+        Verbs.panel = True
+        command = command[1:]
     if not command or command[0].startswith("-"):
         print(__doc__.strip(), file=sys.stderr)
         return 2
