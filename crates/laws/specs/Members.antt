@@ -1,7 +1,7 @@
 -- Who is in a list, lists in which no element comes twice, and lists that some have left.
 use mathlib.Core.Path.{_≡_}
 use mathlib.Core.Logic.{_⊎_}
-use mathlib.Core.Bool.{Bool, cond}
+use mathlib.Core.Bool.{Bool, false, cond, _||_}
 use mathlib.Core.List.{List, [], _∷_}
 use Prim.Native.Nat.{ℕ}
 use lib.Dec.{eqb}
@@ -10,6 +10,11 @@ use lib.Dec.{eqb}
 abbrev pub In : ℕ → List ℕ → Type 0
 In a [] = ⊥
 In a (y ∷ ys) = (a ≡ y) ⊎ In a ys
+
+-- the same as a test
+abbrev pub isIn : ℕ → List ℕ → Bool
+isIn a [] = false
+isIn a (y ∷ ys) = eqb a y || isIn a ys
 
 -- no element comes twice
 abbrev pub Distinct : List ℕ → Type 0

@@ -18,7 +18,8 @@ use Rattle.rules.specs.Waiting.{waitOn, waitUntilCount, leave, wakeDue}
 use Rattle.rules.specs.Family.{family, cleared, deserted, offs}
 use Rattle.rules.specs.Running.{best, chosen, dispatch}
 use Rattle.rules.specs.Bus.{written, copied, rowWords, busWords}
-use Rattle.rules.specs.Calls.{schedule, cancel, terminate, finish, tick, waitUntil, waitFor, latched, unlatched, signal, readFlag, readBlock, writeBlock}
+use Rattle.rules.specs.NextWaking.{lowestWaking}
+use Rattle.rules.specs.Calls.{schedule, cancel, terminate, finish, tick, waitUntil, waitFor, latched, unlatched, signal, readFlag, readBlock, writeBlock, nextWaking}
 use Rattle.rules.specs.Calls.{scheduled, finished, terminated, cancelled, cycleQueue, ticked, effect, decide, noSuch, inCycle, isMinor, isActivation, lastCount, wrongBlock, refusals, refusal, wordsAt, lent, output, accepted, after, step, run, started, start}
 use Rattle.rules.specs.Scripts.{TaskLine, MinorLine, T, C, A, M, B, ofTask, ofCondition, numbers, ofLine, ofCycle, rig, tick₀, startAt, seen, Case, shown, case, caseAt, bench, morningCalls}
 use Rattle.rules.specs.Scripts.{runs, answers, serves, writes, reads, lends, sends, stateIs, conditionIs, valueIs, waitFlag, waitTime, _and_}
@@ -672,6 +673,68 @@ the-last-block =
     lends
     (replicate 2079 5 ++ 0 ∷ 7 ∷ 8 ∷ replicate 30 5)
 
+-- ---- "When does the bench next wake someone?"
+
+-- nobody waits; then task 3 wakes first, who began neither first nor last; it is cancelled, then task 4 terminated, then task 2
+-- cancelled. Seen: the answer, the count that is told, who runs
+pub the-lowest-waking-count : Case
+the-lowest-waking-count =
+    case quad
+    (nextWaking ∷ schedule 2 ∷ waitUntil 9 ∷ schedule 3 ∷ waitUntil 5 ∷ schedule 4 ∷ waitUntil 7 ∷ nextWaking ∷ cancel 3 ∷ nextWaking ∷ terminate 4 ∷ nextWaking ∷ cancel 2 ∷ nextWaking ∷ [])
+    (answers and reads and runs)
+    (
+    0 ∷ 0 ∷ 1 ∷
+    0 ∷ 0 ∷ 2 ∷
+    0 ∷ 0 ∷ 1 ∷
+    0 ∷ 0 ∷ 3 ∷
+    0 ∷ 0 ∷ 1 ∷
+    0 ∷ 0 ∷ 4 ∷
+    0 ∷ 0 ∷ 1 ∷
+    0 ∷ 5 ∷ 1 ∷
+    0 ∷ 0 ∷ 1 ∷
+    0 ∷ 7 ∷ 1 ∷
+    0 ∷ 0 ∷ 1 ∷
+    0 ∷ 9 ∷ 1 ∷
+    0 ∷ 0 ∷ 1 ∷
+    0 ∷ 0 ∷ 1 ∷ []
+    )
+
+-- "No running task is needed": task 1 waits for the count 2 and nobody runs; at the tick that makes it, it wakes, and nobody waits
+pub asked-while-nobody-runs : Case
+asked-while-nobody-runs =
+    case lone
+    (waitUntil 2 ∷ nextWaking ∷ tick₀ ∷ nextWaking ∷ tick₀ ∷ nextWaking ∷ [])
+    (answers and reads and runs and stateIs 1)
+    (
+    0 ∷ 0 ∷ 0 ∷ 2 ∷
+    0 ∷ 2 ∷ 0 ∷ 2 ∷
+    0 ∷ 0 ∷ 0 ∷ 2 ∷
+    0 ∷ 2 ∷ 0 ∷ 2 ∷
+    0 ∷ 0 ∷ 1 ∷ 3 ∷
+    0 ∷ 0 ∷ 1 ∷ 3 ∷ []
+    )
+
+-- "tasks waiting on time": who waits on a flag is none of them, though it waited for a count before
+pub waiting-on-a-flag-is-not-on-time : Case
+waiting-on-a-flag-is-not-on-time =
+    case lone
+    (waitFor 1 ∷ tick₀ ∷ latched 1 1 ∷ nextWaking ∷ [])
+    (answers and reads and runs and stateIs 1)
+    (
+    0 ∷ 0 ∷ 0 ∷ 2 ∷
+    0 ∷ 0 ∷ 1 ∷ 3 ∷
+    0 ∷ 0 ∷ 0 ∷ 2 ∷
+    0 ∷ 0 ∷ 0 ∷ 2 ∷ []
+    )
+
+-- task 64 is asked too
+pub the-last-task-wakes : Case
+the-last-task-wakes =
+    case largest
+    (schedule 64 ∷ waitUntil 3 ∷ nextWaking ∷ [])
+    (reads and runs)
+    (0 ∷ 64 ∷ 0 ∷ 1 ∷ 3 ∷ 1 ∷ [])
+
 -- ---- refusals: the smallest number, and nothing is written
 
 -- nobody runs: every call but the tick, whatever else is wrong with it
@@ -837,6 +900,10 @@ pub cases-hold :
     × Holds the-last-flag
     × Holds the-last-row
     × Holds the-last-block
+    × Holds the-lowest-waking-count
+    × Holds asked-while-nobody-runs
+    × Holds waiting-on-a-flag-is-not-on-time
+    × Holds the-last-task-wakes
     × Holds refused-5-first
     × Holds refused-6-no-such
     × Holds refused-7-not-the-controller
@@ -848,5 +915,5 @@ pub cases-hold :
     × Holds refused-9-last-tick
     × Holds refused-10-tick
     × Holds refused-10-area
-unfolding tasksFrom flagsFrom largest lone pair quad line remembering forgetting asking bench morningCalls rows stopped-and-started thirty-two-is-written-as-zero equal-rank-takes-nothing phase-against-the-count-after-the-tick cancel-strikes-every-descendant cancel-strikes-grandchildren unlatched-waits-for-the-next-service latched-conditions-remember conditions-are-driven-while-the-task-runs conditions-are-driven-while-the-task-waits schedule-relaxes undesired-of-off-is-on position-fifteen-counts no-line-no-condition activation-relaxes tested-on-schedule-and-service-only who-is-active-is-not-activated only-its-own-flags-activate-a-task all-conditions-as-desired one-condition-of-two-flags finish-wakes-who-waits-for-the-off finish-leaves-the-conditions terminate-takes-out-of-a-flag-chain terminate-takes-out-of-the-time-chain terminate-leaves-the-conditions cancel-touches-no-condition cancel-leaves-unlatched-conditions cancel-queues-off-for-the-active-only cancel-serves-the-highest-off-first last-queued-first activation-by-rising-number only-the-value-waited-for-wakes all-who-wait-wake served-numbers wait-until-a-count wait-for-cycles no-wait-at-or-below-the-count latched-wait-takes-the-value-there time-chain-in-order flag-chains-in-order cycle-of-the-count start-schedules-task-1 higher-rank-takes-the-processor lowest-number-first stayed-throughout privileged-above-all-others privileged-above-the-highest-priority rows-in-order due-at-its-phase due-at-the-last-phase write-touches-no-other-word read-copies-the-data the-last-task the-last-task-is-activated the-last-flag the-last-row the-last-block refused-5-first refused-6-no-such refused-7-not-the-controller refused-7-flags refused-8-states refused-8-active refused-9-waking-count refused-9-waking-sum refused-9-last-tick refused-10-tick refused-10-area ofTask ofCondition numbers ofLine ofCycle rig tick₀ startAt seen shown runs answers serves writes reads lends sends stateIs conditionIs valueIs waitFlag waitTime _and_ iter all any total over put commandWord blank relax met drive names activate takes rouse wake ready offer offers serveFlag serving serve waitOn waitUntilCount leave wakeDue family cleared deserted offs best chosen dispatch written copied rowWords busWords scheduled finished terminated cancelled cycleQueue ticked effect decide noSuch inCycle isMinor isActivation lastCount wrongBlock refusals refusal wordsAt lent output accepted after step run started start
-cases-hold = (refl, refl, refl, refl, refl, refl, refl, refl, refl, refl, refl, refl, refl, refl, refl, refl, refl, refl, refl, refl, refl, refl, refl, refl, refl, refl, refl, refl, refl, refl, refl, refl, refl, refl, refl, refl, refl, refl, refl, refl, refl, refl, refl, refl, refl, refl, refl, refl, refl, refl, refl, refl, refl, refl, refl, refl, refl, refl, refl, refl, refl, refl, refl, refl, refl, refl, refl, refl)
+unfolding tasksFrom flagsFrom largest lone pair quad line remembering forgetting asking bench morningCalls rows stopped-and-started thirty-two-is-written-as-zero equal-rank-takes-nothing phase-against-the-count-after-the-tick cancel-strikes-every-descendant cancel-strikes-grandchildren unlatched-waits-for-the-next-service latched-conditions-remember conditions-are-driven-while-the-task-runs conditions-are-driven-while-the-task-waits schedule-relaxes undesired-of-off-is-on position-fifteen-counts no-line-no-condition activation-relaxes tested-on-schedule-and-service-only who-is-active-is-not-activated only-its-own-flags-activate-a-task all-conditions-as-desired one-condition-of-two-flags finish-wakes-who-waits-for-the-off finish-leaves-the-conditions terminate-takes-out-of-a-flag-chain terminate-takes-out-of-the-time-chain terminate-leaves-the-conditions cancel-touches-no-condition cancel-leaves-unlatched-conditions cancel-queues-off-for-the-active-only cancel-serves-the-highest-off-first last-queued-first activation-by-rising-number only-the-value-waited-for-wakes all-who-wait-wake served-numbers wait-until-a-count wait-for-cycles no-wait-at-or-below-the-count latched-wait-takes-the-value-there time-chain-in-order flag-chains-in-order cycle-of-the-count start-schedules-task-1 higher-rank-takes-the-processor lowest-number-first stayed-throughout privileged-above-all-others privileged-above-the-highest-priority rows-in-order due-at-its-phase due-at-the-last-phase write-touches-no-other-word read-copies-the-data the-last-task the-last-task-is-activated the-last-flag the-last-row the-last-block the-lowest-waking-count asked-while-nobody-runs waiting-on-a-flag-is-not-on-time the-last-task-wakes lowestWaking refused-5-first refused-6-no-such refused-7-not-the-controller refused-7-flags refused-8-states refused-8-active refused-9-waking-count refused-9-waking-sum refused-9-last-tick refused-10-tick refused-10-area ofTask ofCondition numbers ofLine ofCycle rig tick₀ startAt seen shown runs answers serves writes reads lends sends stateIs conditionIs valueIs waitFlag waitTime _and_ iter all any total over put commandWord blank relax met drive names activate takes rouse wake ready offer offers serveFlag serving serve waitOn waitUntilCount leave wakeDue family cleared deserted offs best chosen dispatch written copied rowWords busWords scheduled finished terminated cancelled cycleQueue ticked effect decide noSuch inCycle isMinor isActivation lastCount wrongBlock refusals refusal wordsAt lent output accepted after step run started start
+cases-hold = (refl, refl, refl, refl, refl, refl, refl, refl, refl, refl, refl, refl, refl, refl, refl, refl, refl, refl, refl, refl, refl, refl, refl, refl, refl, refl, refl, refl, refl, refl, refl, refl, refl, refl, refl, refl, refl, refl, refl, refl, refl, refl, refl, refl, refl, refl, refl, refl, refl, refl, refl, refl, refl, refl, refl, refl, refl, refl, refl, refl, refl, refl, refl, refl, refl, refl, refl, refl, refl, refl, refl, refl)

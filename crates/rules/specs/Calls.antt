@@ -16,9 +16,12 @@ use Rattle.rules.specs.Waiting.{waitOn, waitUntilCount, leave, wakeDue}
 use Rattle.rules.specs.Family.{family, cleared, deserted, offs}
 use Rattle.rules.specs.Running.{dispatch}
 use Rattle.rules.specs.Bus.{areaWords, blockWords, written, copied, busWords}
+use Rattle.rules.specs.NextWaking.{lowestWaking}
 
--- Every call that the paper has on a record. A value is 0 or 1; a list is what a lent buffer holds.
+-- Every call that the paper has on a record, and the questions that customers asked for later. A value is 0 or 1; a list is what a
+-- lent buffer holds.
 --   tick: its buffer; readBlock, writeBlock: row, area, the caller's buffer
+--   nextWaking: "When does the bench next wake someone?"
 pub data Call : Type 0 where
   schedule cancel terminate : ℕ → Call
   finish : Call
@@ -27,6 +30,7 @@ pub data Call : Type 0 where
   latched unlatched signal : ℕ → ℕ → Call
   readFlag : ℕ → Call
   readBlock writeBlock : ℕ → List ℕ → List ℕ → Call
+  nextWaking : Call
 
 -- ---- what each call does before its queue is served
 
@@ -99,6 +103,7 @@ effect r s (signal f v) = record { now = s; queue = push f v [] }
 effect r s (readFlag f) = quiet s
 effect r s (readBlock k area buffer) = quiet s
 effect r s (writeBlock k area buffer) = quiet s
+effect r s nextWaking = quiet s
 
 -- ---- what each call refuses
 
@@ -191,13 +196,16 @@ refusals r s (readBlock k area buffer) =
     row 5 (nobodyRuns s) ∷ row 6 (noSuch (r .rows) k) ∷ row 10 (wrongBlock r k area buffer) ∷ []
 refusals r s (writeBlock k area buffer) =
     row 5 (nobodyRuns s) ∷ row 6 (noSuch (r .rows) k) ∷ row 10 (wrongBlock r k area buffer) ∷ []
+-- "No running task is needed. Refusals: 12 alone."
+refusals r s nextWaking = []
 
 unfoldable pub refusal : Rig → State → Call → ℕ
 refusal r s k = decide (refusals r s k)
 
 -- ---- what each call answers and writes
 
--- served: "the number of flags it served"; words: how many bus words a tick wrote; value: of the flag that was read
+-- served: "the number of flags it served"; words: how many bus words a tick wrote; value: of the flag that was read, or the number
+-- that a question is answered by
 pub record Report : Type 0 where
   pub served : ℕ
   pub words : ℕ
@@ -230,9 +238,10 @@ lent (signal f v) = []
 lent (readFlag f) = []
 lent (readBlock k area buffer) = buffer
 lent (writeBlock k area buffer) = area
+lent nextWaking = []
 
--- what an accepted call that left state s puts out beside the flags it served: how many bus words, the flag's value, and
--- what the lent buffer holds after it
+-- what an accepted call that left state s puts out beside the flags it served: how many bus words, the flag's value or a question's
+-- answer, and what the lent buffer holds after it
 pub record Output : Type 0 where
   pub words : ℕ
   pub value : ℕ
@@ -257,6 +266,8 @@ output r s (signal f v) = silent
 output r s (readFlag f) = record { words = 0; value = valueOf s f; lent = [] }
 output r s (readBlock k area buffer) = record { words = 0; value = 0; lent = copied k area buffer }
 output r s (writeBlock k area buffer) = record { words = 0; value = 0; lent = written (s .count) k area buffer }
+-- "the lowest waking count among tasks waiting on time", 0 for none
+output r s nextWaking = record { words = 0; value = lowestWaking s; lent = [] }
 
 -- ---- a step, a run, the start
 

@@ -19,7 +19,7 @@ use Rattle.rules.specs.Waiting.{waitOn, waitUntilCount, leave, wakeDue}
 use Rattle.rules.specs.Family.{family, cleared, deserted, offs}
 use Rattle.rules.specs.Running.{best, chosen, dispatch}
 use Rattle.rules.specs.Bus.{written, copied, rowWords, busWords}
-use Rattle.rules.specs.Calls.{Call, schedule, cancel, terminate, finish, tick, waitUntil, waitFor, latched, unlatched, signal, readFlag, readBlock, writeBlock, Step}
+use Rattle.rules.specs.Calls.{Call, schedule, cancel, terminate, finish, tick, waitUntil, waitFor, latched, unlatched, signal, readFlag, readBlock, writeBlock, nextWaking, Step}
 use Rattle.rules.specs.Calls.{scheduled, finished, terminated, cancelled, cycleQueue, ticked, effect, decide, noSuch, inCycle, isMinor, isActivation, lastCount, wrongBlock, refusals, refusal, wordsAt, lent, output, accepted, after, step, run, started, start}
 use Rattle.rules.specs.Scripts.{ofTask, ofCondition, numbers, ofLine, ofCycle, rig, tick₀, bench, morningCalls}
 
@@ -27,7 +27,7 @@ use Rattle.rules.specs.Scripts.{ofTask, ofCondition, numbers, ofLine, of
 
 -- a printed line: the verb and the numbers behind it; the runner has no verb for a block
 pub data Line : Type 0 where
-  START S X Z F K U R L N G Q block : List ℕ → Line
+  START S X Z F K U R L N G Q «V» block : List ℕ → Line
 
 verb : Call → List ℕ → Line
 verb (schedule t) = S
@@ -43,6 +43,7 @@ verb (signal f v) = G
 verb (readFlag f) = Q
 verb (readBlock k area buffer) = block
 verb (writeBlock k area buffer) = block
+verb nextWaking = «V»
 
 -- "bus words or the flag's value"
 told : Call → Step → List ℕ
@@ -59,6 +60,7 @@ told (signal f v) p = []
 told (readFlag f) p = p .answer .report .value ∷ []
 told (readBlock k area buffer) p = []
 told (writeBlock k area buffer) p = []
+told nextWaking p = cond (eqb (p .answer .report .value) 0) [] (p .answer .report .value ∷ [])
 
 line : Call → Step → Line
 line k p = verb k (p .answer .code ∷ p .next .count ∷ p .next .running ∷ cond (eqb (p .answer .code) 0) (told k p) [])

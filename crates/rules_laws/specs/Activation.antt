@@ -25,7 +25,7 @@ use Rattle.rules.specs.Serving.{activate, takes, wake, ready, serveFlag, servin
 use Rattle.rules.specs.Waiting.{waitOn, waitUntilCount, isDue, wakeDue}
 use Rattle.rules.specs.Family.{family, isMarked, cleared}
 use Rattle.rules.specs.Running.{dispatch}
-use Rattle.rules.specs.Calls.{Call, schedule, cancel, terminate, finish, tick, waitUntil, waitFor, latched, unlatched, signal, readFlag, readBlock, writeBlock}
+use Rattle.rules.specs.Calls.{Call, schedule, cancel, terminate, finish, tick, waitUntil, waitFor, latched, unlatched, signal, readFlag, readBlock, writeBlock, nextWaking}
 use Rattle.rules.specs.Calls.{scheduled, finished, terminated, cancelled, ticked, quiet, effect, refusal, refusals, accepted, Step, step}
 use Rattle.rules.specs.Proper.{Proper}
 use Rattle.rules.specs.Soundness.{Sound}
@@ -208,6 +208,7 @@ module _ (r : Rig) (s : State) (h : Sound r s) (t : ℕ) (i : active (stateOf s 
   effect-activates (readFlag f) e = inl i
   effect-activates (readBlock k area buffer) e = inl i
   effect-activates (writeBlock k area buffer) e = inl i
+  effect-activates nextWaking e = inl i
 
 -- ---- THE THEOREM
 

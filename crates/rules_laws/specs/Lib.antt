@@ -16,6 +16,7 @@ pub mod Steps
 pub mod InOrder
 pub mod Waking
 pub mod WakingLaws
+pub mod NextWaking
 pub mod BenchRig
 pub mod BenchWaits
 pub mod Bound

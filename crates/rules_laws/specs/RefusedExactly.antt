@@ -13,7 +13,7 @@ use Rattle.laws.specs.Laws.Decides.{is-eqb, is-leb, is-ltb, is-not, is-or, is-a
 use Rattle.rules.specs.Rig.{Rig}
 use Rattle.rules.specs.State.{State, stateOf, active}
 use Rattle.rules.specs.Bus.{areaWords, blockWords}
-use Rattle.rules.specs.Calls.{Call, schedule, cancel, terminate, finish, tick, waitUntil, waitFor, latched, unlatched, signal, readFlag, readBlock, writeBlock}
+use Rattle.rules.specs.Calls.{Call, schedule, cancel, terminate, finish, tick, waitUntil, waitFor, latched, unlatched, signal, readFlag, readBlock, writeBlock, nextWaking}
 use Rattle.rules.specs.Calls.{row, decide, refusals, refusal, nobodyRuns, noSuch, notController, isUninvoked, isInvoked, notActive, inCycle, isMinor, isActivation, notPlain, lastCount, wrongBlock}
 use Rattle.rules.specs.Reasons.{Reasons, NoSuch, MinorCycleFlag, ActivationFlag, reasons, naming, flagging, waking, blocking, Exactly}
 
@@ -187,3 +187,4 @@ module _ (r : Rig) (s : State) where
   refused-exactly (readFlag f) = flagging-is f (isMinor (r .minor) f) (MinorCycleFlag r f) (is-minor r f)
   refused-exactly (readBlock k area buffer) = blocking-is k area buffer
   refused-exactly (writeBlock k area buffer) = blocking-is k area buffer
+  refused-exactly nextWaking = exactly false false false false false false (reasons r s nextWaking) none none none none none none

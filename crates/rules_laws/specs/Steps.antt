@@ -17,7 +17,7 @@ use Rattle.rules.specs.Conditions.{met, relax}
 use Rattle.rules.specs.Serving.{activate, serve}
 use Rattle.rules.specs.Waiting.{waitOn, waitUntilCount, wakeDue}
 use Rattle.rules.specs.Running.{dispatch}
-use Rattle.rules.specs.Calls.{Call, schedule, cancel, terminate, finish, tick, waitUntil, waitFor, latched, unlatched, signal, readFlag, readBlock, writeBlock}
+use Rattle.rules.specs.Calls.{Call, schedule, cancel, terminate, finish, tick, waitUntil, waitFor, latched, unlatched, signal, readFlag, readBlock, writeBlock, nextWaking}
 use Rattle.rules.specs.Calls.{scheduled, finished, terminated, cancelled, ticked, quiet, effect, refusals, refusal, isInvoked, notActive, isMinor, isActivation, notPlain, lastCount, accepted, after, step, run, started, start}
 use Rattle.rules.specs.Proper.{Proper, ProperRun}
 use Rattle.rules.specs.Soundness.{Sound}
@@ -102,6 +102,7 @@ module _ (r : Rig) (ok : RigOk r) (s : State) (h : Sound r s) where
   effect-ready (readFlag f) p e = quiet-ready r s good
   effect-ready (readBlock k area buffer) p e = quiet-ready r s good
   effect-ready (writeBlock k area buffer) p e = quiet-ready r s good
+  effect-ready nextWaking p e = quiet-ready r s good
 
   -- the count rises in a tick alone, and not past the last
   until-count : (b : Bool) (x : State) → x .count ≡ s .count → (cond b s x) .count ≤ lastCount
@@ -130,6 +131,7 @@ module _ (r : Rig) (ok : RigOk r) (s : State) (h : Sound r s) where
   effect-range (readFlag f) e = h .range
   effect-range (readBlock k area buffer) e = h .range
   effect-range (writeBlock k area buffer) e = h .range
+  effect-range nextWaking e = h .range
 
 -- ---- every step, every run
 

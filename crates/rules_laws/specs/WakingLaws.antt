@@ -23,7 +23,7 @@ use Rattle.rules.specs.Serving.{activate, takes, wake, serve}
 use Rattle.rules.specs.Waiting.{waitOn, waitUntilCount, leave, isDue, wakeDue}
 use Rattle.rules.specs.Family.{Under, family, isMarked}
 use Rattle.rules.specs.Running.{dispatch}
-use Rattle.rules.specs.Calls.{Call, schedule, cancel, terminate, finish, tick, waitUntil, waitFor, latched, unlatched, signal, readFlag, readBlock, writeBlock}
+use Rattle.rules.specs.Calls.{Call, schedule, cancel, terminate, finish, tick, waitUntil, waitFor, latched, unlatched, signal, readFlag, readBlock, writeBlock, nextWaking}
 use Rattle.rules.specs.Calls.{scheduled, finished, terminated, cancelled, ticked, effect, isUninvoked, lastCount, decide, refusal, refusals, accepted, after, step, run, start}
 use Rattle.rules.specs.Proper.{Proper, ProperRun}
 use Rattle.rules.specs.Soundness.{Sound}
@@ -206,6 +206,7 @@ module _ (r : Rig) (ok : RigOk r) (s : State) (sound : Sound r s) (t c : ℕ) (m
   effect-next (readFlag f) e n = here
   effect-next (readBlock k area buffer) e n = here
   effect-next (writeBlock k area buffer) e n = here
+  effect-next nextWaking e n = here
 
   -- THE ONE-STEP LAW
   pub step-next : (k : Call) → (Struck r s k t → ⊥) → Next t c (step r s k .next)
@@ -248,6 +249,7 @@ effect-count r s (signal f v) = le-refl _
 effect-count r s (readFlag f) = le-refl _
 effect-count r s (readBlock k area buffer) = le-refl _
 effect-count r s (writeBlock k area buffer) = le-refl _
+effect-count r s nextWaking = le-refl _
 
 accepted-count : (r : Rig) (s : State) (k : Call) → accepted r s k .next .count ≡ effect r s k .now .count
 unfolding accepted dispatch
@@ -325,11 +327,11 @@ begun-flag true f v c e = let z : _≡_ {A = ℕ} 0 1 = cc in omega arith
 begun-flag false f v c e = let z : _≡_ {A = ℕ} 0 1 = cc in omega arith
 
 -- what is known of an accepted call that begins a wait for the count c
-record Begun (r : Rig) (s : State) (k : Call) (c : ℕ) : Type 0 where
-  runs : s .running ≢ 0
-  ahead : s .count < c
-  top : c ≤ lastCount
-  now : effect r s k .now ≡ waitUntilCount s c
+pub record Begun (r : Rig) (s : State) (k : Call) (c : ℕ) : Type 0 where
+  pub runs : s .running ≢ 0
+  pub ahead : s .count < c
+  pub top : c ≤ lastCount
+  pub now : effect r s k .now ≡ waitUntilCount s c
 
 -- x is the count that the call gives
 begun-wait : (r : Rig) (s : State) (k : Call) (x c : ℕ) → s .running ≢ 0 → ltb lastCount x ≡ false
@@ -346,7 +348,7 @@ begun-wait r s k x c n top e b =
 nothing-begun : (c : ℕ) → nothing ≡ untilCount c → ⊥
 nothing-begun c e = true≢false (begun true 0 c e .0)
 
-begun-is : (r : Rig) (s : State) (k : Call) (c : ℕ) → refusal r s k ≡ 0 → begins s k ≡ untilCount c → Begun r s k c
+pub begun-is : (r : Rig) (s : State) (k : Call) (c : ℕ) → refusal r s k ≡ 0 → begins s k ≡ untilCount c → Begun r s k c
 unfolding begins effect refusal refusals
 begun-is r s (schedule t) c e b = absurd (nothing-begun c b)
 begun-is r s (cancel t) c e b = absurd (nothing-begun c b)
@@ -365,6 +367,7 @@ begun-is r s (signal f v) c e b = absurd (nothing-begun c b)
 begun-is r s (readFlag f) c e b = absurd (nothing-begun c b)
 begun-is r s (readBlock k area buffer) c e b = absurd (nothing-begun c b)
 begun-is r s (writeBlock k area buffer) c e b = absurd (nothing-begun c b)
+begun-is r s nextWaking c e b = absurd (nothing-begun c b)
 
 module _ (r : Rig) (ok : RigOk r) where
   -- then the running task is in the time chain for it

@@ -2,6 +2,7 @@
 use mathlib.Core.Path.{_≡_, refl, sym, _∙_}
 use mathlib.Core.Logic.{_⊎_, inl, inr, ⊎-elim}
 use mathlib.Core.Bool.{Bool, true, false, not, cond, _&&_, _||_, false≢true}
+use mathlib.Core.List.{List, [], _∷_}
 use Prim.Native.Nat.{ℕ, _≤_, _<_}
 use lib.Dec.{eqb, leb, ltb}
 use borrow.Author.Tests.{eq-eqb, eqb-true, leb-true, le-leb, ltb-true, lt-ltb}
@@ -10,6 +11,7 @@ use Rattle.laws.specs.All.{all}
 use Rattle.laws.specs.Laws.All.{all-at, all-all, and-left, and-right}
 use Rattle.laws.specs.Any.{any}
 use Rattle.laws.specs.Laws.Any.{any-at, any-some}
+use Rattle.laws.specs.Members.{In, isIn}
 use Rattle.laws.specs.Decides.{Is}
 
 pub is-eqb : (a b : ℕ) → Is (eqb a b) (a ≡ b)
@@ -87,6 +89,10 @@ is-all n {p} h = ((λ e k l. h k l .0 (all-at n p e k l)), (λ f. all-all n p (�
 pub is-any : (n : ℕ) {p : ℕ → Bool} {P : ℕ → Type 0} → ((k : ℕ) → k < n → Is (p k) (P k)) → Is (any n p) ((k : ℕ) × (k < n) × P k)
 is-any n {p} h =
     ((λ e. let w = any-some n p e in (w .0, w .1, h (w .0) (w .1) .0 (w .2))), (λ w. any-at n p (w .0) (w .1) (h (w .0) (w .1) .1 (w .2))))
+
+pub is-in : (a : ℕ) (l : List ℕ) → Is (isIn a l) (In a l)
+is-in a [] = ((λ e. false≢true e), (λ z. absurd z))
+is-in a (y ∷ ys) = is-or (is-eqb a y) (is-in a ys)
 
 -- one statement in other words
 pub is-said : {b : Bool} {P Q : Type 0} → Is b P → (P → Q) → (Q → P) → Is b Q
