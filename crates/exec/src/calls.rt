@@ -136,4 +136,14 @@ impl Exec {
         let st = self.st;
         self.after(exec_bus::write_block(rig, cycles, st, k, area, words))
     }
+
+    // "When does the bench next wake someone?" The value that is told is the lowest waking count, 0 if nobody waits for one.
+    pub fn next_waking(self) -> Step
+        ensures { λ r. ⌜ Meets self Call.nextWaking r [] ⌝ }
+    {
+        let rig = self.rig;
+        let cycles = self.cycles;
+        let st = self.st;
+        self.after(exec_questions::next_waking(rig, cycles, st))
+    }
 }

@@ -1,5 +1,5 @@
 // The executive: the record, and every call on it by value. What a call does to the record's parts stands in crates of its
-// own (exec_tasks, exec_waits, exec_flags, exec_bus); here it becomes the next record and the answer.
+// own (exec_tasks, exec_waits, exec_flags, exec_bus, exec_questions); here it becomes the next record and the answer.
 use chains::NODES;
 use rig_tables::CONDITIONS;
 use rig_tables::CYCLE_FLAGS;
@@ -26,7 +26,7 @@ pub struct Exec {
     pub st: State,
 }
 
-// What an accepted call tells: the flags it served, the bus words it wrote, the value of the flag it read.
+// What an accepted call tells: the flags it served, the bus words it wrote, the value of the flag it read or a question's answer.
 pub struct Report {
     pub served: u32,
     pub words: u32,

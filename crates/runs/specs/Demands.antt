@@ -18,7 +18,7 @@ use Rattle.rules.specs.Calls.{tick, run, start}
 use Rattle.rules.specs.History.{Earlier, Sooner}
 use Rattle.exec_family.specs.Anchors.{anchorOf}
 use Rattle.exec.specs.Sound.{rigIn, view, SoundRecord}
-use Rattle.runs.specs.Runs.{Made, MadeOn, callsOf, codeOf, servedOf, historyIn}
+use Rattle.runs.specs.Runs.{Made, MadeOn, callsOf, codeOf, servedOf, toldBy, historyIn}
 use Rattle.exec.specs.declared.Exec.{Exec}
 
 -- the state of a task, and its waking count; who waits in a chain, read forward and backward
@@ -86,3 +86,22 @@ pub record Wakes (t c : ℕ) (y : Exec) : Type 0 where
   pub wakes :
       (m : Made) (buffer : List ℕ) → MadeOn y m → m .call ≡ tick buffer → tickWords ≤ length buffer → suc (y .st .count) ≡ c →
       (codeOf (m .step) ≡ 0) × (m .step .exec .st .count ≡ c) × (stateIn (m .step .exec) t ≡ dispatchable)
+
+-- ---- WHEN DOES THE BENCH NEXT WAKE SOMEONE? The question m is asked of the record y.
+
+-- "tasks waiting on time": waiting, and in the time chain
+abbrev pub OnTime : Exec → ℕ → Type 0
+OnTime y t = (stateIn y t ≡ waiting) × In t (forwardIn y timeChain)
+
+-- "the lowest waking count among tasks waiting on time ..; none exactly when no task so waits"; 0 is none. It is never refused, since every
+-- record of a run is sound, and the record is what it was.
+pub record Told (y : Exec) (m : Made) : Type 0 where
+  pub accepted : codeOf (m .step) ≡ 0
+  pub same : m .step .exec ≡ y
+  pub none : (toldBy (m .step) ≡ 0) ↔ ((t : ℕ) → OnTime y t → ⊥)
+  pub some : toldBy (m .step) ≢ 0 → (t : ℕ) × OnTime y t × (wakeIn y t ≡ toldBy (m .step))
+  pub lowest : (t : ℕ) → OnTime y t → toldBy (m .step) ≤ wakeIn y t
+
+-- the next tick makes task t dispatchable by its count: "tasks due at it become dispatchable"
+abbrev pub DueNext : Exec → ℕ → Type 0
+DueNext y t = OnTime y t × (wakeIn y t ≡ suc (y .st .count))

@@ -17,9 +17,9 @@ use Rattle.rules.specs.Rig as G
 use Rattle.rules.specs.RigOk.{RigOk}
 use Rattle.rules.specs.State as S
 use Rattle.rules.specs.State.{Chain, timeChain, chainOf}
-use Rattle.rules.specs.Soundness.{IsChain}
+use Rattle.rules.specs.Soundness.{IsChain, Sound}
 use Rattle.rules.specs.Calls as R
-use Rattle.rules.specs.Calls.{tick, waitUntil, waitFor, refusal}
+use Rattle.rules.specs.Calls.{tick, waitUntil, waitFor, nextWaking, refusal}
 use Rattle.rules.specs.Proper.{ProperRun}
 use Rattle.rules_laws.specs.Refusals.{code-is, refused-unchanged}
 use Rattle.rules_laws.specs.Bound.{served-79, start-served}
@@ -31,6 +31,7 @@ use Rattle.rules.specs.Waking.{Struck}
 use Rattle.rules_laws.specs.Waking.{Spared}
 use Rattle.rules_laws.specs.Waking as W
 use Rattle.rules_laws.specs.WakingLaws as WL
+use Rattle.rules_laws.specs.NextWaking.{in-time, NoneSooner, none-sooner, waking-in-range}
 use Rattle.rules_laws.specs.Activation.{BySchedule, ByService, activated-by}
 use Rattle.exec_family.specs.Anchors.{anchorOf}
 use Rattle.exec_family.specs.Laws.Anchors.{anchor-low, anchor-high}
@@ -39,10 +40,10 @@ use Rattle.exec.specs.Sound.{rigIn, view, SoundRecord}
 use Rattle.exec.specs.Call.{Follows, Meets, Refuses, answerOf}
 use Rattle.exec.specs.Laws.Unique.{record-same}
 use Rattle.exec_sound.specs.Laws.RightRig.{rig-ok}
-use Rattle.exec.specs.Laws.Promises.{twelve-exactly}
+use Rattle.exec.specs.Laws.Promises.{twelve-exactly, Answered, asked}
 use Rattle.exec.specs.Starting.{Started, noExec, brokenRig}
-use Rattle.runs.specs.Runs.{Made, MadeOn, Ran, callsOf, codeOf, servedOf, AcceptedStart, noting, historyIn, SparedIn}
-use Rattle.runs.specs.Demands.{Stands, Chained, Activated, Bounded, Demand, Wakes, forwardIn, stateIn}
+use Rattle.runs.specs.Runs.{Made, MadeOn, Ran, callsOf, codeOf, servedOf, toldBy, AcceptedStart, noting, historyIn, SparedIn, NoneSoonerIn}
+use Rattle.runs.specs.Demands.{Stands, Chained, Activated, Bounded, Demand, Wakes, forwardIn, stateIn, wakeIn, OnTime, Told, DueNext}
 use Rattle.exec.specs.declared.Exec.{Exec}
 use Rattle.exec.specs.declared.Step.{Step}
 
@@ -125,6 +126,15 @@ module _ (r : G.Rig) where
     spared-same (R.step r s (m .call) .next) (m .step .exec) (gives s x h m (p .0) .next) ms y (p .1) t (q .1),
   )
 
+  sooner-same : (s : S.State) (x : Exec) → Shows r s x → (ms : List Made) (y : Exec) → Ran x ms y → (c : ℕ) → NoneSoonerIn x c ms
+      → NoneSooner r s c (callsOf ms)
+  unfolding NoneSooner
+  sooner-same s x h [] y e c q = tt
+  sooner-same s x h (m ∷ ms) y p c q = (
+    (λ d e b. q .0 d (code-same s x h m (p .0) ∙ e) (ap (λ (v : S.State). begins v (m .call)) (h .state) ∙ b)),
+    sooner-same (R.step r s (m .call) .next) (m .step .exec) (gives s x h m (p .0) .next) ms y (p .1) c (q .1),
+  )
+
 ran-proper : (x : Exec) (ms : List Made) (y : Exec) → Ran x ms y → ProperRun (callsOf ms)
 ran-proper x [] y e = tt
 ran-proper x (m ∷ ms) y p = (p .0 .proper, ran-proper (m .step .exec) ms y (p .1))
@@ -163,6 +173,22 @@ module _ (y : Exec) (h : SoundRecord y) where
             (k .0, a, subst (In t) (read (k .0) a) (k .1), (λ d b i. k .2 d (subst (In t) (sym (read d b)) i)))),
         (λ k. h .state .chains .listed .two t (k .0, subst (In t) (sym (read (k .0) (k .1))) (k .2))),
       )
+
+-- ---- the waking clause of the rules, said of the record to which the calls ks led
+
+wakes-shown : (r : G.Rig) (s : S.State) (ks : List R.Call) (z : Exec) → Shows r (R.run r s ks) z → (t c : ℕ) → W.WakesByRules r t c s ks → Wakes t c z
+wakes-shown r s ks z end t c w =
+    record {
+      waits = λ l. ap (λ (u : S.State). S.stateOf u t) (end .state) ∙ w .waits (subst (λ (u : S.State). u .count < c) (end .state) l);
+      wakes = λ k buffer o e n q.
+          let v = gives r (R.run r s ks) z end k o in
+          let f : R.step r (R.run r s ks) (k .call) ≡ R.step r (R.run r s ks) (tick buffer) = ap (R.step r _) e in
+          let a = w .wakes buffer n (ap (λ (u : S.State). suc (u .count)) (sym (end .state)) ∙ q) in (
+            ap (λ (u : R.Answer). u .code) (v .answer) ∙ ap (λ (u : R.Step). u .answer .code) f ∙ a .0,
+            ap (λ (u : S.State). u .count) (v .next .state) ∙ ap (λ (u : R.Step). u .next .count) f ∙ a .1,
+            ap (λ (u : S.State). S.stateOf u t) (v .next .state) ∙ ap (λ (u : R.Step). S.stateOf (u .next) t) f ∙ a .2,
+          );
+    }
 
 -- ---- FROM AN ACCEPTED START
 
@@ -269,19 +295,7 @@ module _ (g : Rig) (table : List (List ℕ)) (x : Exec) (s : AcceptedStart g tab
   module _ (before : List Made) (y : Exec) (ran : Ran x before y) (m : Made) (made : MadeOn y m) (taken : codeOf (m .step) ≡ 0)
       (between : List Made) (z : Exec) (went : Ran (m .step .exec) between z) (spared : SparedIn (m .step .exec) between (y .st .running)) where
     pub waking : (c : ℕ) → begins (view y) (m .call) ≡ untilCount c → Wakes (y .st .running) c z
-    waking c b =
-        record {
-          waits = λ l. ap (λ (u : S.State). S.stateOf u t) (end .state) ∙ w .waits (subst (λ (u : S.State). u .count < c) (end .state) l);
-          wakes = λ k buffer o e n q.
-              let v = gives r (R.run r (R.step r now (m .call) .next) (callsOf between)) z end k o in
-              let f : R.step r (R.run r (R.step r now (m .call) .next) (callsOf between)) (k .call)
-              ≡ R.step r (R.run r (R.step r now (m .call) .next) (callsOf between)) (tick buffer) = ap (R.step r _) e in
-              let a = w .wakes buffer n (ap (λ (u : S.State). suc (u .count)) (sym (end .state)) ∙ q) in (
-                ap (λ (u : R.Answer). u .code) (v .answer) ∙ ap (λ (u : R.Step). u .answer .code) f ∙ a .0,
-                ap (λ (u : S.State). u .count) (v .next .state) ∙ ap (λ (u : R.Step). u .next .count) f ∙ a .1,
-                ap (λ (u : S.State). S.stateOf u t) (v .next .state) ∙ ap (λ (u : R.Step). S.stateOf (u .next) t) f ∙ a .2,
-              );
-        }
+    waking c b = wakes-shown r (R.step r now (m .call) .next) (callsOf between) z end t c w
       where
         r : G.Rig
         r = rigIn x
@@ -321,3 +335,87 @@ module _ (g : Rig) (table : List (List ℕ)) (x : Exec) (s : AcceptedStart g tab
     waking-for n e l =
         waking (y .st .count + n)
         (ap (begins (view y)) e ∙ ap (λ (b : Bool). cond b H.nothing (untilCount (y .st .count + n))) (lt-leb (y .st .count + n) (y .st .count) (omega arith)))
+
+  -- ---- WHEN DOES THE BENCH NEXT WAKE SOMEONE? After the run `before` the question m is asked; then whatever calls `between` are made
+  module _ (before : List Made) (y : Exec) (ran : Ran x before y) (m : Made) (made : MadeOn y m) (asks : m .call ≡ nextWaking) where
+    sound-y : SoundRecord y
+    sound-y = there before y ran .sound
+
+    answered : Answered y (m .step)
+    answered = asked y (m .step) (m .after) (subst (λ (k : R.Call). Meets y k (m .step) (m .after)) asks (made .meets)) sound-y
+
+    -- the time chain as the rules have it, and as it is read
+    chain : view y .chains timeChain ≡ forwardIn y timeChain
+    chain = read y sound-y timeChain tt
+
+    -- THE ANSWER
+    pub told : Told y m
+    told =
+        let l = answered .lowest in
+        record {
+          accepted = ap (λ (a : R.Answer). a .code) (answered .answer);
+          same = answered .same;
+          none = (
+            (λ e t w. l .none .0 e t (w .0, subst (In t) (sym chain) (w .1))),
+            (λ f. l .none .1 (λ t w. f t (w .0, subst (In t) chain (w .1)))),
+          );
+          some = λ n. let w = l .some n in (w .0, (w .1 .0, subst (In (w .0)) chain (w .1 .1)), w .2);
+          lowest = λ t w. l .lowest t (w .0, subst (In t) (sym chain) (w .1));
+        }
+
+    abbrev now : S.State
+    now = R.run (rigIn x) (R.start (rigIn x)) (callsOf before)
+
+    asked-shows : Shows (rigIn x) now (m .step .exec)
+    asked-shows = subst (Shows (rigIn x) now) (sym (answered .same)) (there before y ran)
+
+    sound-now : Sound (rigIn x) now
+    sound-now = subst (Sound (rigIn x)) (there before y ran .state) (subst (λ (r : G.Rig). Sound r (view y)) (there before y ran .rig) (sound-y .state))
+
+    -- a task that waits on time in the record, by the rules
+    on-now : (t : ℕ) → In t (forwardIn y timeChain) → In t (now .chains timeChain)
+    on-now t i = subst (λ (s : S.State). In t (s .chains timeChain)) (there before y ran .state) (subst (In t) (sym chain) i)
+
+    -- "the tick that makes the count" that was told "makes some task dispatchable": the waking clause holds of a task that waits for it
+    pub next-wakes : toldBy (m .step) ≢ 0
+        → (t : ℕ) × OnTime y t × (wakeIn y t ≡ toldBy (m .step))
+        × ((between : List Made) (z : Exec) → Ran (m .step .exec) between z → SparedIn (m .step .exec) between t → Wakes t (toldBy (m .step)) z)
+    next-wakes n =
+        let w = told .some n in
+        (w .0, w .1, w .2, (λ between z went spared. go (w .0) (w .1) (w .2) between z went spared))
+      where
+        go : (t : ℕ) → OnTime y t → wakeIn y t ≡ toldBy (m .step) → (between : List Made) (z : Exec) → Ran (m .step .exec) between z
+            → SparedIn (m .step .exec) between t → Wakes t (toldBy (m .step)) z
+        go t w e between z went spared =
+            let same : S.wakeOf now t ≡ toldBy (m .step) = ap (λ (s : S.State). S.wakeOf s t) (sym (there before y ran .state)) ∙ e in
+            let i = on-now t (w .1) in
+            wakes-shown (rigIn x) now (callsOf between) z (ran-shows (rigIn x) now (m .step .exec) asked-shows between z went) t (toldBy (m .step))
+            (WL.due-wakes (rigIn x) rig-right t (toldBy (m .step)) now sound-now (record { there = i; due = same })
+            (omega (arith, sound-now .chains .ahead t i, same))
+            (omega (arith, waking-in-range (rigIn x) rig-right (callsOf before) (ran-proper x before y ran) t i, same))
+            (callsOf between) (ran-proper (m .step .exec) between z went)
+            (spared-same (rigIn x) now (m .step .exec) asked-shows between z went t spared))
+
+    -- "and no tick before does so by its count": where no wait for a count below c began since, nobody is due at a tick that makes a lower
+    -- one. c is at most what was told; where none was told, it is any.
+    pub nobody-before : (c : ℕ) → (toldBy (m .step) ≢ 0 → c ≤ toldBy (m .step)) → (between : List Made) (z : Exec) → Ran (m .step .exec) between z
+        → NoneSoonerIn (m .step .exec) c between → suc (z .st .count) < c → (t : ℕ) → DueNext z t → ⊥
+    nobody-before c low between z went none l t due =
+        let end = ran-shows (rigIn x) now (m .step .exec) asked-shows between z went in
+        let i : In t (R.run (rigIn x) now (callsOf between) .chains timeChain) =
+        subst (λ (s : S.State). In t (s .chains timeChain)) (end .state) (subst (In t) (sym (read z (end .sound) timeChain tt)) (due .0 .1)) in
+        let k = none-sooner (rigIn x) rig-right c (callsOf between) now sound-now (ran-proper (m .step .exec) between z went)
+        (sooner-same (rigIn x) now (m .step .exec) asked-shows between z went c none) first t i in
+        omega (arith, k, ap (λ (s : S.State). S.wakeOf s t) (end .state), due .1, l)
+      where
+        -- at the question nobody waits for less
+        first : (u : ℕ) → In u (now .chains timeChain) → c ≤ S.wakeOf now u
+        first u i =
+            let w = in-time (rigIn x) now sound-now u i in
+            let v : OnTime y u = (
+              ap (λ (s : S.State). S.stateOf s u) (there before y ran .state) ∙ w .0,
+              subst (In u) chain (subst (λ (s : S.State). In u (s .chains timeChain)) (sym (there before y ran .state)) i),
+            ) in
+            let e : wakeIn y u ≡ S.wakeOf now u = ap (λ (s : S.State). S.wakeOf s u) (there before y ran .state) in
+            let b = low (λ z. told .none .0 z u v) in
+            omega (arith, b, told .lowest u v, e)

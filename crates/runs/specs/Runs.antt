@@ -2,11 +2,11 @@
 -- among them.
 use mathlib.Core.Path.{_≡_}
 use mathlib.Core.List.{List, [], _∷_}
-use Prim.Native.Nat.{ℕ, suc}
+use Prim.Native.Nat.{ℕ, suc, _≤_}
 use Rattle.rig.specs.declared.Rig.{Rig}
 use Rattle.rules.specs.Calls.{Call}
 use Rattle.rules.specs.Proper.{Proper}
-use Rattle.rules.specs.History.{History, notedIf, never}
+use Rattle.rules.specs.History.{History, notedIf, never, untilCount, begins}
 use Rattle.rules.specs.Waking.{Struck}
 use Rattle.exec.specs.Sound.{rigIn, view}
 use Rattle.exec.specs.Call.{Meets, answerOf}
@@ -20,6 +20,10 @@ codeOf r = answerOf (r .answer) .code
 
 abbrev pub servedOf : Step → ℕ
 servedOf r = answerOf (r .answer) .report .served
+
+-- the number that a question is answered by
+abbrev pub toldBy : Step → ℕ
+toldBy r = answerOf (r .answer) .report .value
 
 -- a call as it was made: the call with what its lent buffers held, its step, and what the buffer that it may write held
 -- after it
@@ -64,3 +68,8 @@ historyIn x ms = noting x 1 ms never
 abbrev pub SparedIn : Exec → List Made → ℕ → Type 0
 SparedIn x [] t = Unit {0}
 SparedIn x (m ∷ ms) t = (Struck (rigIn x) (view x) (m .call) t → ⊥) × SparedIn (m .step .exec) ms t
+
+-- no call of the run is accepted and begins a wait for a count below c
+abbrev pub NoneSoonerIn : Exec → ℕ → List Made → Type 0
+NoneSoonerIn x c [] = Unit {0}
+NoneSoonerIn x c (m ∷ ms) = ((d : ℕ) → codeOf (m .step) ≡ 0 → begins (view x) (m .call) ≡ untilCount d → c ≤ d) × NoneSoonerIn (m .step .exec) c ms

@@ -1,5 +1,5 @@
 -- FOR THE READER: what a call's statement comes to.
-use mathlib.Core.Path.{_≡_, sym, ap}
+use mathlib.Core.Path.{_≡_, sym, ap, _∙_, subst}
 use mathlib.Core.Logic.{_⊎_, ⊎-elim, _↔_}
 use mathlib.Core.Bool.{Bool, true, false, cond}
 use mathlib.Core.List.{List, [], _∷_}
@@ -8,10 +8,13 @@ use native.Mathlib.Omega.{arith}
 use Rattle.rules.specs.Rig as G
 use Rattle.rules.specs.State as S
 use Rattle.rules.specs.Calls as R
+use Rattle.rules.specs.NextWaking.{LowestWaking, lowestWaking}
 use Rattle.rules_laws.specs.Refusals.{code-is}
+use Rattle.rules_laws.specs.NextWaking.{lowest-is, asked-step}
+use Rattle.exec_refusals.specs.Numbers.{notSound}
 use Rattle.exec.specs.Sound.{rigIn, view, SoundRecord}
-use Rattle.exec.specs.Call.{Meets, answerOf, refuse}
-use Rattle.exec.specs.Laws.Unique.{meets-same}
+use Rattle.exec.specs.Call.{Follows, Meets, answerOf, refuse}
+use Rattle.exec.specs.Laws.Unique.{record-same, refuses-is, meets-same}
 use Rattle.exec.specs.Laws.Meeting.{refused}
 use Rattle.exec.specs.declared.Exec.{Exec}
 use Rattle.exec.specs.declared.Step.{Step}
@@ -46,6 +49,7 @@ low r s (R.signal f v) = (omega arith, (omega arith, (omega arith, tt)))
 low r s (R.readFlag f) = (omega arith, (omega arith, (omega arith, tt)))
 low r s (R.readBlock k area buffer) = (omega arith, (omega arith, (omega arith, tt)))
 low r s (R.writeBlock k area buffer) = (omega arith, (omega arith, (omega arith, tt)))
+low r s R.nextWaking = tt
 
 pub refusal-low : (r : G.Rig) (s : S.State) (k : R.Call) → R.refusal r s k ≤ 10
 unfolding R.refusal
@@ -75,3 +79,28 @@ module _ (x : Exec) (k : R.Call) (r : Step) (after : List ℕ) (m : Meets x k r 
   pub rig-kept : (r .exec .rig ≡ x .rig) × (r .exec .cycles ≡ x .cycles)
   rig-kept =
       ⊎-elim (λ p. (p .1 .rig, p .1 .cycles)) (λ p. (ap (λ (y : Exec). y .rig) (p .1 .exec), ap (λ (y : Exec). y .cycles) (p .1 .exec))) (m .is)
+
+-- "When does the bench next wake someone?", asked of a sound record: the record is what it was, no flag is served, and the number that is told
+-- is "the lowest waking count among tasks waiting on time; none exactly when no task so waits"
+pub record Answered (x : Exec) (r : Step) : Type 0 where
+  pub same : r .exec ≡ x
+  pub answer : answerOf (r .answer) ≡ record { code = 0; report = record { served = 0; words = 0; value = lowestWaking (view x) } }
+  pub lowest : LowestWaking (view x) (answerOf (r .answer) .report .value)
+
+pub asked : (x : Exec) (r : Step) (after : List ℕ) → Meets x R.nextWaking r after → SoundRecord x → Answered x r
+asked x r after m h = ⊎-elim (λ p. go (p .1)) (λ p. absurd (p .0 h)) (m .is)
+  where
+    go : Follows x R.nextWaking r after → Answered x r
+    go f =
+        let e = asked-step (rigIn x) (view x) (h .state) in
+        let a = f .answer ∙ ap (λ (s : R.Step). s .answer) e in
+        record {
+          same = record-same (r .exec) x (f .sound) h (f .rig) (f .cycles) (f .next ∙ ap (λ (s : R.Step). s .next) e);
+          answer = a;
+          lowest = subst (LowestWaking (view x)) (sym (ap (λ (b : R.Answer). b .report .value) a)) (lowest-is (rigIn x) (view x) (h .state));
+        }
+
+-- 12: an unsound record is refused, and is what it was
+pub asked-unsound : (x : Exec) (r : Step) (after : List ℕ) → Meets x R.nextWaking r after → (SoundRecord x → ⊥) → r ≡ refuse x notSound
+asked-unsound x r after m n =
+    ⊎-elim (λ p. absurd (n (p .0))) (λ p. refuses-is x notSound (λ z. omega arith) r (p .1)) (m .is)

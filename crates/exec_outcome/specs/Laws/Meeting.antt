@@ -140,6 +140,7 @@ Silent (R.signal f v) = Unit {0}
 Silent (R.readFlag f) = ⊥
 Silent (R.readBlock k area buffer) = ⊥
 Silent (R.writeBlock k area buffer) = ⊥
+Silent R.nextWaking = ⊥
 
 pub silent-lent : (k : R.Call) → Silent k → [] ≡ R.lent k
 unfolding R.lent
@@ -156,6 +157,7 @@ silent-lent (R.signal f v) h = refl
 silent-lent (R.readFlag f) h = absurd h
 silent-lent (R.readBlock k area buffer) h = absurd h
 silent-lent (R.writeBlock k area buffer) h = absurd h
+silent-lent R.nextWaking h = absurd h
 
 pub silent-output : (r : G.Rig) (s : S.State) (k : R.Call) → Silent k → R.output r s k ≡ R.silent
 unfolding R.output
@@ -172,3 +174,4 @@ silent-output r s (R.signal f v) h = refl
 silent-output r s (R.readFlag f) h = absurd h
 silent-output r s (R.readBlock k area buffer) h = absurd h
 silent-output r s (R.writeBlock k area buffer) h = absurd h
+silent-output r s R.nextWaking h = absurd h

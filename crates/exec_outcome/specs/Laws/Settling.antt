@@ -120,6 +120,7 @@ effect-low r s h (R.signal f v) = h
 effect-low r s h (R.readFlag f) = h
 effect-low r s h (R.readBlock k area buffer) = h
 effect-low r s h (R.writeBlock k area buffer) = h
+effect-low r s h R.nextWaking = h
 
 module _ (g : Rig) (cycles : List Cycle) (s : State) (h : SoundParts g cycles s) (k : R.Call) (p : P.Proper k) (e : 0 ≡ R.refusal (rigOf g cycles) (viewOf s) k) (w : Work)
     (q : workOf (w .st) (w .queue) ≡ R.effect (rigOf g cycles) (viewOf s) k) where
