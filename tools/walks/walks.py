@@ -98,9 +98,34 @@ def cites(text, name):
     return re.search(rf'(?<![\w\-.]){re.escape(name)}(?![\w\-])', text)
 
 
+def trimmed(text):
+    """The text without the names that it uses nowhere."""
+    lines = text.split('\n')
+    said = '\n'.join(line for line in lines if not line.startswith(('use ', '--')))
+    kept = []
+    for line in lines:
+        m = re.fullmatch(r'use (\S+?)\.\{(.*)\}', line)
+        if m:
+            names = [n for n in m.group(2).split(', ') if cited(said, n.split(' as ')[-1])]
+            line = f"use {m.group(1)}.{{{', '.join(names)}}}" if names else None
+        elif line.startswith('use ') and ' as ' in line and not cited(said, line.split(' as ')[-1]):
+            line = None
+        if line is not None:
+            kept.append(line)
+    return '\n'.join(kept)
+
+
+def cited(text, name):
+    """An operator's parts stand apart, as in `_≡_`; any other name stands whole."""
+    parts = [part for part in name.split('_') if part]
+    if '_' in name and not re.match(r'\w', parts[0]):
+        return all(part in text for part in parts)
+    return re.search(rf'(?<![\w\-′·]){re.escape(name)}(?![\w\-′])', text)
+
+
 def write(path, text):
     path.parent.mkdir(parents=True, exist_ok=True)
-    path.write_text(text)
+    path.write_text(trimmed(text))
 
 
 class Names:
@@ -488,6 +513,12 @@ def plain(ty):
 GIVEN = {'u32': ' number number-plain', 'bool': ' truth truth-plain'}
 
 # what the text of a type by value that is neither a number nor a bool cites
+def size_of(source, name):
+    """The number of a size that the source takes from another crate."""
+    owner = re.search(rf'^use (\w+)::{name};$', source, re.M).group(1)
+    return re.search(rf'^pub const {name}: usize = (\d+);$', Path(f'crates/{owner}/src/lib.rt').read_text(), re.M).group(1)
+
+
 OF_TYPES = '''use mir.Syntax.{tyInt, tyArray, w8}
 use denote.Builtin.{u8}
 use denote.Plain.{uint-vals, uint-tells, uint-lawful}
@@ -503,7 +534,8 @@ class Entry:
         self.shared, self.record, self.step, self.exec, self.answer, self.said, self.enum = CRATES[crate]
         self.takes = 1 if '*e' in call else 0
         self.teller = call.split('((*e)')[0] if '((*e)' in call else None
-        self.parameters = re.findall(r'(\w+): (&(?:mut )?\[\w+\]|\[\[\w+; \d+\]; \d+\]|\[\w+; \d+\]|\w+)', params)
+        sized = re.sub(r'; ([A-Z_]+)\]', lambda m: f'; {size_of(source, m.group(1))}]', params)
+        self.parameters = re.findall(r'(\w+): (&(?:mut )?\[\w+\]|\[\[\w+; \d+\]; \d+\]|\[\w+; \d+\]|\w+)', sized)
         self.statement = ' '.join(statement.split())
         self.law = Law(self.takes, int(bool(self.teller)), [ty for _, ty in self.parameters])
 

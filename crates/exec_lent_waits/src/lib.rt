@@ -1,4 +1,5 @@
-// The waits of the running task on a record that is lent to be changed where it stands, in the form of crate exec_lent.
+// The waits of the running task, and the question when the next wait for a count ends, on a record that is lent to be changed where it
+// stands, in the form of crate exec_lent.
 use exec::Answer;
 use exec::Exec;
 ghost use mathlib.Core.List.{[]};
@@ -34,6 +35,15 @@ pub fn unlatched(e: &mut Exec, flag: u32, value: bool) -> Answer
     ensures { λ r. ⌜ Meets (now (e .entry)) (Call.unlatched flag (bit value)) (stepOf (now (e .exit)) r) [] ⌝ }
 {
     let s = (*e).unlatched(flag, value);
+    *e = s.exec;
+    s.answer
+}
+
+// "When does the bench next wake someone?"
+pub fn next_waking(e: &mut Exec) -> Answer
+    ensures { λ r. ⌜ Meets (now (e .entry)) Call.nextWaking (stepOf (now (e .exit)) r) [] ⌝ }
+{
+    let s = (*e).next_waking();
     *e = s.exec;
     s.answer
 }

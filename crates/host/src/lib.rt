@@ -186,6 +186,16 @@ pub extern "C" fn algolmallet_write_block(
     s.reply
 }
 
+// "When does the bench next wake someone?" The value is the lowest waking count, 0 if nobody waits for one. The record is what it was.
+#[no_mangle]
+pub extern "C" fn algolmallet_next_waking(e: &mut Exec) -> Reply
+    ensures { λ r. ⌜ Replies (now (e .entry)) Call.nextWaking (codedOf (now (e .exit)) r) [] ⌝ }
+{
+    let s = host_replies::told((*e).next_waking());
+    *e = s.exec;
+    s.reply
+}
+
 // The monitor's side of the bus: words that it hears, taken apart and judged. No record is needed.
 #[no_mangle]
 pub extern "C" fn algolmallet_command_fields(word: u16) -> CommandNumbers
