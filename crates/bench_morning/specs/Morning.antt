@@ -1,7 +1,7 @@
--- A BENCH MORNING: the whole output of a whole input, in the rules' words.
+-- A BENCH MORNING: the whole output of a whole input, in the rules' words. `panel` is whether the panel's verbs are on.
 -- "The bench runner reads from standard input a rig, the line RUN, then script lines .. It takes each answer apart and prints .."
 use Prim.Native.Nat.{ℕ, _+_}
-use mathlib.Core.Bool.{cond}
+use mathlib.Core.Bool.{Bool, cond}
 use mathlib.Core.List.{List, [], _∷_, _++_}
 use lib.Dec.{eqb}
 use lib.ListN.{take, drop}
@@ -31,15 +31,15 @@ startText a =
     (lineText startName (a .no ∷ a .line ∷ []))
 
 -- "then script lines": each piece that an LF ends has its turn, one after the other; the last piece has none behind it
-unfoldable pub talkText : G.Rig → S.State → List (List ℕ) → List ℕ
-talkText r s [] = []
-talkText r s (last ∷ []) = lastText last
-talkText r s (line ∷ next ∷ lines) = turnText r s line ++ talkText r (turnNext r s line) (next ∷ lines)
+unfoldable pub talkText : Bool → G.Rig → S.State → List (List ℕ) → List ℕ
+talkText panel r s [] = []
+talkText panel r s (last ∷ []) = lastText last
+talkText panel r s (line ∷ next ∷ lines) = turnText panel r s line ++ talkText panel r (turnNext panel r s line) (next ∷ lines)
 
 -- "A refused rig prints START, number, line, and ends."
-unfoldable pub wholeText : Answer → List ℕ → List ℕ
-wholeText a script = startText a ++ cond (eqb (a .no) 0) (talkText (fileRig a) (R.start (fileRig a)) (split lf script)) []
+unfoldable pub wholeText : Bool → Answer → List ℕ → List ℕ
+wholeText panel a script = startText a ++ cond (eqb (a .no) 0) (talkText panel (fileRig a) (R.start (fileRig a)) (split lf script)) []
 
 -- "a rig, the line RUN, then script lines"; "Without RUN the whole input is the rig."
-unfoldable pub morningText : List ℕ → List ℕ
-morningText input = wholeText (readOf (take (rigEnd input) input)) (drop (rigEnd input + runLine) input)
+unfoldable pub morningText : Bool → List ℕ → List ℕ
+morningText panel input = wholeText panel (readOf (take (rigEnd input) input)) (drop (rigEnd input + runLine) input)

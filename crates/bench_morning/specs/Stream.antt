@@ -1,5 +1,6 @@
 -- WHERE A STREAM STANDS, and what holds of every stream that is handed out.
 use Prim.Native.Nat.{ℕ, _≤_, _<_}
+use mathlib.Core.Bool.{Bool, false}
 use mathlib.Core.List.{List}
 use lib.ListN.{take, replicate}
 use Rattle.exec.specs.Sound.{rigIn, view, SoundRecord}
@@ -14,8 +15,8 @@ use Rattle.bench_morning.specs.declared.Phase.the-variants.{Opening, Tal
 
 -- where a stream stands: the text so far is what the lent buffer keeps, the line so far what the stream holds
 abbrev pub deskBy : Phase → Stream → List ℕ → Desk
-deskBy Opening s keep = opening (take (s .at) keep) (s .from)
-deskBy Talking s keep = talking (rigIn (s .exec)) (view (s .exec)) (take (s .held) (s .line))
+deskBy Opening s keep = opening (s .panel) (take (s .at) keep) (s .from)
+deskBy Talking s keep = talking (s .panel) (rigIn (s .exec)) (view (s .exec)) (take (s .held) (s .line))
 deskBy Over s keep = over
 
 abbrev pub deskOf : Stream → List ℕ → Desk
@@ -31,12 +32,12 @@ abbrev pub HoldsIn : Stream → ℕ → Type 0
 HoldsIn s kept = HoldsBy (s .phase) s kept
 
 -- a stream at the start of the script, or behind a refused rig; and before the first byte
-abbrev pub fresh : Phase → Exec → Stream
-fresh phase exec = record { phase = phase; at = 0; from = 0; line = replicate lineRoom 0; held = 0; exec = exec }
+abbrev pub fresh : Bool → Phase → Exec → Stream
+fresh panel phase exec = record { panel = panel; phase = phase; at = 0; from = 0; line = replicate lineRoom 0; held = 0; exec = exec }
 
-abbrev pub beginning : Stream
-beginning = fresh Opening noExec
+abbrev pub beginning : Bool → Stream
+beginning panel = fresh panel Opening noExec
 
 -- behind a refused rig
 abbrev pub nothingMore : Stream
-nothingMore = fresh Over noExec
+nothingMore = fresh false Over noExec

@@ -23,9 +23,10 @@ pub enum Phase {
     Over,
 }
 
-// A stream between two pieces of its input. In the rig's text: the bytes that are kept in the lent buffer, and where their last
+// A stream between two pieces of its input, with the panel's verbs on or off. In the rig's text: the bytes that are kept in the lent buffer, and where their last
 // line starts. In the script: the record, and the bytes of a line that is not ended yet.
 pub struct Stream {
+    pub panel: bool,
     pub phase: Phase,
     pub at: usize,
     pub from: usize,
@@ -42,24 +43,17 @@ pub struct Fed {
 }
 
 // Before the first byte.
-pub fn begin() -> Stream
-    ensures { λ r. ⌜ r ≡ beginning ⌝ }
+pub fn begin(panel: bool) -> Stream
+    ensures { λ r. ⌜ r ≡ beginning panel ⌝ }
 {
-    Stream {
-        phase: Phase::Opening,
-        at: 0,
-        from: 0,
-        line: [0; LINE],
-        held: 0,
-        exec: exec::none(),
-    }
+    behind(panel, Phase::Opening, exec::none())
 }
 
 // Behind all that there is to say.
 pub fn over() -> Stream
     ensures { λ r. ⌜ r ≡ nothingMore ⌝ }
 {
-    behind(Phase::Over, exec::none())
+    behind(false, Phase::Over, exec::none())
 }
 
 // A stream behind the line START, and how many bytes that line has.
@@ -68,11 +62,12 @@ pub struct Started {
     pub wrote: usize,
 }
 
-// A stream at the start of the script, or behind a refused rig.
-pub fn behind(phase: Phase, exec: Exec) -> Stream
-    ensures { λ r. ⌜ r ≡ fresh phase exec ⌝ }
+// A stream that holds no byte: before the first, at the start of the script, or behind a refused rig.
+pub fn behind(panel: bool, phase: Phase, exec: Exec) -> Stream
+    ensures { λ r. ⌜ r ≡ fresh panel phase exec ⌝ }
 {
     Stream {
+        panel,
         phase,
         at: 0,
         from: 0,
@@ -95,9 +90,9 @@ fn refused(number: u32, line: u32, out: &mut [u8]) -> Started
 }
 
 // The rig's text is whole: it is read, and the record is started.
-pub fn start(text: &[u8], out: &mut [u8]) -> Started
+pub fn start(panel: bool, text: &[u8], out: &mut [u8]) -> Started
     requires { ⌜ startRoom ≤ length (now out) ⌝ }
-    ensures { λ r. ⌜ Begins (now (text .entry)) (now (out .entry)) r (now (out .exit)) ⌝ }
+    ensures { λ r. ⌜ Begins panel (now (text .entry)) (now (out .entry)) r (now (out .exit)) ⌝ }
 {
     let a = rig_read::read(text);
     if a.no != 0 {
@@ -113,7 +108,7 @@ pub fn start(text: &[u8], out: &mut [u8]) -> Started
     let exec = s.exec;
     let n = bench_script::put_started(out, exec.st.count, exec.st.running as u32);
     Started {
-        stream: behind(Phase::Talking, exec),
+        stream: behind(panel, Phase::Talking, exec),
         wrote: n,
     }
 }
@@ -126,7 +121,7 @@ fn read_on(s: Stream, keep: &mut [u8], piece: &[u8], out: &mut [u8]) -> Fed
     let c = bench_input::scan(&mut *keep, s.at, s.from, piece);
     if c.ready {
         let n = c.from;
-        let o = start(&keep[..n], out);
+        let o = start(s.panel, &keep[..n], out);
         let stream = o.stream;
         return Fed {
             stream,

@@ -1,7 +1,7 @@
 // The bench runner's input read: what a script line says, and where the rig ends.
 use bench_script::Said;
 ghost use mathlib.Core.Path.{_≡_};
-ghost use Rattle.bench_script.specs.Script.{verbOf, alone, withNumber, withValue, saidOf};
+ghost use Rattle.bench_script.specs.Script.{verbOf, ofPanel, alone, withNumber, withValue, saidOf};
 ghost use Rattle.bench_script.specs.Input.{isRun, rigEnd};
 
 // The letters of RUN.
@@ -13,14 +13,24 @@ fn verb_of(f: &[u8]) -> u8
     if f.len() == 1 { f[0] } else { 0 }
 }
 
-fn alone(v: u8) -> Said
-    ensures { λ r. ⌜ r ≡ alone v ⌝ }
+// What a verb of the panel says: with the panel's verbs off, nothing.
+fn of_panel(panel: bool, said: Said) -> Said
+    ensures { λ r. ⌜ r ≡ ofPanel panel said ⌝ }
+{
+    if panel { said } else { Said::Wrong }
+}
+
+fn alone(panel: bool, v: u8) -> Said
+    ensures { λ r. ⌜ r ≡ alone panel v ⌝ }
 {
     if v == b'F' {
         return Said::Finish;
     }
     if v == b'K' {
         return Said::Tick;
+    }
+    if v == b'V' {
+        return of_panel(panel, Said::NextWaking);
     }
     Said::Wrong
 }
@@ -64,15 +74,15 @@ fn with_value(v: u8, f: u32, b: bool) -> Said
     Said::Wrong
 }
 
-// What a script line, without its LF, says.
-pub fn read_line(line: &[u8]) -> Said
-    ensures { λ r. ⌜ r ≡ saidOf (now (line .entry)) ⌝ }
+// What a script line, without its LF, says, with the panel's verbs on or off.
+pub fn read_line(panel: bool, line: &[u8]) -> Said
+    ensures { λ r. ⌜ r ≡ saidOf panel (now (line .entry)) ⌝ }
 {
     let e = line.len();
     let p = text::find(line, 0, e, bench_script::TAB);
     let v = verb_of(&line[0..p]);
     if p == e {
-        return alone(v);
+        return alone(panel, v);
     }
     let a = p + 1;
     let q = text::find(line, a, e, bench_script::TAB);

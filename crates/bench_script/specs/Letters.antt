@@ -39,6 +39,10 @@ signalVerb = 71
 abbrev pub askVerb : ℕ
 askVerb = 81
 
+-- the panel's verbs: `V`, "the lowest waking count; nothing if no task waits on time"
+abbrev pub nextWakingVerb : ℕ
+nextWakingVerb = 86
+
 -- "any other script line .. prints ? alone"
 abbrev pub question : ℕ
 question = 63

@@ -1,7 +1,9 @@
 -- AN OUTPUT LINE: "prints verb, answer (0 accepted), count, running task (0 none), then, if accepted, bus words or the
 -- flag's value, tab-parted".
 use Prim.Native.Nat.{ℕ}
+use mathlib.Core.Bool.{cond}
 use mathlib.Core.List.{List, [], _∷_, _++_, map}
+use lib.Dec.{eqb}
 use Rattle.decimal.specs.Decimal.{dec}
 use Rattle.text.specs.Split.{led}
 use Rattle.bench_script.specs.Letters.{tab, lf, question}
@@ -9,6 +11,10 @@ use Rattle.bench_script.specs.Letters.{tab, lf, question}
 -- numbers, each after a tab
 unfoldable pub fieldsText : List ℕ → List ℕ
 fieldsText numbers = led tab (map dec numbers)
+
+-- a number of which 0 says that there is none: "nothing if no task waits on time"
+abbrev pub ifAny : ℕ → List ℕ
+ifAny n = cond (eqb n 0) [] (n ∷ [])
 
 -- the verb's letters, the numbers, and LF
 unfoldable pub lineText : List ℕ → List ℕ → List ℕ

@@ -1,13 +1,14 @@
--- A SCRIPT LINE, without its LF: the call that it asks for, or a line of wrong shape.
+-- A SCRIPT LINE, without its LF: the call that it asks for, or a line of wrong shape. `panel` is whether the panel's verbs are on: "the
+-- same input, output and streaming as the runner with more verbs". With them off a line says what the build paper fixes.
 use Prim.Native.Nat.{ℕ}
 use mathlib.Core.Bool.{Bool, cond, _&&_}
 use mathlib.Core.List.{List, [], _∷_}
 use lib.Dec.{ltb, eqb}
 use Rattle.decimal.specs.Decimal.{cap, number}
 use Rattle.text.specs.Split.{split}
-use Rattle.bench_script.specs.Letters.{tab, scheduleVerb, cancelVerb, terminateVerb, finishVerb, tickVerb, untilVerb, cyclesVerb, latchedVerb, unlatchedVerb, signalVerb, askVerb}
+use Rattle.bench_script.specs.Letters.{tab, scheduleVerb, cancelVerb, terminateVerb, finishVerb, tickVerb, untilVerb, cyclesVerb, latchedVerb, unlatchedVerb, signalVerb, askVerb, nextWakingVerb}
 use Rattle.bench_script.specs.declared.Said.{Said}
-use Rattle.bench_script.specs.declared.Said.the-variants.{Schedule, Cancel, Terminate, Finish, Tick, Until, Cycles, Latched, Unlatched, Signal, Ask, Wrong}
+use Rattle.bench_script.specs.declared.Said.the-variants.{Schedule, Cancel, Terminate, Finish, Tick, Until, Cycles, Latched, Unlatched, Signal, Ask, NextWaking, Wrong}
 
 -- a verb is one letter; 0 is none
 unfoldable pub verbOf : List ℕ → ℕ
@@ -15,9 +16,16 @@ verbOf [] = 0
 verbOf (v ∷ []) = v
 verbOf (v ∷ w ∷ ws) = 0
 
--- "F; K (tick)"
-unfoldable pub alone : ℕ → Said
-alone v = cond (eqb v finishVerb) Finish (cond (eqb v tickVerb) Tick Wrong)
+-- what a verb of the panel says: with the panel's verbs off nothing, "any other script line"
+abbrev pub ofPanel : Bool → Said → Said
+ofPanel panel said = cond panel said Wrong
+
+-- "F; K (tick)"; of the panel V
+unfoldable pub alone : Bool → ℕ → Said
+alone panel v =
+    cond (eqb v finishVerb) Finish
+    (cond (eqb v tickVerb) Tick
+    (cond (eqb v nextWakingVerb) (ofPanel panel NextWaking) Wrong))
 
 -- "S, X, Z task (schedule, cancel, terminate)", "U count; R cycles", "Q flag"
 unfoldable pub withNumber : ℕ → ℕ → Said
@@ -34,14 +42,14 @@ unfoldable pub withValue : ℕ → ℕ → Bool → Said
 withValue v f b = cond (eqb v latchedVerb) (Latched f b) (cond (eqb v unlatchedVerb) (Unlatched f b) (cond (eqb v signalVerb) (Signal f b) Wrong))
 
 -- "Script numbers run to 4,294,967,295 and values are 0 or 1; any other script line is refused by 1"
-unfoldable pub fieldsSay : List (List ℕ) → Said
-fieldsSay [] = Wrong
-fieldsSay (v ∷ []) = alone (verbOf v)
-fieldsSay (v ∷ n ∷ []) = cond (ltb (number n) cap) (withNumber (verbOf v) (number n)) Wrong
-fieldsSay (v ∷ f ∷ b ∷ []) =
+unfoldable pub fieldsSay : Bool → List (List ℕ) → Said
+fieldsSay panel [] = Wrong
+fieldsSay panel (v ∷ []) = alone panel (verbOf v)
+fieldsSay panel (v ∷ n ∷ []) = cond (ltb (number n) cap) (withNumber (verbOf v) (number n)) Wrong
+fieldsSay panel (v ∷ f ∷ b ∷ []) =
     cond (ltb (number f) cap && ltb (number b) 2) (withValue (verbOf v) (number f) (eqb (number b) 1)) Wrong
-fieldsSay (v ∷ f ∷ b ∷ x ∷ xs) = Wrong
+fieldsSay panel (v ∷ f ∷ b ∷ x ∷ xs) = Wrong
 
 -- fields are parted by one tab
-unfoldable pub saidOf : List ℕ → Said
-saidOf line = fieldsSay (split tab line)
+unfoldable pub saidOf : Bool → List ℕ → Said
+saidOf panel line = fieldsSay panel (split tab line)

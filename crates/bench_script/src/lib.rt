@@ -4,7 +4,7 @@ ghost use mathlib.Core.List.{[], _∷_};
 ghost use Prim.Native.Nat.{_+_, _*_, _≤_};
 ghost use lib.Dec.{leb};
 ghost use lib.ListN.{length};
-ghost use Rattle.bench_script.specs.Output.{fieldsText, wrongText, fieldRoom, turnRoom};
+ghost use Rattle.bench_script.specs.Output.{fieldsText, ifAny, wrongText, fieldRoom, turnRoom};
 ghost use Rattle.bench_script.specs.Letters.{startName};
 ghost use Rattle.put_text.specs.Wrote.{Wrote};
 ghost use Rattle.bench_script.specs.Laws.Written.{Begun};
@@ -23,7 +23,7 @@ pub const START_ROOM: usize = 64;
 // A turn's line has at most a letter, 131 fields of 11 bytes (a tick's 128 words among them) and LF.
 pub const TURN_ROOM: usize = 2048;
 
-// What a script line says: a call with its numbers, or nothing that a script line may say.
+// What a script line says: a call with its numbers, a question of the panel, or nothing that a script line may say.
 pub enum Said {
     Schedule(u32),
     Cancel(u32),
@@ -36,6 +36,7 @@ pub enum Said {
     Unlatched(u32, bool),
     Signal(u32, bool),
     Ask(u32),
+    NextWaking,
     Wrong,
 }
 
@@ -48,6 +49,17 @@ pub fn put_field(out: &mut [u8], at: usize, n: u32) -> usize
     let w = n as u64;
     out[at] = TAB;
     decimal::put_number(out, a, w)
+}
+
+// The same of a number of which 0 says that there is none: then nothing is written.
+pub fn put_if_any(out: &mut [u8], at: usize, n: u32) -> usize
+    requires { ⌜ at + fieldRoom ≤ length (now out) ⌝ }
+    ensures { λ r. ⌜ Wrote (now (out .entry)) at (fieldsText (ifAny n)) (now (out .exit)) r ⌝ }
+{
+    if n == 0 {
+        return at;
+    }
+    put_field(out, at, n)
 }
 
 fn wide(w: u16) -> u32

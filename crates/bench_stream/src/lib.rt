@@ -85,7 +85,7 @@ pub fn end(s: Stream, keep: &[u8], out: &mut [u8]) -> usize
     match phase {
         Phase::Opening => {
             let n = s.at;
-            let o = bench_morning::start(&keep[..n], out);
+            let o = bench_morning::start(s.panel, &keep[..n], out);
             o.wrote
         }
         Phase::Talking => {

@@ -27,7 +27,7 @@ pub fn talk(s: Stream, piece: &[u8], out: &mut [u8], place: usize) -> Fed
         let b = piece[i];
         i += 1;
         if b == LF {
-            let t = bench_turn::take_line(exec, &line[..held], &mut *out, at);
+            let t = bench_turn::take_line(s.panel, exec, &line[..held], &mut *out, at);
             let st = t.st;
             exec.st = st;
             at = t.at;
@@ -38,6 +38,7 @@ pub fn talk(s: Stream, piece: &[u8], out: &mut [u8], place: usize) -> Fed
     }
     Fed {
         stream: Stream {
+            panel: s.panel,
             phase: Phase::Talking,
             at: s.at,
             from: s.from,

@@ -3,11 +3,10 @@
 -- words or the flag's value, tab-parted."
 use mathlib.Core.Path.{_≡_}
 use mathlib.Core.Logic.{_⊎_}
-use mathlib.Core.Bool.{cond}
-use mathlib.Core.List.{List, [], _∷_}
+use mathlib.Core.Bool.{Bool}
+use mathlib.Core.List.{List}
 use Prim.Native.Nat.{ℕ, _+_, _≤_, _<_}
-use lib.Dec.{eqb}
-use lib.ListN.{length, take, replicate}
+use lib.ListN.{length, replicate}
 use Rattle.rules.specs.Rig as G
 use Rattle.rules.specs.State as S
 use Rattle.rules.specs.Calls as R
@@ -16,11 +15,12 @@ use Rattle.exec.specs.Call.{withState}
 use Rattle.exec.specs.declared.Exec.{Exec}
 use Rattle.exec.specs.declared.Step.{Step}
 use Rattle.bench_script.specs.Script.{saidOf}
-use Rattle.bench_script.specs.Letters.{question, scheduleVerb, cancelVerb, terminateVerb, finishVerb, tickVerb, untilVerb, cyclesVerb, latchedVerb, unlatchedVerb, signalVerb, askVerb}
-use Rattle.bench_script.specs.Output.{lineText, wrongText, turnRoom}
+use Rattle.bench_script.specs.Letters.{question, scheduleVerb, cancelVerb, terminateVerb, finishVerb, tickVerb, untilVerb, cyclesVerb, latchedVerb, unlatchedVerb, signalVerb, askVerb, nextWakingVerb}
+use Rattle.bench_script.specs.Output.{wrongText, turnRoom}
+use Rattle.bench_show.specs.Shown.{wordsLent, textOf}
 use Rattle.put_text.specs.Wrote.{Wrote}
 use Rattle.bench_script.specs.declared.Said.{Said}
-use Rattle.bench_script.specs.declared.Said.the-variants.{Schedule, Cancel, Terminate, Finish, Tick, Until, Cycles, Latched, Unlatched, Signal, Ask, Wrong}
+use Rattle.bench_script.specs.declared.Said.the-variants.{Schedule, Cancel, Terminate, Finish, Tick, Until, Cycles, Latched, Unlatched, Signal, Ask, NextWaking, Wrong}
 use Rattle.bench_turn.specs.declared.Turn.{Turn}
 
 -- the letter of a verb
@@ -36,15 +36,8 @@ letterOf (Latched f v) = latchedVerb
 letterOf (Unlatched f v) = unlatchedVerb
 letterOf (Signal f v) = signalVerb
 letterOf (Ask f) = askVerb
+letterOf NextWaking = nextWakingVerb
 letterOf Wrong = question
-
--- "Its lent buffer has at least 128 words"
-abbrev pub wordsLent : ℕ
-wordsLent = 128
-
--- and as many fields have room for them
-abbrev pub extraRoom : ℕ
-extraRoom = 1408
 
 -- the call of a line, or that it is none; a tick is lent words of 0
 pub data Asked : Type 0 where
@@ -63,19 +56,8 @@ askedBy (Latched f v) = call (R.latched f (bit v))
 askedBy (Unlatched f v) = call (R.unlatched f (bit v))
 askedBy (Signal f v) = call (R.signal f (bit v))
 askedBy (Ask f) = call (R.readFlag f)
+askedBy NextWaking = call R.nextWaking
 askedBy Wrong = none
-
--- "bus words or the flag's value": of a tick (K) the words that it wrote, of a reading (Q) the value
-unfoldable pub extra : ℕ → R.Report → List ℕ → List ℕ
-extra verb report words =
-    cond (eqb verb tickVerb) (take (report .words) words) (cond (eqb verb askVerb) (report .value ∷ []) [])
-
--- "answer (0 accepted), count, running task (0 none), then, if accepted", what the call put out
-unfoldable pub numbersOf : ℕ → R.Answer → ℕ → ℕ → List ℕ → List ℕ
-numbersOf verb a count running words = a .code ∷ count ∷ running ∷ cond (eqb (a .code) 0) (extra verb (a .report) words) []
-
-unfoldable pub textOf : ℕ → R.Answer → ℕ → ℕ → List ℕ → List ℕ
-textOf verb a count running words = lineText (verb ∷ []) (numbersOf verb a count running words)
 
 abbrev pub answerText : ℕ → Step → List ℕ → List ℕ
 answerText verb s words = textOf verb (answerOf (s .answer)) (s .exec .st .count) (s .exec .st .running) words
@@ -97,10 +79,10 @@ abbrev pub Takes : Exec → ℕ → Asked → List ℕ → ℕ → Turn → List
 Takes e verb (call k) out at r after = Answered e verb k out at r after
 Takes e verb none out at r after = Unasked e out at r after
 
--- the turn of a line, where there is room for any turn's line; else nothing happens
-pub record Turns (e : Exec) (line out : List ℕ) (at : ℕ) (r : Turn) (after : List ℕ) : Type 0 where
+-- the turn of a line, with the panel's verbs on or off, where there is room for any turn's line; else nothing happens
+pub record Turns (panel : Bool) (e : Exec) (line out : List ℕ) (at : ℕ) (r : Turn) (after : List ℕ) : Type 0 where
   pub is :
-      ((at + turnRoom ≤ length out) × Takes e (letterOf (saidOf line)) (askedBy (saidOf line)) out at r after)
+      ((at + turnRoom ≤ length out) × Takes e (letterOf (saidOf panel line)) (askedBy (saidOf panel line)) out at r after)
       ⊎ ((length out < at + turnRoom) × (r ≡ record { st = e .st; at = at }) × (after ≡ out))
 
 -- ---- the same in the rules' words: what the line of a sound record's turn is, and the state after it
@@ -116,8 +98,8 @@ unfoldable pub askedNext : G.Rig → S.State → Asked → S.State
 askedNext r s (call k) = R.step r s k .next
 askedNext r s none = s
 
-unfoldable pub turnText : G.Rig → S.State → List ℕ → List ℕ
-turnText r s line = askedText r s (letterOf (saidOf line)) (askedBy (saidOf line))
+unfoldable pub turnText : Bool → G.Rig → S.State → List ℕ → List ℕ
+turnText panel r s line = askedText r s (letterOf (saidOf panel line)) (askedBy (saidOf panel line))
 
-unfoldable pub turnNext : G.Rig → S.State → List ℕ → S.State
-turnNext r s line = askedNext r s (askedBy (saidOf line))
+unfoldable pub turnNext : Bool → G.Rig → S.State → List ℕ → S.State
+turnNext panel r s line = askedNext r s (askedBy (saidOf panel line))

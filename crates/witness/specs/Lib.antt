@@ -10,6 +10,7 @@ pub mod MorningText
 pub mod Morning
 pub mod MorningRun
 pub mod MorningWait
+pub mod MorningAsked
 pub mod FullRig
 pub mod FullRun
 pub mod MorningStream

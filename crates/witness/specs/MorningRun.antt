@@ -1,6 +1,7 @@
 -- THE BENCH MORNING, run on records of the code: whatever start and run meet what start and the calls owe, there is one, and
 -- what is printed of it is the paper's whole output, byte for byte. Task 3 waits by `R 2` and wakes as the waking clause says.
 use mathlib.Core.Path.{_≡_, refl, sym, _∙_, ap, subst}
+use mathlib.Core.Bool.{false}
 use mathlib.Core.List.{List, [], _∷_, _++_, map}
 use Prim.Native.Nat.{ℕ, _+_}
 use lib.ListN.{length, take, drop}
@@ -43,8 +44,9 @@ use Rattle.bench_script.specs.Script as C
 use Rattle.bench_script.specs.Script.{saidOf}
 use Rattle.bench_script.specs.Output.{fieldsText, lineText}
 use Rattle.bench_script.specs.Letters.{startName}
+use Rattle.bench_show.specs.Shown.{extra, numbersOf, textOf}
 use Rattle.bench_turn.specs.Turn as U
-use Rattle.bench_turn.specs.Turn.{letterOf, askedBy, textOf, answerText}
+use Rattle.bench_turn.specs.Turn.{letterOf, askedBy, answerText}
 use Rattle.witness.specs.Text.{bytes, lf}
 use Rattle.witness.specs.CodeRig.{codeTable, codeCycles}
 use Rattle.witness.specs.Records.{recordOf, answerBy, runOf, calls-of, record-shows, ran, start-exists, run-same}
@@ -65,7 +67,7 @@ unfolding bytes morningInput morningScript rigEnd beforeRun isRun split onHead
 input-script = refl
 
 -- they ask for the calls of the rules' bench morning
-pub script-asks : map (λ (l : List ℕ). askedBy (saidOf l)) morningScript ≡ map U.call morningCalls
+pub script-asks : map (λ (l : List ℕ). askedBy (saidOf false l)) morningScript ≡ map U.call morningCalls
 unfolding bytes morningScript morningCalls tick₀ askedBy saidOf C.fieldsSay C.verbOf C.alone C.withNumber C.withValue split onHead D.readByte D.readOn
 script-asks = refl
 
@@ -75,7 +77,7 @@ script-asks = refl
 abbrev pub printed : List (List ℕ) → List Made → List ℕ
 printed [] ms = []
 printed (l ∷ ls) [] = []
-printed (l ∷ ls) (m ∷ ms) = answerText (letterOf (saidOf l)) (m .step) (m .after) ++ printed ls ms
+printed (l ∷ ls) (m ∷ ms) = answerText (letterOf (saidOf false l)) (m .step) (m .after) ++ printed ls ms
 
 -- "START", 0 accepted, count and running task of the record that the start gave
 abbrev pub startText : Exec → List ℕ
@@ -87,7 +89,7 @@ ruled [] r s ks = []
 ruled (l ∷ ls) r s [] = []
 ruled (l ∷ ls) r s (k ∷ ks) =
     let p = R.step r s k in
-    textOf (letterOf (saidOf l)) (answerOf (answerBy (p .answer .code) (p .answer .report))) (p .next .count) (p .next .running) (p .lent)
+    textOf (letterOf (saidOf false l)) (answerOf (answerBy (p .answer .code) (p .answer .report))) (p .next .count) (p .next .running) (p .lent)
     ++ ruled ls r (p .next) ks
 
 printed-ruled : (g : Rig) (cycles : List Cycle) (ls : List (List ℕ)) (s : S.State) (ks : List R.Call)
@@ -96,14 +98,14 @@ printed-ruled g cycles [] s ks = refl
 printed-ruled g cycles (l ∷ ls) s [] = refl
 printed-ruled g cycles (l ∷ ls) s (k ∷ ks) =
     let p = R.step (rigOf g cycles) s k in
-    ap (λ (w : List ℕ). textOf (letterOf (saidOf l)) (answerOf (answerBy (p .answer .code) (p .answer .report))) (p .next .count) (p .next .running) (p .lent) ++ w)
+    ap (λ (w : List ℕ). textOf (letterOf (saidOf false l)) (answerOf (answerBy (p .answer .code) (p .answer .report))) (p .next .count) (p .next .running) (p .lent) ++ w)
     (printed-ruled g cycles ls (p .next) ks)
 
 abbrev startRuled : G.Rig → List ℕ
 startRuled r = lineText startName (0 ∷ R.start r .count ∷ R.start r .running ∷ [])
 
 output-ruled : startRuled bench ++ ruled morningScript bench (R.start bench) morningCalls ≡ morningOutput
-unfolding bytes morningScript morningOutput bench morningCalls rig ofTask ofCondition numbers ofLine ofCycle tick₀ iter all any total over put commandWord blank relax met drive names activate takes rouse wake ready offer offers serveFlag serving serve waitOn waitUntilCount leave wakeDue family cleared deserted offs best chosen dispatch written copied rowWords busWords R.scheduled R.finished R.terminated R.cancelled R.cycleQueue R.ticked R.effect R.decide R.noSuch R.inCycle R.isMinor R.isActivation R.lastCount R.wrongBlock R.refusals R.refusal R.wordsAt R.lent R.output R.accepted R.after R.step R.run R.started R.start saidOf C.fieldsSay C.verbOf C.alone C.withNumber C.withValue split onHead led D.readByte D.readOn D.decBy D.dec fieldsText lineText U.extra U.numbersOf U.textOf
+unfolding bytes morningScript morningOutput bench morningCalls rig ofTask ofCondition numbers ofLine ofCycle tick₀ iter all any total over put commandWord blank relax met drive names activate takes rouse wake ready offer offers serveFlag serving serve waitOn waitUntilCount leave wakeDue family cleared deserted offs best chosen dispatch written copied rowWords busWords R.scheduled R.finished R.terminated R.cancelled R.cycleQueue R.ticked R.effect R.decide R.noSuch R.inCycle R.isMinor R.isActivation R.lastCount R.wrongBlock R.refusals R.refusal R.wordsAt R.lent R.output R.accepted R.after R.step R.run R.started R.start saidOf C.fieldsSay C.verbOf C.alone C.withNumber C.withValue split onHead led D.readByte D.readOn D.decBy D.dec fieldsText lineText extra numbersOf textOf
 output-ruled = refl
 
 -- ---- THE RUN: there is one, and it prints the paper's output

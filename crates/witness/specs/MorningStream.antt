@@ -1,8 +1,10 @@
 -- THE BENCH MORNING, from the bytes of its input to the bytes of its output: what the bench owes for the paper's whole input is the
 -- paper's whole output.
 use mathlib.Core.Path.{_≡_, refl, _∙_, ap}
-use mathlib.Core.List.{List, [], _∷_, _++_}
+use mathlib.Core.Bool.{Bool, true, false}
+use mathlib.Core.List.{List, [], _∷_, _++_, map}
 use Prim.Native.Nat.{ℕ, _+_}
+use Prim.Native.String.{_++_ as _⧺_}
 use lib.ListN.{drop}
 use Rattle.laws.specs.Iter.{iter}
 use Rattle.laws.specs.All.{all}
@@ -20,6 +22,7 @@ use Rattle.rules.specs.Waiting.{waitOn, waitUntilCount, leave, wakeDue}
 use Rattle.rules.specs.Family.{family, cleared, deserted, offs}
 use Rattle.rules.specs.Running.{best, chosen, dispatch}
 use Rattle.rules.specs.Bus.{written, copied, rowWords, busWords}
+use Rattle.rules.specs.NextWaking.{lowestWaking}
 use Rattle.rules.specs.Calls as R
 use Rattle.rules.specs.Scripts.{bench, rig, ofTask, ofCondition, numbers, ofLine, ofCycle, tick₀, morningCalls}
 use Rattle.rig_build.specs.declared.Answer.{Answer}
@@ -30,6 +33,7 @@ use Rattle.bench_script.specs.Script as C
 use Rattle.bench_script.specs.Script.{saidOf}
 use Rattle.bench_script.specs.Output.{fieldsText, lineText}
 use Rattle.bench_input.specs.Line.{lastText}
+use Rattle.bench_show.specs.Shown.{extra, numbersOf, textOf}
 use Rattle.bench_turn.specs.Turn as U
 use Rattle.bench_turn.specs.Turn.{askedBy}
 use Rattle.bench_morning.specs.Morning.{startText, talkText, wholeText, morningText}
@@ -43,22 +47,34 @@ use Rattle.exec_state.specs.View.{rigOf}
 use Rattle.bench_script.specs.Letters.{startName}
 
 -- what is printed for the rules' rig r and the pieces of a script
-abbrev told : G.Rig → List (List ℕ) → List ℕ
-told r pieces = lineText startName (0 ∷ R.start r .count ∷ R.start r .running ∷ []) ++ talkText r (R.start r) pieces
+abbrev told : Bool → G.Rig → List (List ℕ) → List ℕ
+told panel r pieces = lineText startName (0 ∷ R.start r .count ∷ R.start r .running ∷ []) ++ talkText panel r (R.start r) pieces
 
-computed : told bench (morningScript ++ [] ∷ []) ≡ morningOutput
-unfolding bytes morningScript morningOutput bench morningCalls rig ofTask ofCondition numbers ofLine ofCycle tick₀ iter all any total over put commandWord blank relax met drive names activate takes rouse wake ready offer offers serveFlag serving serve waitOn waitUntilCount leave wakeDue family cleared deserted offs best chosen dispatch written copied rowWords busWords R.scheduled R.finished R.terminated R.cancelled R.cycleQueue R.ticked R.effect R.decide R.noSuch R.inCycle R.isMinor R.isActivation R.lastCount R.wrongBlock R.refusals R.refusal R.wordsAt R.lent R.output R.accepted R.after R.step R.run R.started R.start saidOf C.fieldsSay C.verbOf C.alone C.withNumber C.withValue split onHead led D.readByte D.readOn D.decBy D.dec fieldsText lineText U.extra U.numbersOf U.textOf talkText lastText U.turnText U.turnNext U.askedText U.askedNext askedBy
-computed = refl
+computed : (panel : Bool) → told panel bench (morningScript ++ [] ∷ []) ≡ morningOutput
+unfolding bytes morningScript morningOutput bench morningCalls rig ofTask ofCondition numbers ofLine ofCycle tick₀ iter all any total over put commandWord blank relax met drive names activate takes rouse wake ready offer offers serveFlag serving serve waitOn waitUntilCount leave wakeDue family cleared deserted offs best chosen dispatch written copied rowWords busWords R.scheduled R.finished R.terminated R.cancelled R.cycleQueue R.ticked R.effect R.decide R.noSuch R.inCycle R.isMinor R.isActivation R.lastCount R.wrongBlock R.refusals R.refusal R.wordsAt R.lent R.output R.accepted R.after R.step R.run R.started R.start saidOf C.fieldsSay C.verbOf C.alone C.withNumber C.withValue split onHead led D.readByte D.readOn D.decBy D.dec fieldsText lineText extra numbersOf textOf talkText lastText U.turnText U.turnNext U.askedText U.askedNext askedBy
+computed panel = refl
 
-accepted-text : (script : List ℕ) → wholeText (fileAccepted morningRig (codeCycles bench)) script ≡ told (rigOf morningRig (codeCycles bench)) (split lf script)
+accepted-text : (panel : Bool) (script : List ℕ) → wholeText panel (fileAccepted morningRig (codeCycles bench)) script ≡ told panel (rigOf morningRig (codeCycles bench)) (split lf script)
 unfolding wholeText startText
-accepted-text script = refl
+accepted-text panel script = refl
 
-pub morning-text : morningText morningInput ≡ morningOutput
+pub morning-text : (panel : Bool) → morningText panel morningInput ≡ morningOutput
 unfolding morningText bytes
-morning-text =
-    ap (λ (a : Answer). wholeText a (drop (rigEnd morningInput + 4) morningInput)) (ap readOf input-rig ∙ morning-read)
-    ∙ accepted-text (drop (rigEnd morningInput + 4) morningInput)
-    ∙ ap (told (rigOf morningRig (codeCycles bench))) input-script
-    ∙ ap (λ (r : G.Rig). told r (morningScript ++ [] ∷ [])) morning-rig
-    ∙ computed
+morning-text panel =
+    ap (λ (a : Answer). wholeText panel a (drop (rigEnd morningInput + 4) morningInput)) (ap readOf input-rig ∙ morning-read)
+    ∙ accepted-text panel (drop (rigEnd morningInput + 4) morningInput)
+    ∙ ap (told panel (rigOf morningRig (codeCycles bench))) input-script
+    ∙ ap (λ (r : G.Rig). told panel r (morningScript ++ [] ∷ [])) morning-rig
+    ∙ computed panel
+
+-- THE PANEL on the same rig: nobody waits for a count; task 1 waits for the count 2, and nobody runs; and with the panel's verbs off
+unfoldable pub panelScript : List (List ℕ)
+panelScript = map bytes ("V" ∷ "U\t2" ∷ "V" ∷ "V\t1" ∷ "" ∷ [])
+
+pub panel-prints : told true bench panelScript ≡ bytes ("START\t0\t0\t1\n" ⧺ "V\t0\t0\t1\n" ⧺ "U\t0\t0\t0\n" ⧺ "V\t0\t0\t0\t2\n" ⧺ "?\n")
+unfolding panelScript bytes lowestWaking morningScript morningOutput bench morningCalls rig ofTask ofCondition numbers ofLine ofCycle tick₀ iter all any total over put commandWord blank relax met drive names activate takes rouse wake ready offer offers serveFlag serving serve waitOn waitUntilCount leave wakeDue family cleared deserted offs best chosen dispatch written copied rowWords busWords R.scheduled R.finished R.terminated R.cancelled R.cycleQueue R.ticked R.effect R.decide R.noSuch R.inCycle R.isMinor R.isActivation R.lastCount R.wrongBlock R.refusals R.refusal R.wordsAt R.lent R.output R.accepted R.after R.step R.run R.started R.start saidOf C.fieldsSay C.verbOf C.alone C.withNumber C.withValue split onHead led D.readByte D.readOn D.decBy D.dec fieldsText lineText extra numbersOf textOf talkText lastText U.turnText U.turnNext U.askedText U.askedNext askedBy
+panel-prints = refl
+
+pub runner-prints : told false bench panelScript ≡ bytes ("START\t0\t0\t1\n" ⧺ "?\n" ⧺ "U\t0\t0\t0\n" ⧺ "?\n" ⧺ "?\n")
+unfolding panelScript bytes lowestWaking morningScript morningOutput bench morningCalls rig ofTask ofCondition numbers ofLine ofCycle tick₀ iter all any total over put commandWord blank relax met drive names activate takes rouse wake ready offer offers serveFlag serving serve waitOn waitUntilCount leave wakeDue family cleared deserted offs best chosen dispatch written copied rowWords busWords R.scheduled R.finished R.terminated R.cancelled R.cycleQueue R.ticked R.effect R.decide R.noSuch R.inCycle R.isMinor R.isActivation R.lastCount R.wrongBlock R.refusals R.refusal R.wordsAt R.lent R.output R.accepted R.after R.step R.run R.started R.start saidOf C.fieldsSay C.verbOf C.alone C.withNumber C.withValue split onHead led D.readByte D.readOn D.decBy D.dec fieldsText lineText extra numbersOf textOf talkText lastText U.turnText U.turnNext U.askedText U.askedNext askedBy
+runner-prints = refl

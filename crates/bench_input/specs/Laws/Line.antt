@@ -2,7 +2,7 @@
 use Prim.Native.Nat.{ℕ, _+_, _≤_, _<_}
 use mathlib.Core.Path.{_≡_, refl, sym, ap, _∙_, subst}
 use mathlib.Core.Logic.{_⊎_, inl, inr, ⊎-elim}
-use mathlib.Core.Bool.{_&&_}
+use mathlib.Core.Bool.{Bool, _&&_}
 use mathlib.Core.List.{List, [], _∷_, _++_}
 use native.Mathlib.Omega.{arith}
 use native.Mathlib.Numerals.{add-one}
@@ -67,20 +67,20 @@ no-verb [] h = refl
 no-verb (x ∷ []) h = absurd (let z : ⊥ = omega arith in z)
 no-verb (x ∷ y ∷ v) h = refl
 
-fields-long : (ps : List (List ℕ)) → longest < length (join tab ps) → fieldsSay ps ≡ Wrong
+fields-long : (panel : Bool) (ps : List (List ℕ)) → longest < length (join tab ps) → fieldsSay panel ps ≡ Wrong
 unfolding fieldsSay join led alone withNumber withValue
-fields-long [] h = refl
-fields-long (v ∷ []) h =
+fields-long panel [] h = refl
+fields-long panel (v ∷ []) h =
     let e = length-append v [] in
     rw (no-verb v (omega (arith, e)))
-fields-long (v ∷ n ∷ []) h =
+fields-long panel (v ∷ n ∷ []) h =
     by (ltb (number n) cap)
     (λ t. let d = digits n (ltb-true (number n) cap t) in
     let e = length-append v (tab ∷ (n ++ [])) in
     let f = length-append n [] in
     rw (t, no-verb v (omega (arith, e, f))))
     (λ t. rw t)
-fields-long (v ∷ f ∷ b ∷ []) h =
+fields-long panel (v ∷ f ∷ b ∷ []) h =
     by (ltb (number f) cap && ltb (number b) 2)
     (λ t. let w = and-true (ltb (number f) cap) (ltb (number b) 2) t in
     let d = digits f (ltb-true (number f) cap (w .0)) in
@@ -90,11 +90,11 @@ fields-long (v ∷ f ∷ b ∷ []) h =
     let k = length-append b [] in
     rw (t, no-verb v (omega (arith, e, g, k))))
     (λ t. rw t)
-fields-long (v ∷ f ∷ b ∷ x ∷ xs) h = refl
+fields-long panel (v ∷ f ∷ b ∷ x ∷ xs) h = refl
 
-pub too-long : (line : List ℕ) → longest < length line → saidOf line ≡ Wrong
+pub too-long : (panel : Bool) (line : List ℕ) → longest < length line → saidOf panel line ≡ Wrong
 unfolding saidOf
-too-long line h = fields-long (split tab line) (subst (λ (l : List ℕ). longest < length l) (sym (join-split tab line)) h)
+too-long panel line h = fields-long panel (split tab line) (subst (λ (l : List ℕ). longest < length l) (sym (join-split tab line)) h)
 
 -- ---- what is kept of a line
 
@@ -112,5 +112,5 @@ kept-more line kept b w =
     rw t (inr (omega arith, rw (length-append line (b ∷ [])) (⊎-elim (λ (e : kept ≡ line). omega (arith, ap length e)) (λ p. omega (arith, p .1)) w))))
 
 -- both say the same
-pub kept-says : (line kept : List ℕ) → KeptOf line kept → saidOf kept ≡ saidOf line
-kept-says line kept w = ⊎-elim (λ e. ap saidOf e) (λ p. too-long kept (p .0) ∙ sym (too-long line (p .1))) w
+pub kept-says : (panel : Bool) (line kept : List ℕ) → KeptOf line kept → saidOf panel kept ≡ saidOf panel line
+kept-says panel line kept w = ⊎-elim (λ e. ap (saidOf panel) e) (λ p. too-long panel kept (p .0) ∙ sym (too-long panel line (p .1))) w

@@ -13,7 +13,7 @@ behind-requires : tie.Need-behind-requires
 behind-requires c κs = search needs
 
 returns : tie.Need-returns
-returns c = c .behind .ensures ∙ ap (λ (e : Exec). fresh Over e) (c .before .none .ensures)
+returns c = c .behind .ensures ∙ ap (λ (e : Exec). fresh _ Over e) (c .before .none .ensures)
 
 pub over-spec : {M : Type 1} → statement M
 over-spec = tie.close (tie.spec none-requires behind-requires returns)

@@ -45,7 +45,7 @@ returns c =
     let s = c .before .before .before .before .before .before .before .before .before .before .before .before .before .before in
     let k = c .before .before .before .before .before .before .before .before .before .scan in
     let o = c .before .before .before .start in
-    opens-whole (s .args .s) (s .args .keep .now) (s .args .piece .now) (s .args .out .now) (s .pre .1) (k .result) (k .last .0) (k .ensures) (c .before .before .before .before .before .before .if1 .taken) (o .result) (o .last .1 .0) (o .ensures)
+    opens-whole (s .args .s) (s .args .keep .now) (s .args .piece .now) (s .args .out .now) (s .pre .1) (k .result) (k .last .0) (k .ensures) (c .before .before .before .before .before .before .if1 .taken) (o .result) (o .last .1 .1 .0) (o .ensures)
 
 same-length-3 : tie.Need-same-length-3
 same-length-3 c = search needs

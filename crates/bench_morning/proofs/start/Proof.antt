@@ -29,8 +29,8 @@ returns c =
     let s = c .before .before .before .before .before .before .before .before .before .before .before .args in
     let r = c .before .before .before .before .before .before .before .before .read in
     let w = c .before .before .refused in
-    let n : c .before .before .before .before .line-number .result ≡ r .result .line = c .before .before .before .before .line-number .ensures ∙ printed (s .text .now) (s .out .now) (w .last .1 .1 .0) (r .result) (r .ensures) in
-    begins-refused (s .text .now) (s .out .now) (w .last .1 .1 .0) (r .result) (r .ensures) (w .result) (c .before .before .before .before .before .before .if1 .taken) (w .ensures .0) (subst (λ (m : ℕ). Wrote (s .out .now) 0 (lineText startName (r .result .no ∷ m ∷ [])) (w .last .1 .1 .0) (w .result .wrote)) n (w .ensures .1))
+    let n : c .before .before .before .before .line-number .result ≡ r .result .line = c .before .before .before .before .line-number .ensures ∙ printed (s .panel) (s .text .now) (s .out .now) (w .last .1 .1 .0) (r .result) (r .ensures) in
+    begins-refused (s .panel) (s .text .now) (s .out .now) (w .last .1 .1 .0) (r .result) (r .ensures) (w .result) (c .before .before .before .before .before .before .if1 .taken) (w .ensures .0) (subst (λ (m : ℕ). Wrote (s .out .now) 0 (lineText startName (r .result .no ∷ m ∷ [])) (w .last .1 .1 .0) (w .result .wrote)) n (w .ensures .1))
 
 table-of-requires : tie.Need-table-of-requires
 table-of-requires c κs = search needs
@@ -54,7 +54,7 @@ returns-2 : tie.Need-returns-2
 returns-2 c =
     let s = c .before .before .before .before .before .before .before .before .before .before .before .before .before .before .before .args in
     let r = c .before .before .before .before .before .before .before .before .before .before .before .before .read in
-    absurd (never-refused (s .text .now) (s .out .now) (s .out .now) (r .result) (r .ensures) (c .before .before .before .before .before .before .before .before .before .before .if1 .left) (c .before .before .before .before .before .before .before .table-of .result) (c .before .before .before .before .before .before .before .table-of .ensures) (c .before .before .before .before .before .before .start .result) (c .before .before .before .before .before .before .start .ensures) _ (c .before .before .before .before .enum-told .given .1))
+    absurd (never-refused (s .panel) (s .text .now) (s .out .now) (s .out .now) (r .result) (r .ensures) (c .before .before .before .before .before .before .before .before .before .before .if1 .left) (c .before .before .before .before .before .before .before .table-of .result) (c .before .before .before .before .before .before .before .table-of .ensures) (c .before .before .before .before .before .before .start .result) (c .before .before .before .before .before .before .start .ensures) _ (c .before .before .before .before .enum-told .given .1))
 
 cast-put-started : tie.Need-cast-put-started
 cast-put-started c = search needs
@@ -73,7 +73,7 @@ returns-3 c =
     let s = c .before .before .before .before .before .before .before .before .before .before .before .before .before .before .before .before .before .before .before in
     let r = c .before .before .before .before .before .before .before .before .before .before .before .before .before .before .before .before .read in
     let w = c .before .before .before .put-started in
-    begins-accepted (s .args .text .now) (s .args .out .now) (w .last .0) (r .result) (r .ensures) (c .before .before .before .before .before .before .before .before .before .before .before .before .before .before .if1 .left) (c .before .before .before .before .before .before .before .before .before .before .before .table-of .result) (c .before .before .before .before .before .before .before .before .before .before .before .table-of .ensures) (c .before .before .before .before .before .before .before .before .before .before .start .result) (c .before .before .before .before .before .before .before .before .before .before .start .ensures) (record { stream = c .behind .result; wrote = w .result }) (s .pre) (c .behind .ensures) (w .ensures)
+    begins-accepted (s .args .panel) (s .args .text .now) (s .args .out .now) (w .last .0) (r .result) (r .ensures) (c .before .before .before .before .before .before .before .before .before .before .before .before .before .before .if1 .left) (c .before .before .before .before .before .before .before .before .before .before .before .table-of .result) (c .before .before .before .before .before .before .before .before .before .before .before .table-of .ensures) (c .before .before .before .before .before .before .before .before .before .before .start .result) (c .before .before .before .before .before .before .before .before .before .before .start .ensures) (record { stream = c .behind .result; wrote = w .result }) (s .pre) (c .behind .ensures) (w .ensures)
 
 pub start-spec : {M : Type 1} → statement M
 start-spec =

@@ -1,7 +1,7 @@
 -- Laws: the bytes of the rig's text, piece by piece.
 use Prim.Native.Nat.{ℕ, zero, suc, _+_, _-_, _≤_, _<_}
 use mathlib.Core.Path.{_≡_, refl, sym, ap, _∙_, subst}
-use mathlib.Core.Bool.{true, false}
+use mathlib.Core.Bool.{Bool, true, false}
 use mathlib.Core.List.{List, [], _∷_, _++_, append-nil}
 use native.Mathlib.Omega.{arith}
 use lib.ListN.{length, take, drop, length-drop, take-append-drop}
@@ -87,18 +87,18 @@ taken-alone (b ∷ bytes) (suc m) text from rig e h = go (λ u g q. taken-alone 
         λ i. opens (x i) (z i)
 
 -- before the last of them nothing is said
-quiet-before : (bytes : List ℕ) (n : ℕ) (text : List ℕ) (from : ℕ) (rig : List ℕ) → scanned text from bytes ≡ opens rig (drop n bytes) → n ≤ length bytes
-    → (k : ℕ) → k < n → said (opening text from) (take k bytes) ≡ []
+quiet-before : (panel : Bool) (bytes : List ℕ) (n : ℕ) (text : List ℕ) (from : ℕ) (rig : List ℕ) → scanned text from bytes ≡ opens rig (drop n bytes) → n ≤ length bytes
+    → (k : ℕ) → k < n → said (opening panel text from) (take k bytes) ≡ []
 unfolding scanned said says next
-quiet-before bytes n text from rig e h zero l = refl
-quiet-before [] n text from rig e h (suc k) l = absurd (let z : ⊥ = omega arith in z)
-quiet-before (b ∷ bytes) zero text from rig e h (suc k) l = absurd (let z : ⊥ = omega arith in z)
-quiet-before (b ∷ bytes) (suc m) text from rig e h (suc k) l =
-    go (λ u g q. quiet-before bytes m u g rig q (omega arith) k (omega arith)) (withByte text from b) e
+quiet-before panel bytes n text from rig e h zero l = refl
+quiet-before panel [] n text from rig e h (suc k) l = absurd (let z : ⊥ = omega arith in z)
+quiet-before panel (b ∷ bytes) zero text from rig e h (suc k) l = absurd (let z : ⊥ = omega arith in z)
+quiet-before panel (b ∷ bytes) (suc m) text from rig e h (suc k) l =
+    go (λ u g q. quiet-before panel bytes m u g rig q (omega arith) k (omega arith)) (withByte text from b) e
   where
-    go : ((u : List ℕ) (g : ℕ) → scanned u g bytes ≡ opens rig (drop m bytes) → said (opening u g) (take k bytes) ≡ [])
+    go : ((u : List ℕ) (g : ℕ) → scanned u g bytes ≡ opens rig (drop m bytes) → said (opening panel u g) (take k bytes) ≡ [])
         → (o : Opening) → onward o (λ u g. scanned u g bytes) bytes ≡ opens rig (drop m bytes)
-        → openedText o ++ said (opened o) (take k bytes) ≡ []
+        → openedText o ++ said (opened panel o) (take k bytes) ≡ []
     go ih (still u g) e = ih u g e
     go ih (whole u) e =
         let y : bytes ≡ drop m bytes = cc in
@@ -108,7 +108,7 @@ quiet-before (b ∷ bytes) (suc m) text from rig e h (suc k) l =
 -- ---- a piece of the rig's text
 
 module _ (s : Stream) (keep piece out : List ℕ) (p : s .phase ≡ P.Opening) (c : Kept) (kept : List ℕ) (w : Scans keep (s .at) (s .from) piece c kept) where
-  here : deskOf s keep ≡ opening (take (s .at) keep) (s .from)
+  here : deskOf s keep ≡ opening (s .panel) (take (s .at) keep) (s .from)
   here = ap (λ (x : Phase). deskBy x s keep) p
 
   -- the text goes on
@@ -119,15 +119,15 @@ module _ (s : Stream) (keep piece out : List ℕ) (p : s .phase ≡ P.Opening) (
     all-of-it : take (c .took) piece ≡ piece
     all-of-it = ap (λ (n : ℕ). take n piece) (w .goes f .0) ∙ take-length piece
 
-    pub opens-on : (t : Stream) → t ≡ record { phase = s .phase; at = c .at; from = c .from; line = s .line; held = s .held; exec = s .exec }
+    pub opens-on : (t : Stream) → t ≡ record { panel = s .panel; phase = s .phase; at = c .at; from = c .from; line = s .line; held = s .held; exec = s .exec }
         → Opens s keep piece out (record { stream = t; took = c .took; wrote = 0 }) kept out
     opens-on t e =
-        let o = opening-waits piece (take (s .at) keep) (s .from) (take (c .at) kept) (c .from) goes-on in
+        let o = opening-waits (s .panel) piece (take (s .at) keep) (s .from) (take (c .at) kept) (c .from) goes-on in
         let silent : said (deskOf s keep) piece ≡ [] = ap (λ (d : Desk). said d piece) here ∙ o .0 in
         let q : t .phase ≡ P.Opening = ap (λ (x : Stream). x .phase) e ∙ p in
         record {
           desk =
-              ap (λ (x : Stream). deskOf x kept) e ∙ ap (λ (x : Phase). deskBy x (record { phase = s .phase; at = c .at; from = c .from; line = s .line; held = s .held; exec = s .exec }) kept) p
+              ap (λ (x : Stream). deskOf x kept) e ∙ ap (λ (x : Phase). deskBy x (record { panel = s .panel; phase = s .phase; at = c .at; from = c .from; line = s .line; held = s .held; exec = s .exec }) kept) p
               ∙ sym (o .1) ∙ ap (λ (d : Desk). deskAfter d piece) (sym here) ∙ ap (deskAfter (deskOf s keep)) (sym all-of-it);
           wrote =
               wrote-as out out [] (said (deskOf s keep) (take (c .took) piece)) 0 0
@@ -147,22 +147,22 @@ module _ (s : Stream) (keep piece out : List ℕ) (p : s .phase ≡ P.Opening) (
     ends-here : scanned (take (s .at) keep) (s .from) piece ≡ opens (take (c .from) kept) (drop (c .took) piece)
     ends-here = w .is ∙ if-yes (waits (take (c .at) kept) (c .from)) f refl
 
-    pub opens-whole : (o : Line.Started) (written : List ℕ) → Begins (take (c .from) kept) out o written
+    pub opens-whole : (o : Line.Started) (written : List ℕ) → Begins (s .panel) (take (c .from) kept) out o written
         → Opens s keep piece out (record { stream = o .stream; took = c .took; wrote = o .wrote }) kept written
     unfolding deskAfter said
     opens-whole o written b =
         let rig = take (c .from) kept in
         let t = take (s .at) keep in
         let a = taken-alone piece (c .took) t (s .from) rig ends-here (w .took) in
-        let y = opening-opens (take (c .took) piece) t (s .from) rig [] a in
+        let y = opening-opens (s .panel) (take (c .took) piece) t (s .from) rig [] a in
         let text : said (deskOf s keep) (take (c .took) piece) ≡ startText (readOf rig) =
         ap (λ (d : Desk). said d (take (c .took) piece)) here ∙ y .0 ∙ append-nil (startText (readOf rig)) in
-        let place : deskAfter (deskOf s keep) (take (c .took) piece) ≡ deskStarted (readOf rig) = ap (λ (d : Desk). deskAfter d (take (c .took) piece)) here ∙ y .1 in
+        let place : deskAfter (deskOf s keep) (take (c .took) piece) ≡ deskStarted (s .panel) (readOf rig) = ap (λ (d : Desk). deskAfter d (take (c .took) piece)) here ∙ y .1 in
         record {
           desk = b .desk kept ∙ sym place;
           wrote = wrote-as out written (startText (readOf rig)) (said (deskOf s keep) (take (c .took) piece)) 0 (o .wrote) (sym text) (b .wrote);
           took = w .took;
-          quiet = λ k l. ap (λ (d : Desk). said d (take k piece)) here ∙ quiet-before piece (c .took) t (s .from) rig ends-here (w .took) k l;
+          quiet = λ k l. ap (λ (d : Desk). said d (take k piece)) here ∙ quiet-before (s .panel) piece (c .took) t (s .from) rig ends-here (w .took) k l;
           stays = λ z. absurd (b .later z);
           holds = b .holds (length kept);
           size = w .wrote .size;

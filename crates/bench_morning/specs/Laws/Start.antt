@@ -2,6 +2,7 @@
 use Prim.Native.Nat.{ℕ, _≤_}
 use mathlib.Core.Path.{_≡_, refl, sym, ap, _∙_, subst}
 use mathlib.Core.Logic.{_≢_, _⊎_, ⊎-elim}
+use mathlib.Core.Bool.{Bool}
 use mathlib.Core.List.{List, [], _∷_}
 use native.Mathlib.Omega.{arith}
 use lib.ListN.{length}
@@ -38,10 +39,10 @@ use Rattle.bench_morning.specs.declared.Started as Line
 
 -- ---- the line START
 
-module _ (text out written : List ℕ) (a : Answer) (e : a ≡ readOf text) where
-  refused-started : a .no ≢ 0 → deskStarted (readOf text) ≡ over
+module _ (panel : Bool) (text out written : List ℕ) (a : Answer) (e : a ≡ readOf text) where
+  refused-started : a .no ≢ 0 → deskStarted panel (readOf text) ≡ over
   unfolding deskStarted
-  refused-started n = ap deskStarted (sym e) ∙ if-no (talking (fileRig a) (R.start (fileRig a)) []) (ne-eqb (a .no) 0 n) refl
+  refused-started n = ap (deskStarted panel) (sym e) ∙ if-no (talking panel (fileRig a) (R.start (fileRig a)) []) (ne-eqb (a .no) 0 n) refl
 
   refused-text : a .no ≢ 0 → lineText startName (a .no ∷ a .line ∷ []) ≡ startText (readOf text)
   unfolding startText
@@ -64,7 +65,7 @@ module _ (text out written : List ℕ) (a : Answer) (e : a ≡ readOf text) wher
 
   -- refused
   pub begins-refused : (r : Line.Started) → a .no ≢ 0 → r .stream ≡ nothingMore → Wrote out 0 (lineText startName (a .no ∷ a .line ∷ [])) written (r .wrote)
-      → Begins text out r written
+      → Begins panel text out r written
   begins-refused r n q w =
       record {
         wrote = wrote-as out written (lineText startName (a .no ∷ a .line ∷ [])) (startText (readOf text)) 0 (r .wrote) (refused-text n) w;
@@ -97,10 +98,10 @@ module _ (text out written : List ℕ) (a : Answer) (e : a ≡ readOf text) wher
     its-view : view (st .exec) ≡ R.start (fileRig a)
     its-view = its-start .next ∙ ap (λ (c : List Cycle). R.start (rigOf (a .rig) c)) rows
 
-    accepted-started : talking (rigIn (st .exec)) (view (st .exec)) [] ≡ deskStarted (readOf text)
+    accepted-started : talking panel (rigIn (st .exec)) (view (st .exec)) [] ≡ deskStarted panel (readOf text)
     unfolding deskStarted
     accepted-started =
-        (λ i. talking (its-rig i) (its-view i) []) ∙ sym (if-yes over (eq-eqb (a .no) 0 z) refl) ∙ ap deskStarted e
+        (λ i. talking panel (its-rig i) (its-view i) []) ∙ sym (if-yes over (eq-eqb (a .no) 0 z) refl) ∙ ap (deskStarted panel) e
 
     accepted-text : lineText startName (0 ∷ st .exec .st .count ∷ st .exec .st .running ∷ []) ≡ startText (readOf text)
     unfolding startText
@@ -108,8 +109,8 @@ module _ (text out written : List ℕ) (a : Answer) (e : a ≡ readOf text) wher
         ap (λ (v : S.State). lineText startName (0 ∷ v .count ∷ v .running ∷ [])) its-view
         ∙ sym (if-yes (lineText startName (a .no ∷ a .line ∷ [])) (eq-eqb (a .no) 0 z) refl) ∙ ap startText e
 
-    pub begins-accepted : (r : Line.Started) → startRoom ≤ length out → r .stream ≡ fresh Talking (st .exec)
-        → Begun out (0 ∷ st .exec .st .count ∷ st .exec .st .running ∷ []) written (r .wrote) → Begins text out r written
+    pub begins-accepted : (r : Line.Started) → startRoom ≤ length out → r .stream ≡ fresh panel Talking (st .exec)
+        → Begun out (0 ∷ st .exec .st .count ∷ st .exec .st .running ∷ []) written (r .wrote) → Begins panel text out r written
     begins-accepted r h q b =
         record {
           wrote =

@@ -1,6 +1,7 @@
 -- WHAT THE OPENING OWES: the line START, and the bytes of the rig's text up to it.
 use Prim.Native.Nat.{ℕ, _≤_, _<_}
 use mathlib.Core.Path.{_≡_}
+use mathlib.Core.Bool.{Bool}
 use mathlib.Core.List.{List, []}
 use lib.ListN.{length, take}
 use Rattle.rig_meaning.specs.Reading.{readOf}
@@ -14,9 +15,9 @@ use Rattle.bench_morning.specs.declared.Phase.the-variants.{Opening}
 use Rattle.bench_morning.specs.declared.Started.{Started}
 
 -- the rig's text is whole
-pub record Begins (text out : List ℕ) (r : Started) (written : List ℕ) : Type 0 where
+pub record Begins (panel : Bool) (text out : List ℕ) (r : Started) (written : List ℕ) : Type 0 where
   pub wrote : Wrote out 0 (startText (readOf text)) written (r .wrote)
-  pub desk : (keep : List ℕ) → deskOf (r .stream) keep ≡ deskStarted (readOf text)
+  pub desk : (keep : List ℕ) → deskOf (r .stream) keep ≡ deskStarted panel (readOf text)
   pub holds : (kept : ℕ) → HoldsIn (r .stream) kept
   pub later : r .stream .phase ≡ Opening → ⊥
 

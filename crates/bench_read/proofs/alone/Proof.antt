@@ -1,4 +1,5 @@
-use mathlib.Core.Path.{sym, refl}
+use mathlib.Core.Path.{sym, refl, _∙_}
+use borrow.Author.Needs.{needs}
 use borrow.Author.Tests.{eq-eqb, ne-eqb}
 use Rattle.laws.specs.Cases.{if-yes, if-no}
 use Rattle.bench_script.specs.Script.{alone}
@@ -13,9 +14,19 @@ returns-2 : tie.Need-returns-2
 unfolding alone
 returns-2 c = sym (if-no _ (ne-eqb _ _ (c .before .if1 .left)) (if-yes _ (eq-eqb _ _ (c .if2 .taken)) refl))
 
+of-panel-requires : tie.Need-of-panel-requires
+of-panel-requires c κs = search needs
+
 returns-3 : tie.Need-returns-3
 unfolding alone
-returns-3 c = sym (if-no _ (ne-eqb _ _ (c .before .if1 .left)) (if-no _ (ne-eqb _ _ (c .if2 .left)) refl))
+returns-3 c =
+    c .of-panel .ensures
+    ∙ sym (if-no _ (ne-eqb _ _ (c .before .before .before .if1 .left)) (if-no _ (ne-eqb _ _ (c .before .before .if2 .left)) (if-yes _ (eq-eqb _ _ (c .before .if3 .taken)) refl)))
+
+returns-4 : tie.Need-returns-4
+unfolding alone
+returns-4 c =
+    sym (if-no _ (ne-eqb _ _ (c .before .before .if1 .left)) (if-no _ (ne-eqb _ _ (c .before .if2 .left)) (if-no _ (ne-eqb _ _ (c .if3 .left)) refl)))
 
 pub alone-spec : {M : Type 1} → statement M
-alone-spec = tie.close (tie.spec returns returns-2 returns-3)
+alone-spec = tie.close (tie.spec returns returns-2 of-panel-requires returns-3 returns-4)

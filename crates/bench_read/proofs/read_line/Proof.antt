@@ -31,8 +31,8 @@ alone-requires c κs = search needs
 returns : tie.Need-returns
 unfolding part
 returns c =
-    c .alone .ensures ∙ ap alone (c .before .before .verb-of .ensures)
-    ∙ sym (one-field (c .before .before .before .before .before .before .args .line .now) (c .before .before .before .before .find .result) (c .before .before .before .before .find .ensures) (c .before .if1 .taken))
+    c .alone .ensures ∙ ap (alone (c .before .before .before .before .before .before .args .panel)) (c .before .before .verb-of .ensures)
+    ∙ sym (one-field _ (c .before .before .before .before .before .before .args .line .now) (c .before .before .before .before .find .result) (c .before .before .before .before .find .ensures) (c .before .if1 .taken))
 
 add-a : tie.Need-add-a
 add-a c = search needs
@@ -58,7 +58,7 @@ returns-2 c =
     let s = c .before .before .before .before .before .before .before .before .before .args .line .now in
     let p = c .before .before .before .before .before .before .before .find in
     let q = c .before .before .before .find2 in
-    sym (bad-number s (p .result) (p .ensures) (short-of s 0 9 (p .result) (p .ensures) (c .before .before .before .before .if1 .left)) (q .result) (q .ensures)
+    sym (bad-number _ s (p .result) (p .ensures) (short-of s 0 9 (p .result) (p .ensures) (c .before .before .before .before .if1 .left)) (q .result) (q .ensures)
     (subst (λ (x : ℕ). cap ≤ x) (c .before .number-in .ensures) (omega (arith, c .if2 .taken))))
 
 cast-with-number : tie.Need-cast-with-number
@@ -75,7 +75,7 @@ returns-3 c =
     let q = c .before .before .before .before .before .find2 in
     let n = c .before .before .before .number-in in
     c .with-number .ensures ∙ number-same (c .before .before .before .before .before .before .before .verb-of .ensures) (n .ensures)
-    ∙ sym (two-fields s (p .result) (p .ensures) (short-of s 0 9 (p .result) (p .ensures) (c .before .before .before .before .before .before .if1 .left)) (q .result) (q .ensures)
+    ∙ sym (two-fields _ s (p .result) (p .ensures) (short-of s 0 9 (p .result) (p .ensures) (c .before .before .before .before .before .before .if1 .left)) (q .result) (q .ensures)
     (subst (λ (x : ℕ). x < cap) (n .ensures) (c .before .before .if2 .left)) (c .before .if3 .taken))
 
 add-b : tie.Need-add-b
@@ -91,7 +91,7 @@ returns-4 c =
     let p = c .before .before .before .before .before .before .before .before .before .before .find in
     let q = c .before .before .before .before .before .before .find2 in
     let t = c .before .find3 in
-    sym (more-fields s (p .result) (p .ensures) (short-of s 0 9 (p .result) (p .ensures) (c .before .before .before .before .before .before .before .if1 .left)) (q .result) (q .ensures)
+    sym (more-fields _ s (p .result) (p .ensures) (short-of s 0 9 (p .result) (p .ensures) (c .before .before .before .before .before .before .before .if1 .left)) (q .result) (q .ensures)
     (short-of s (p .result + 1) 9 (q .result) (q .ensures) (c .before .before .if3 .left)) (t .result) (t .ensures) (c .if4 .taken))
 
 sub-number-in-2 : tie.Need-sub-number-in-2
@@ -113,7 +113,7 @@ returns-5 c =
     let p = c .before .before .before .before .before .before .before .before .before .before .before .before .before .find in
     let q = c .before .before .before .before .before .before .before .before .before .find2 in
     let t = c .before .before .before .before .find3 in
-    sym (bad-value s (p .result) (p .ensures) (short-of s 0 9 (p .result) (p .ensures) (c .before .before .before .before .before .before .before .before .before .before .if1 .left)) (q .result) (q .ensures)
+    sym (bad-value _ s (p .result) (p .ensures) (short-of s 0 9 (p .result) (p .ensures) (c .before .before .before .before .before .before .before .before .before .before .if1 .left)) (q .result) (q .ensures)
     (short-of s (p .result + 1) 9 (q .result) (q .ensures) (c .before .before .before .before .before .if3 .left)) (t .result) (t .ensures)
     (subst (λ (x : ℕ). x < cap) (c .before .before .before .before .before .before .before .number-in .ensures) (c .before .before .before .before .before .before .if2 .left))
     (le-antisymm (t .ensures .high) (c .before .before .before .if4 .left))
@@ -136,7 +136,7 @@ returns-6 c =
     let m = c .before .before .number-in2 in
     c .with-value .ensures
     ∙ value-same (c .before .before .before .before .before .before .before .before .before .before .before .before .verb-of .ensures) (n .ensures) (m .ensures)
-    ∙ sym (three-fields s (p .result) (p .ensures) (short-of s 0 9 (p .result) (p .ensures) (c .before .before .before .before .before .before .before .before .before .before .before .if1 .left)) (q .result) (q .ensures)
+    ∙ sym (three-fields _ s (p .result) (p .ensures) (short-of s 0 9 (p .result) (p .ensures) (c .before .before .before .before .before .before .before .before .before .before .before .if1 .left)) (q .result) (q .ensures)
     (short-of s (p .result + 1) 9 (q .result) (q .ensures) (c .before .before .before .before .before .before .if3 .left)) (t .result) (t .ensures)
     (subst (λ (x : ℕ). x < cap) (n .ensures) (c .before .before .before .before .before .before .before .if2 .left))
     (le-antisymm (t .ensures .high) (c .before .before .before .before .if4 .left))

@@ -1,6 +1,7 @@
 -- Laws: what a script line says, by where its tabs stand.
 use Prim.Native.Nat.{ℕ, _+_, _≤_, _<_}
 use mathlib.Core.Path.{_≡_, refl, sym, ap, _∙_}
+use mathlib.Core.Bool.{Bool}
 use mathlib.Core.List.{List, [], _∷_}
 use native.Mathlib.Omega.{arith}
 use lib.Dec.{eqb}
@@ -15,11 +16,11 @@ use Rattle.bench_script.specs.Script.{verbOf, alone, withNumber, withVal
 use Rattle.bench_script.specs.declared.Said.the-variants.{Wrong}
 
 -- a number too large, or no decimal, is of wrong shape whatever follows it
-pub wrong-number : (v n : List ℕ) (ps : List (List ℕ)) → cap ≤ number n → fieldsSay (v ∷ n ∷ ps) ≡ Wrong
+pub wrong-number : (panel : Bool) (v n : List ℕ) (ps : List (List ℕ)) → cap ≤ number n → fieldsSay panel (v ∷ n ∷ ps) ≡ Wrong
 unfolding fieldsSay
-wrong-number v n [] h = rw (le-ltb (number n) cap h)
-wrong-number v n (b ∷ []) h = rw (le-ltb (number n) cap h)
-wrong-number v n (b ∷ x ∷ xs) h = refl
+wrong-number panel v n [] h = rw (le-ltb (number n) cap h)
+wrong-number panel v n (b ∷ []) h = rw (le-ltb (number n) cap h)
+wrong-number panel v n (b ∷ x ∷ xs) h = refl
 
 -- a field of one letter is a verb, and no other is
 pub verb-one : (f : List ℕ) → length f ≡ 1 → getD f 0 0 ≡ verbOf f
@@ -46,15 +47,15 @@ pub short-of : (s : List ℕ) (a c b : ℕ) → Found s a (length s) c b → (b 
 short-of s a c b f n = let h = f .high in omega arith
 
 -- what a line says, by where its tabs stand: p the first, q the second, t the third, or the line's end
-module _ (s : List ℕ) (p : ℕ) (fp : Found s 0 (length s) 9 p) where
+module _ (panel : Bool) (s : List ℕ) (p : ℕ) (fp : Found s 0 (length s) 9 p) where
   first-piece : split 9 s ≡ part 0 p s ∷ rest 9 (part p (length s) s)
   first-piece = ap (split 9) (sym (part-all s)) ∙ piece s 0 (length s) 9 p (omega arith) fp
 
-  pub one-field : p ≡ length s → saidOf s ≡ alone (verbOf (part 0 p s))
+  pub one-field : p ≡ length s → saidOf panel s ≡ alone panel (verbOf (part 0 p s))
   unfolding saidOf fieldsSay
   one-field e =
       let z : rest 9 (part p (length s) s) ≡ [] = rw e (rest-none 9 (length s) s) in
-      ap fieldsSay (first-piece ∙ ap (λ (l : List (List ℕ)). part 0 p s ∷ l) z)
+      ap (fieldsSay panel) (first-piece ∙ ap (λ (l : List (List ℕ)). part 0 p s ∷ l) z)
 
   module _ (h : p < length s) (q : ℕ) (fq : Found s (p + 1) (length s) 9 q) where
     two-pieces : split 9 s ≡ part 0 p s ∷ part (p + 1) q s ∷ rest 9 (part q (length s) s)
@@ -62,15 +63,15 @@ module _ (s : List ℕ) (p : ℕ) (fp : Found s 0 (length s) 9 p) where
         first-piece
         ∙ ap (λ (l : List (List ℕ)). part 0 p s ∷ l) (rest-next 9 p (length s) s h (omega arith) ∙ piece s (p + 1) (length s) 9 q (omega arith) fq)
 
-    pub bad-number : cap ≤ number (part (p + 1) q s) → saidOf s ≡ Wrong
+    pub bad-number : cap ≤ number (part (p + 1) q s) → saidOf panel s ≡ Wrong
     unfolding saidOf
-    bad-number n = ap fieldsSay two-pieces ∙ wrong-number (part 0 p s) (part (p + 1) q s) (rest 9 (part q (length s) s)) n
+    bad-number n = ap (fieldsSay panel) two-pieces ∙ wrong-number panel (part 0 p s) (part (p + 1) q s) (rest 9 (part q (length s) s)) n
 
-    pub two-fields : number (part (p + 1) q s) < cap → q ≡ length s → saidOf s ≡ withNumber (verbOf (part 0 p s)) (number (part (p + 1) q s))
+    pub two-fields : number (part (p + 1) q s) < cap → q ≡ length s → saidOf panel s ≡ withNumber (verbOf (part 0 p s)) (number (part (p + 1) q s))
     unfolding saidOf fieldsSay
     two-fields n e =
         let z : rest 9 (part q (length s) s) ≡ [] = rw e (rest-none 9 (length s) s) in
-        ap fieldsSay (two-pieces ∙ ap (λ (l : List (List ℕ)). part 0 p s ∷ part (p + 1) q s ∷ l) z)
+        ap (fieldsSay panel) (two-pieces ∙ ap (λ (l : List (List ℕ)). part 0 p s ∷ part (p + 1) q s ∷ l) z)
         ∙ if-yes Wrong (lt-ltb (number (part (p + 1) q s)) cap n) refl
 
     module _ (k : q < length s) (t : ℕ) (ft : Found s (q + 1) (length s) 9 t) where
@@ -80,26 +81,26 @@ module _ (s : List ℕ) (p : ℕ) (fp : Found s 0 (length s) 9 p) where
           ∙ ap (λ (l : List (List ℕ)). part 0 p s ∷ part (p + 1) q s ∷ l)
           (rest-next 9 q (length s) s k (omega arith) ∙ piece s (q + 1) (length s) 9 t (omega arith) ft)
 
-      pub more-fields : t < length s → saidOf s ≡ Wrong
+      pub more-fields : t < length s → saidOf panel s ≡ Wrong
       unfolding saidOf fieldsSay
       more-fields l =
           let w = split-cons 9 (part (t + 1) (length s) s) in
-          ap fieldsSay
+          ap (fieldsSay panel)
           (three-pieces
           ∙ ap (λ (l : List (List ℕ)). part 0 p s ∷ part (p + 1) q s ∷ part (q + 1) t s ∷ l) (rest-next 9 t (length s) s l (omega arith) ∙ w .2))
 
       module _ (n : number (part (p + 1) q s) < cap) (e : t ≡ length s) where
-        three : saidOf s ≡ fieldsSay (part 0 p s ∷ part (p + 1) q s ∷ part (q + 1) t s ∷ [])
+        three : saidOf panel s ≡ fieldsSay panel (part 0 p s ∷ part (p + 1) q s ∷ part (q + 1) t s ∷ [])
         unfolding saidOf
         three =
             let z : rest 9 (part t (length s) s) ≡ [] = rw e (rest-none 9 (length s) s) in
-            ap fieldsSay (three-pieces ∙ ap (λ (l : List (List ℕ)). part 0 p s ∷ part (p + 1) q s ∷ part (q + 1) t s ∷ l) z)
+            ap (fieldsSay panel) (three-pieces ∙ ap (λ (l : List (List ℕ)). part 0 p s ∷ part (p + 1) q s ∷ part (q + 1) t s ∷ l) z)
 
-        pub bad-value : 1 < number (part (q + 1) t s) → saidOf s ≡ Wrong
+        pub bad-value : 1 < number (part (q + 1) t s) → saidOf panel s ≡ Wrong
         unfolding fieldsSay
         bad-value b = three ∙ rw (lt-ltb (number (part (p + 1) q s)) cap n, le-ltb (number (part (q + 1) t s)) 2 (omega arith))
 
         pub three-fields : number (part (q + 1) t s) ≤ 1
-            → saidOf s ≡ withValue (verbOf (part 0 p s)) (number (part (p + 1) q s)) (eqb (number (part (q + 1) t s)) 1)
+            → saidOf panel s ≡ withValue (verbOf (part 0 p s)) (number (part (p + 1) q s)) (eqb (number (part (q + 1) t s)) 1)
         unfolding fieldsSay
         three-fields b = three ∙ rw (lt-ltb (number (part (p + 1) q s)) cap n, lt-ltb (number (part (q + 1) t s)) 2 (omega arith))

@@ -1,21 +1,22 @@
 -- Laws of output lines as they are written, field after field.
 use Prim.Native.Nat.{ℕ, zero, suc, _+_, _*_, _/_, _%_, _≤_, _<_}
 use mathlib.Core.Path.{_≡_, refl, sym, ap, _∙_}
-use mathlib.Core.Logic.{_⊎_, inl, ⊎-elim}
+use mathlib.Core.Logic.{_≢_, _⊎_, inl, ⊎-elim}
 use mathlib.Core.List.{List, [], _∷_, _++_, map, map-append, append-assoc, append-nil}
 use native.Mathlib.Omega.{arith}
 use native.Mathlib.Numerals.{add-one}
 use lib.Dec.{ltb}
 use lib.ListN.{length, getD, take, set, length-append, length-take}
 use lib.Seq.{take-suc, take-all}
-use Rattle.laws.specs.Cases.{by}
+use borrow.Author.Tests.{eq-eqb, ne-eqb}
+use Rattle.laws.specs.Cases.{by, if-yes, if-no}
 use Rattle.put_text.specs.Wrote.{Wrote}
 use Rattle.put_text.specs.Laws.Wrote.{wrote-same, wrote-then, wrote-as, wrote-none, byte-then, then-byte, room-left}
 use Rattle.decimal.specs.Decimal.{decBy, dec}
 use Rattle.text.specs.Split.{led}
 use Rattle.text.specs.Laws.Split.{led-append}
 use Rattle.bench_script.specs.Letters.{startName}
-use Rattle.bench_script.specs.Output.{fieldsText, lineText, startRoom}
+use Rattle.bench_script.specs.Output.{fieldsText, ifAny, lineText, startRoom}
 
 length-take-most : (i : ℕ) (l : List ℕ) → length (take i l) ≤ i
 length-take-most i l = rw length-take (omega arith)
@@ -40,6 +41,14 @@ fields-append a b = rw (map-append, led-append)
 pub fields-none : fieldsText [] ≡ []
 unfolding fieldsText led
 fields-none = refl
+
+-- a number of which 0 says that there is none
+pub any-none : (n : ℕ) (l : List ℕ) (at : ℕ) → n ≡ 0 → Wrote l at (fieldsText (ifAny n)) l at
+any-none n l at e =
+    wrote-as l l [] (fieldsText (ifAny n)) at at (sym (ap fieldsText (if-yes (n ∷ []) (eq-eqb n 0 e) refl) ∙ fields-none)) (wrote-none l at)
+
+pub any-one : (n : ℕ) (l m : List ℕ) (at p : ℕ) → n ≢ 0 → Wrote l at (fieldsText (n ∷ [])) m p → Wrote l at (fieldsText (ifAny n)) m p
+any-one n l m at p e w = wrote-as l m (fieldsText (n ∷ [])) (fieldsText (ifAny n)) at p (sym (ap fieldsText (if-no [] (ne-eqb n 0 e) refl))) w
 
 pub fields-one : (n : ℕ) → fieldsText (n ∷ []) ≡ 9 ∷ dec n
 unfolding fieldsText led

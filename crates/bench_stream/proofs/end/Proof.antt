@@ -28,7 +28,7 @@ held-here c =
     holds-of (s .s) (length (s .keep .now)) (length (s .out .now)) Talking (c .enum-told2 .given .1) (ready (c .before .before)) .0
 
 long : (c : tie.Start) → length (c .args .s .line) ≡ lineRoom
-long c = search (needs, c .good .0 .1 .1 .1 .0)
+long c = search (needs, c .good .0 .1 .1 .1 .1 .0)
 
 sane-requires : tie.Need-sane-requires
 sane-requires c κs = search needs
@@ -83,7 +83,7 @@ returns-2 : tie.Need-returns-2
 returns-2 c =
     let s = c .before .before .before .before .before .before .before .before .before .before .before .args in
     let o = c .before .before .start in
-    record { is = inl (ready (c .before .before .before .before .before .before .before), end-opening (s .s) (s .keep .now) (s .out .now) (c .before .before .before .before .before .enum-told .given .1) (o .result) (o .last .1 .0) (o .ensures)) }
+    record { is = inl (ready (c .before .before .before .before .before .before .before), end-opening (s .s) (s .keep .now) (s .out .now) (c .before .before .before .before .before .enum-told .given .1) (o .result) (o .last .1 .1 .0) (o .ensures)) }
 
 same-length-2 : tie.Need-same-length-2
 same-length-2 c = search needs

@@ -3,6 +3,7 @@
 use Prim.Native.Nat.{ℕ, _+_, _≤_, _<_}
 use mathlib.Core.Path.{_≡_, refl, sym, ap, _∙_, subst}
 use mathlib.Core.Logic.{_⊎_, ⊎-elim}
+use mathlib.Core.Bool.{Bool}
 use mathlib.Core.List.{List, [], _++_, append-assoc, append-nil}
 use native.Mathlib.Omega.{arith}
 use lib.Dec.{ltb}
@@ -25,91 +26,93 @@ use Rattle.bench_stream.specs.Laws.Fits.{ready-takes}
 use Rattle.bench_morning.specs.declared.Stream.{Stream}
 use Rattle.bench_morning.specs.declared.Fed.{Fed}
 
--- a run of feeds from the beginning: the bytes read, the bytes written, the stream and its buffer then. Pieces and rooms are any.
-pub data Run : List ℕ → List ℕ → Stream → List ℕ → Type 0 where
-  begins : (keep : List ℕ) → full ≤ length keep → Run [] [] beginning keep
-  feeds : (read written : List ℕ) (s : Stream) (keep : List ℕ) → Run read written s keep
+-- with the panel's verbs on or off
+module _ (panel : Bool) where
+  -- a run of feeds from the beginning: the bytes read, the bytes written, the stream and its buffer then. Pieces and rooms are any.
+  pub data Run : List ℕ → List ℕ → Stream → List ℕ → Type 0 where
+    begins : (keep : List ℕ) → full ≤ length keep → Run [] [] (beginning panel) keep
+    feeds : (read written : List ℕ) (s : Stream) (keep : List ℕ) → Run read written s keep
+        → (piece out : List ℕ) (r : Fed) (kept front : List ℕ) → Feeds s keep piece out r kept front
+        → Run (read ++ take (r .took) piece) (written ++ take (r .wrote) front) (r .stream) kept
+
+  -- what holds of a stream after any run
+  pub record Streams (read written : List ℕ) (s : Stream) (keep : List ℕ) : Type 0 where
+    pub desk : deskOf s keep ≡ deskAfter (begun panel) read
+    pub text : written ≡ said (begun panel) read
+    pub holds : HoldsIn s (length keep)
+
+  -- what was written stands at the front
+  pub wrote-front : (out t m : List ℕ) (n : ℕ) → Wrote out 0 t m n → take n m ≡ t
+  unfolding put
+  wrote-front out t m n w =
+      let p : length t ≡ n = let e = w .place in omega arith in
+      ap (take n) (w .text) ∙ take-at t _ n p
+
+  streams-begin : (keep : List ℕ) → full ≤ length keep → Streams [] [] (beginning panel) keep
+  unfolding deskAfter said
+  streams-begin keep h = record { desk = refl; text = refl; holds = (h, omega arith, omega arith) }
+
+  streams-feed : (read written : List ℕ) (s : Stream) (keep : List ℕ) → Streams read written s keep
       → (piece out : List ℕ) (r : Fed) (kept front : List ℕ) → Feeds s keep piece out r kept front
-      → Run (read ++ take (r .took) piece) (written ++ take (r .wrote) front) (r .stream) kept
+      → Streams (read ++ take (r .took) piece) (written ++ take (r .wrote) front) (r .stream) kept
+  streams-feed read written s keep w piece out r kept front f =
+      ⊎-elim
+      (λ p. let m = p .1 in
+      let t = take (r .took) piece in
+      record {
+        desk = m .desk ∙ ap (λ (d : Desk). deskAfter d t) (w .desk) ∙ sym (after-append (begun panel) read t);
+        text =
+            (λ i. w .text i ++ wrote-front out (said (deskOf s keep) t) front (r .wrote) (m .wrote) i)
+            ∙ ap (λ (d : Desk). said (begun panel) read ++ said d t) (w .desk) ∙ sym (said-append (begun panel) read t);
+        holds = m .holds;
+      })
+      (λ p. let n : r .took ≡ 0 = ap (λ (x : Fed). x .took) (p .1) in
+      let z : r .wrote ≡ 0 = ap (λ (x : Fed). x .wrote) (p .1) in
+      let a : read ≡ read ++ take (r .took) piece = sym (ap (λ (k : ℕ). read ++ take k piece) n ∙ append-nil read) in
+      let b : written ≡ written ++ take (r .wrote) front = sym (ap (λ (k : ℕ). written ++ take k front) z ∙ append-nil written) in
+      let c : s ≡ r .stream = sym (ap (λ (x : Fed). x .stream) (p .1)) in
+      subst (λ (x : List ℕ). Streams x (written ++ take (r .wrote) front) (r .stream) kept) a
+      (subst (λ (x : List ℕ). Streams read x (r .stream) kept) b
+      (subst (λ (x : Stream). Streams read written x kept) c (subst (Streams read written s) (sym (p .2)) w))))
+      (f .is)
 
--- what holds of a stream after any run
-pub record Streams (read written : List ℕ) (s : Stream) (keep : List ℕ) : Type 0 where
-  pub desk : deskOf s keep ≡ deskAfter begun read
-  pub text : written ≡ said begun read
-  pub holds : HoldsIn s (length keep)
+  pub run-streams : (read written : List ℕ) (s : Stream) (keep : List ℕ) → Run read written s keep → Streams read written s keep
+  run-streams _ _ _ _ (begins keep h) = streams-begin keep h
+  run-streams _ _ _ _ (feeds read written s keep u piece out r kept front f) =
+      streams-feed read written s keep (run-streams read written s keep u) piece out r kept front f
 
--- what was written stands at the front
-pub wrote-front : (out t m : List ℕ) (n : ℕ) → Wrote out 0 t m n → take n m ≡ t
-unfolding put
-wrote-front out t m n w =
-    let p : length t ≡ n = let e = w .place in omega arith in
-    ap (take n) (w .text) ∙ take-at t _ n p
+  -- THE PROMISE, at the end: all of the morning
+  pub ended-whole : (read written : List ℕ) (s : Stream) (keep : List ℕ) → Run read written s keep
+      → (out : List ℕ) (n : ℕ) (front : List ℕ) → turnRoom ≤ length out → Ends s keep out n front
+      → written ++ take n front ≡ morningText panel read
+  ended-whole read written s keep u out n front h e =
+      let w = run-streams read written s keep u in
+      ⊎-elim
+      (λ p. (λ i. w .text i ++ wrote-front out (lastSaid (deskOf s keep)) front n (p .1) i)
+      ∙ ap (λ (d : Desk). said (begun panel) read ++ lastSaid d) (w .desk) ∙ whole-morning panel read)
+      (λ p. absurd (p .0 (record { room = h; holds = w .holds })))
+      (e .is)
 
-streams-begin : (keep : List ℕ) → full ≤ length keep → Streams [] [] beginning keep
-unfolding deskAfter said
-streams-begin keep h = record { desk = refl; text = refl; holds = (h, omega arith, omega arith) }
+  -- and before it: what was written begins the morning, however the input goes on
+  pub so-far : (read written : List ℕ) (s : Stream) (keep : List ℕ) → Run read written s keep
+      → (rest : List ℕ) → morningText panel (read ++ rest) ≡ written ++ (said (deskOf s keep) rest ++ lastSaid (deskAfter (deskOf s keep) rest))
+  so-far read written s keep u rest =
+      let w = run-streams read written s keep u in
+      sym (whole-morning panel (read ++ rest))
+      ∙ (λ i. said-append (begun panel) read rest i ++ lastSaid (after-append (begun panel) read rest i))
+      ∙ append-assoc (said (begun panel) read) (said (deskAfter (begun panel) read) rest) (lastSaid (deskAfter (deskAfter (begun panel) read) rest))
+      ∙ (λ i. sym (w .text) i ++ (said (sym (w .desk) i) rest ++ lastSaid (deskAfter (sym (w .desk) i) rest)))
 
-streams-feed : (read written : List ℕ) (s : Stream) (keep : List ℕ) → Streams read written s keep
-    → (piece out : List ℕ) (r : Fed) (kept front : List ℕ) → Feeds s keep piece out r kept front
-    → Streams (read ++ take (r .took) piece) (written ++ take (r .wrote) front) (r .stream) kept
-streams-feed read written s keep w piece out r kept front f =
-    ⊎-elim
-    (λ p. let m = p .1 in
-    let t = take (r .took) piece in
-    record {
-      desk = m .desk ∙ ap (λ (d : Desk). deskAfter d t) (w .desk) ∙ sym (after-append begun read t);
-      text =
-          (λ i. w .text i ++ wrote-front out (said (deskOf s keep) t) front (r .wrote) (m .wrote) i)
-          ∙ ap (λ (d : Desk). said begun read ++ said d t) (w .desk) ∙ sym (said-append begun read t);
-      holds = m .holds;
-    })
-    (λ p. let n : r .took ≡ 0 = ap (λ (x : Fed). x .took) (p .1) in
-    let z : r .wrote ≡ 0 = ap (λ (x : Fed). x .wrote) (p .1) in
-    let a : read ≡ read ++ take (r .took) piece = sym (ap (λ (k : ℕ). read ++ take k piece) n ∙ append-nil read) in
-    let b : written ≡ written ++ take (r .wrote) front = sym (ap (λ (k : ℕ). written ++ take k front) z ∙ append-nil written) in
-    let c : s ≡ r .stream = sym (ap (λ (x : Fed). x .stream) (p .1)) in
-    subst (λ (x : List ℕ). Streams x (written ++ take (r .wrote) front) (r .stream) kept) a
-    (subst (λ (x : List ℕ). Streams read x (r .stream) kept) b
-    (subst (λ (x : Stream). Streams read written x kept) c (subst (Streams read written s) (sym (p .2)) w))))
-    (f .is)
+  -- TWO WAYS OF CUTTING the same bytes write the same
+  pub same-output : (read a b : List ℕ) (s t : Stream) (keep kept : List ℕ) → Run read a s keep → Run read b t kept → a ≡ b
+  same-output read a b s t keep kept u v = run-streams read a s keep u .text ∙ sym (run-streams read b t kept v .text)
 
-pub run-streams : (read written : List ℕ) (s : Stream) (keep : List ℕ) → Run read written s keep → Streams read written s keep
-run-streams _ _ _ _ (begins keep h) = streams-begin keep h
-run-streams _ _ _ _ (feeds read written s keep u piece out r kept front f) =
-    streams-feed read written s keep (run-streams read written s keep u) piece out r kept front f
-
--- THE PROMISE, at the end: all of the morning
-pub ended-whole : (read written : List ℕ) (s : Stream) (keep : List ℕ) → Run read written s keep
-    → (out : List ℕ) (n : ℕ) (front : List ℕ) → turnRoom ≤ length out → Ends s keep out n front
-    → written ++ take n front ≡ morningText read
-ended-whole read written s keep u out n front h e =
-    let w = run-streams read written s keep u in
-    ⊎-elim
-    (λ p. (λ i. w .text i ++ wrote-front out (lastSaid (deskOf s keep)) front n (p .1) i)
-    ∙ ap (λ (d : Desk). said begun read ++ lastSaid d) (w .desk) ∙ whole-morning read)
-    (λ p. absurd (p .0 (record { room = h; holds = w .holds })))
-    (e .is)
-
--- and before it: what was written begins the morning, however the input goes on
-pub so-far : (read written : List ℕ) (s : Stream) (keep : List ℕ) → Run read written s keep
-    → (rest : List ℕ) → morningText (read ++ rest) ≡ written ++ (said (deskOf s keep) rest ++ lastSaid (deskAfter (deskOf s keep) rest))
-so-far read written s keep u rest =
-    let w = run-streams read written s keep u in
-    sym (whole-morning (read ++ rest))
-    ∙ (λ i. said-append begun read rest i ++ lastSaid (after-append begun read rest i))
-    ∙ append-assoc (said begun read) (said (deskAfter begun read) rest) (lastSaid (deskAfter (deskAfter begun read) rest))
-    ∙ (λ i. sym (w .text) i ++ (said (sym (w .desk) i) rest ++ lastSaid (deskAfter (sym (w .desk) i) rest)))
-
--- TWO WAYS OF CUTTING the same bytes write the same
-pub same-output : (read a b : List ℕ) (s t : Stream) (keep kept : List ℕ) → Run read a s keep → Run read b t kept → a ≡ b
-same-output read a b s t keep kept u v = run-streams read a s keep u .text ∙ sym (run-streams read b t kept v .text)
-
--- A feed with room for a turn takes a byte at least: whoever feeds what is left comes to the end
-pub takes-some : (read written : List ℕ) (s : Stream) (keep : List ℕ) → Run read written s keep
-    → (piece out : List ℕ) (r : Fed) (kept front : List ℕ) → turnRoom ≤ length out → 0 < length piece → Feeds s keep piece out r kept front
-    → 0 < r .took
-takes-some read written s keep u piece out r kept front h k f =
-    ready-takes s keep piece out r kept front (record { room = h; holds = run-streams read written s keep u .holds }) k f .0
+  -- A feed with room for a turn takes a byte at least: whoever feeds what is left comes to the end
+  pub takes-some : (read written : List ℕ) (s : Stream) (keep : List ℕ) → Run read written s keep
+      → (piece out : List ℕ) (r : Fed) (kept front : List ℕ) → turnRoom ≤ length out → 0 < length piece → Feeds s keep piece out r kept front
+      → 0 < r .took
+  takes-some read written s keep u piece out r kept front h k f =
+      ready-takes s keep piece out r kept front (record { room = h; holds = run-streams read written s keep u .holds }) k f .0
 
 -- ---- the statement of a feed fixes what was taken, what was written, and what is still to come
 

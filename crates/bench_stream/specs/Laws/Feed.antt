@@ -99,10 +99,10 @@ module _ (s : Stream) (keep piece out : List ℕ) (room : turnRoom ≤ length ou
 
   -- the script
   module _ (p : o .stream .phase ≡ P.Talking) (fits : o .wrote ≤ length mid) (t : Fed) (written : List ℕ) (u : Talks (o .stream) (drop (o .took) piece) mid (o .wrote) t written) where
-    line-here : deskOf (o .stream) kept ≡ at-line (o .stream .exec) (take (o .stream .held) (o .stream .line))
+    line-here : deskOf (o .stream) kept ≡ at-line (o .stream .panel) (o .stream .exec) (take (o .stream .held) (o .stream .line))
     line-here = ap (λ (x : Phase). deskBy x (o .stream) kept) p
 
-    line-there : deskOf (t .stream) kept ≡ at-line (t .stream .exec) (take (t .stream .held) (t .stream .line))
+    line-there : deskOf (t .stream) kept ≡ at-line (t .stream .panel) (t .stream .exec) (take (t .stream .held) (t .stream .line))
     line-there = ap (λ (x : Phase). deskBy x (t .stream) kept) (u .phase)
 
     pub feed-talking : Moves s keep piece out (record { stream = t .stream; took = o .took + t .took; wrote = t .wrote }) kept written
@@ -110,7 +110,7 @@ module _ (s : Stream) (keep piece out : List ℕ) (room : turnRoom ≤ length ou
         let bytes = take (t .took) (drop (o .took) piece) in
         let text = said (deskOf (o .stream) kept) bytes in
         let same : Wrote mid (o .wrote) text written (t .wrote) =
-        wrote-as mid written (said (at-line (o .stream .exec) (take (o .stream .held) (o .stream .line))) bytes) text (o .wrote) (t .wrote)
+        wrote-as mid written (said (at-line (o .stream .panel) (o .stream .exec) (take (o .stream .held) (o .stream .line))) bytes) text (o .wrote) (t .wrote)
         (ap (λ (d : Desk). said d bytes) (sym line-here)) (u .wrote) in
         let f = wrote-fits mid (o .wrote) text written (t .wrote) fits same in
         let z = w .wrote .size in
@@ -170,7 +170,7 @@ module _ (s : Stream) (keep piece out : List ℕ) (room : turnRoom ≤ length ou
 -- ---- the end of the input
 
 module _ (s : Stream) (keep out : List ℕ) where
-  pub end-opening : s .phase ≡ P.Opening → (r : Line.Started) (written : List ℕ) → Begins (take (s .at) keep) out r written
+  pub end-opening : s .phase ≡ P.Opening → (r : Line.Started) (written : List ℕ) → Begins (s .panel) (take (s .at) keep) out r written
       → Wrote out 0 (lastSaid (deskOf s keep)) written (r .wrote)
   unfolding lastSaid
   end-opening p r written w =

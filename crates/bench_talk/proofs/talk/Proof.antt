@@ -12,7 +12,7 @@ use Rattle.bench_talk.proofs.talk.Statement.{statement}
 use Rattle.bench_talk.proofs.talk.Tie as tie
 
 abbrev Inv-loop : tie.InvT-loop
-Inv-loop s piece out₀ place exec₀ line₀ held₀ at₀ i₀ out exec line held at i = Talking (at-line (s .exec) (take (s .held) (s .line))) piece out₀ place out exec line held at i
+Inv-loop s piece out₀ place exec₀ line₀ held₀ at₀ i₀ out exec line held at i = Talking (s .panel) (at-line (s .panel) (s .exec) (take (s .held) (s .line))) piece out₀ place out exec line held at i
 
 abbrev μ-loop : tie.MeasureT-loop
 μ-loop s piece out₀ place exec₀ line₀ held₀ at₀ i₀ out exec line held at i = length piece - i
@@ -26,7 +26,7 @@ roomy c =
 loop-holds : tie.Need-loop-holds Inv-loop μ-loop
 loop-holds c =
     let s = c .before .before .before .before in
-    talking-start (s .args .s .exec) (s .args .s .line) (s .args .s .held) (s .args .piece .now) (s .args .out .now) (s .args .place) (s .pre .0) (search (needs, s .good .0 .1 .1 .1 .0)) (s .pre .1) (s .pre .2)
+    talking-start (s .args .s .panel) (s .args .s .exec) (s .args .s .line) (s .args .s .held) (s .args .piece .now) (s .args .out .now) (s .args .place) (s .pre .0) (search (needs, s .good .0 .1 .1 .1 .1 .0)) (s .pre .1) (s .pre .2)
 
 has-room-requires : tie.Need-has-room-requires Inv-loop μ-loop
 has-room-requires c κs = search needs
@@ -45,7 +45,7 @@ array-share-prefix-line c =
     omega arith
 
 slice-aggregate-take-line : tie.Need-slice-aggregate-take-line Inv-loop μ-loop
-slice-aggregate-take-line c = prefix _ _ _ _ _ _ _ _ _ _ (c .before .before .before .before .before .before .loop .inv)
+slice-aggregate-take-line c = prefix _ _ _ _ _ _ _ _ _ _ _ (c .before .before .before .before .before .before .loop .inv)
 
 take-line-requires : tie.Need-take-line-requires Inv-loop μ-loop
 take-line-requires c κs = search needs
@@ -57,7 +57,7 @@ loop-again : tie.Need-loop-again Inv-loop μ-loop
 loop-again c =
     let l = c .before .before .before .before .before .before .before .before .before .before .before .loop in
     let k = c .before .before .before .take-line in
-    talking-turn _ _ _ _ _ _ _ _ _ _ (l .inv) (c .before .before .before .before .before .before .before .before .before .before .loop-test .taken) (roomy (c .before .before .before .before .before .before .before .before)) (c .before .before .before .before .before .before .if2 .taken) (k .result) _ (k .ensures)
+    talking-turn _ _ _ _ _ _ _ _ _ _ _ (l .inv) (c .before .before .before .before .before .before .before .before .before .before .loop-test .taken) (roomy (c .before .before .before .before .before .before .before .before)) (c .before .before .before .before .before .before .if2 .taken) (k .result) _ (k .ensures)
 
 hold-requires : tie.Need-hold-requires Inv-loop μ-loop
 hold-requires c κs = let l = c .before .before .before .before .before .before .loop in (l .inv .size, l .inv .high)
@@ -68,7 +68,7 @@ loop-less-2 c = let t = c .before .before .before .before .before .before .loop-
 loop-again-2 : tie.Need-loop-again-2 Inv-loop μ-loop
 loop-again-2 c =
     let l = c .before .before .before .before .before .before .before .loop in
-    talking-byte _ _ _ _ _ _ _ _ _ _ (l .inv) (c .before .before .before .before .before .before .loop-test .taken) (roomy (c .before .before .before .before)) (c .before .before .if2 .left) _ (c .hold .result) (c .hold .ensures)
+    talking-byte _ _ _ _ _ _ _ _ _ _ _ (l .inv) (c .before .before .before .before .before .before .loop-test .taken) (roomy (c .before .before .before .before)) (c .before .before .if2 .left) _ (c .hold .result) (c .hold .ensures)
 
 same-length : tie.Need-same-length Inv-loop μ-loop
 same-length c = c .before .loop .inv .wrote .size

@@ -75,6 +75,12 @@ read-flag-requires c κs = search needs
 enum-told-3 : tie.Need-enum-told-3
 enum-told-3 c = search needs
 
+next-waking-requires : tie.Need-next-waking-requires
+next-waking-requires c κs = search needs
+
+enum-told-4 : tie.Need-enum-told-4
+enum-told-4 c = search needs
+
 returns : tie.Need-returns
 returns c = subst (λ (x : Said). Made (c .before .before .before .before .before .args .e) x (c .before .before .before .before .before .args .words .now) (c .schedule .result) (c .before .before .before .before .before .args .words .now)) (sym (c .before .before .said .given .1)) (c .schedule .ensures)
 
@@ -112,7 +118,10 @@ returns-11 : tie.Need-returns-11
 returns-11 c = subst (λ (x : Said). Made (c .before .before .before .before .before .args .e) x (c .before .before .before .before .before .args .words .now) (c .read-flag .result) (c .before .before .before .before .before .args .words .now)) (sym (c .before .before .said9 .given .1)) (c .read-flag .ensures)
 
 returns-12 : tie.Need-returns-12
-returns-12 c = subst (λ (x : Said). Made (c .before .before .before .args .e) x (c .before .before .before .args .words .now) (record { exec = c .before .before .before .args .e; answer = Refused wrongShape }) (c .before .before .before .args .words .now)) (sym (c .enum-told3 .given .1)) refl
+returns-12 c = subst (λ (x : Said). Made (c .before .before .before .before .args .e) x (c .before .before .before .before .args .words .now) (c .next-waking .result) (c .before .before .before .before .args .words .now)) (sym (c .before .enum-told3 .given .1)) (c .next-waking .ensures)
+
+returns-13 : tie.Need-returns-13
+returns-13 c = subst (λ (x : Said). Made (c .before .before .before .args .e) x (c .before .before .before .args .words .now) (record { exec = c .before .before .before .args .e; answer = Refused wrongShape }) (c .before .before .before .args .words .now)) (sym (c .enum-told4 .given .1)) refl
 
 pub ask-spec : {M : Type 1} → statement M
 ask-spec =
@@ -141,6 +150,8 @@ ask-spec =
     enum-known-said-9
     read-flag-requires
     enum-told-3
+    next-waking-requires
+    enum-told-4
     returns
     returns-2
     returns-3
@@ -153,4 +164,5 @@ ask-spec =
     returns-9
     returns-10
     returns-11
-    returns-12)
+    returns-12
+    returns-13)

@@ -1,6 +1,7 @@
 -- A TURN OF A SOUND RECORD is what the rules say: its line, the state that it shows, and that it is sound.
 use mathlib.Core.Path.{_≡_, sym, ap, _∙_, subst}
 use mathlib.Core.Logic.{⊎-elim}
+use mathlib.Core.Bool.{Bool}
 use mathlib.Core.List.{List}
 use Prim.Native.Nat.{ℕ, _+_, _≤_}
 use native.Mathlib.Omega.{arith}
@@ -17,7 +18,8 @@ use Rattle.bench_script.specs.Script.{saidOf}
 use Rattle.bench_script.specs.Output.{turnRoom}
 use Rattle.put_text.specs.Wrote.{Wrote}
 use Rattle.put_text.specs.Laws.Wrote.{wrote-as}
-use Rattle.bench_turn.specs.Turn.{letterOf, Asked, call, none, askedBy, textOf, answerText, stepText, askedText, askedNext, turnText, turnNext, Takes, Turns}
+use Rattle.bench_show.specs.Shown.{textOf}
+use Rattle.bench_turn.specs.Turn.{letterOf, Asked, call, none, askedBy, answerText, stepText, askedText, askedNext, turnText, turnNext, Takes, Turns}
 use Rattle.bench_turn.specs.declared.Turn.{Turn}
 
 pub record Ruled (e : Exec) (text : List ℕ) (next : S.State) (out : List ℕ) (at : ℕ) (r : Turn) (after : List ℕ) : Type 0 where
@@ -46,8 +48,8 @@ takes-ruled e h verb (call k) out at r after t =
 takes-ruled e h verb none out at r after t =
     record { wrote = t .wrote; shows = ap viewOf (t .state); sound = subst (λ s. SoundRecord (withState e s)) (sym (t .state)) h }
 
-pub turn-ruled : (e : Exec) → SoundRecord e → (line out : List ℕ) (at : ℕ) (r : Turn) (after : List ℕ) → at + turnRoom ≤ length out → Turns e line out at r after
-    → Ruled e (turnText (rigIn e) (view e) line) (turnNext (rigIn e) (view e) line) out at r after
+pub turn-ruled : (panel : Bool) (e : Exec) → SoundRecord e → (line out : List ℕ) (at : ℕ) (r : Turn) (after : List ℕ) → at + turnRoom ≤ length out → Turns panel e line out at r after
+    → Ruled e (turnText panel (rigIn e) (view e) line) (turnNext panel (rigIn e) (view e) line) out at r after
 unfolding turnText turnNext
-turn-ruled e h line out at r after k t =
-    ⊎-elim (λ w. takes-ruled e h (letterOf (saidOf line)) (askedBy (saidOf line)) out at r after (w .1)) (λ w. absurd (omega (arith, w .0))) (t .is)
+turn-ruled panel e h line out at r after k t =
+    ⊎-elim (λ w. takes-ruled e h (letterOf (saidOf panel line)) (askedBy (saidOf panel line)) out at r after (w .1)) (λ w. absurd (omega (arith, w .0))) (t .is)

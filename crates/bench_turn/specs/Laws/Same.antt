@@ -1,6 +1,7 @@
 -- THE STATEMENT OF A TURN FIXES ITS RESULT: state, place and every byte of the output.
 use mathlib.Core.Path.{_≡_, sym, ap, _∙_, subst}
 use mathlib.Core.Logic.{⊎-elim}
+use mathlib.Core.Bool.{Bool}
 use mathlib.Core.List.{List}
 use Prim.Native.Nat.{ℕ}
 use native.Mathlib.Omega.{arith}
@@ -30,12 +31,12 @@ takes-same e verb none out at r s m n a b =
     let x : r .st ≡ s .st = a .state ∙ sym (b .state) in
     ((λ i. record { st = x i; at = u .1 i }), u .0)
 
-pub turns-same : (e : Exec) (line out : List ℕ) (at : ℕ) (r s : Turn) (m n : List ℕ)
-    → Turns e line out at r m → Turns e line out at s n → (r ≡ s) × (m ≡ n)
-turns-same e line out at r s m n a b =
+pub turns-same : (panel : Bool) (e : Exec) (line out : List ℕ) (at : ℕ) (r s : Turn) (m n : List ℕ)
+    → Turns panel e line out at r m → Turns panel e line out at s n → (r ≡ s) × (m ≡ n)
+turns-same panel e line out at r s m n a b =
     ⊎-elim
     (λ x.
-    ⊎-elim (λ y. takes-same e (letterOf (saidOf line)) (askedBy (saidOf line)) out at r s m n (x .1) (y .1)) (λ y. absurd (omega (arith, x .0, y .0)))
+    ⊎-elim (λ y. takes-same e (letterOf (saidOf panel line)) (askedBy (saidOf panel line)) out at r s m n (x .1) (y .1)) (λ y. absurd (omega (arith, x .0, y .0)))
     (b .is))
     (λ x. ⊎-elim (λ y. absurd (omega (arith, x .0, y .0))) (λ y. (x .1 ∙ sym (y .1), x .2 ∙ sym (y .2))) (b .is))
     (a .is)

@@ -7,14 +7,14 @@ use Rattle.bench_script.specs.Output.{turnRoom}
 use Rattle.bench_io.specs.Brought.{Brings}
 use Rattle.bench_morning.specs.Stream.{HoldsIn}
 use Rattle.bench_morning.specs.declared.Stream.{Stream}
-use Rattle.runner.proofs.run.Statement.{statement}
-use Rattle.runner.proofs.run.Tie as tie
+use Rattle.bench_run.proofs.go_on.Statement.{statement}
+use Rattle.bench_run.proofs.go_on.Tie as tie
 
 abbrev Inv-loop : tie.InvT-loop
-Inv-loop keep₀ input₀ out₀ stream₀ turns₀ t8 keep input out stream turns = (HoldsIn stream (length keep)) × (length keep ≡ length keep₀) × (length input ≡ length input₀) × (length out ≡ length out₀) × (turnRoom ≤ length out)
+Inv-loop panel keep₀ piece₀ out₀ input output stream₀ turns₀ keep piece out stream turns = (HoldsIn stream (length keep)) × (length keep ≡ length keep₀) × (length piece ≡ length piece₀) × (length out ≡ length out₀) × (turnRoom ≤ length out)
 
 abbrev μ-loop : tie.MeasureT-loop
-μ-loop keep₀ input₀ out₀ stream₀ turns₀ t8 keep input out stream turns = turns
+μ-loop panel keep₀ piece₀ out₀ input output stream₀ turns₀ keep piece out stream turns = turns
 
 -- the bytes that were read fit
 brought : (c : tie.After-n Inv-loop μ-loop) → c .n .given .0 .0 ≤ length (c .before .before .before .before .read-in .last .1 .0)
@@ -25,7 +25,7 @@ begin-requires c κs = search needs
 
 loop-holds : tie.Need-loop-holds Inv-loop μ-loop
 loop-holds c =
-    let s = c .before .before .before .before in
+    let s = c .before .before .before .before .before .before in
     (subst (λ (x : Stream). HoldsIn x (length (s .args .keep .now))) (sym (c .begin .ensures)) (s .pre .0, omega arith, omega arith), refl, refl, refl, s .pre .1)
 
 sub-turns : tie.Need-sub-turns Inv-loop μ-loop
@@ -68,7 +68,10 @@ loop-less : tie.Need-loop-less Inv-loop μ-loop
 loop-less c = search needs
 
 loop-again : tie.Need-loop-again Inv-loop μ-loop
-loop-again c = search needs
+loop-again c =
+    let l = c .before .before .before .before .before .before .before .before .before .before .before .before .before .before .before .before .before .loop in
+    let e : length (c .before .before .before .before .before .take .last .1 .1 .1 .0) ≡ length (c .before .before .before .before .before .before .before .before .before .before .before .before .before .before .before .before .before .before .before .before .before .before .before .before .args .out .now) = search needs in
+    (search needs, search needs, search needs, e, omega (arith, e, l .inv .3, l .inv .4))
 
 enum-told-2 : tie.Need-enum-told-2 Inv-loop μ-loop
 enum-told-2 c = search needs
@@ -90,9 +93,6 @@ returns-2 c = search needs
 
 enum-told-3 : tie.Need-enum-told-3 Inv-loop μ-loop
 enum-told-3 c = search needs
-
-slice-aggregate-fail : tie.Need-slice-aggregate-fail Inv-loop μ-loop
-slice-aggregate-fail c = search needs
 
 fail-requires : tie.Need-fail-requires Inv-loop μ-loop
 fail-requires c κs = search needs
@@ -121,8 +121,8 @@ same-length-12 c = search needs
 returns-4 : tie.Need-returns-4 Inv-loop μ-loop
 returns-4 c = search needs
 
-pub run-spec : {M : Type 1} → statement M
-run-spec =
+pub go-on-spec : {M : Type 1} → statement M
+go-on-spec =
     tie.close
     (tie.spec
     Inv-loop
@@ -149,7 +149,6 @@ run-spec =
     same-length-6
     returns-2
     enum-told-3
-    slice-aggregate-fail
     fail-requires
     same-length-7
     same-length-8

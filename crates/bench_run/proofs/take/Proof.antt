@@ -7,19 +7,19 @@ use Rattle.bench_script.specs.Output.{turnRoom}
 use Rattle.bench_morning.specs.Stream.{HoldsIn}
 use Rattle.bench_stream.specs.Laws.Fits.{feeds-fit, ready-takes}
 use Rattle.bench_morning.specs.declared.Stream.{Stream}
-use Rattle.runner.proofs.take.Statement.{statement}
-use Rattle.runner.proofs.take.Tie as tie
+use Rattle.bench_run.proofs.take.Statement.{statement}
+use Rattle.bench_run.proofs.take.Tie as tie
 
 abbrev Inv-loop : tie.InvT-loop
-Inv-loop keep₀ piece out₀ stream₀ from₀ t9 keep out stream from = (HoldsIn stream (length keep)) × (length keep ≡ length keep₀) × (length out ≡ length out₀) × (turnRoom ≤ length out) × (from ≤ length piece)
+Inv-loop keep₀ piece out₀ output stream₀ from₀ keep out stream from = (HoldsIn stream (length keep)) × (length keep ≡ length keep₀) × (length out ≡ length out₀) × (turnRoom ≤ length out) × (from ≤ length piece)
 
 abbrev μ-loop : tie.MeasureT-loop
-μ-loop keep₀ piece out₀ stream₀ from₀ t9 keep out stream from = length piece - from
+μ-loop keep₀ piece out₀ output stream₀ from₀ keep out stream from = length piece - from
 
 -- what a feed of the rest of the piece did
-took : (c : tie.After-feed Inv-loop μ-loop) → (c .before .before .before .before .before .loop .from + c .feed .result .took ≤ length (c .before .before .before .before .before .before .before .before .before .args .piece .now)) × (0 < c .feed .result .took)
+took : (c : tie.After-feed Inv-loop μ-loop) → (c .before .before .before .before .before .loop .from + c .feed .result .took ≤ length (c .before .before .before .before .before .before .before .before .before .before .args .piece .now)) × (0 < c .feed .result .took)
 took c =
-    let p = c .before .before .before .before .before .before .before .before .before .args .piece .now in
+    let p = c .before .before .before .before .before .before .before .before .before .before .args .piece .now in
     let l = c .before .before .before .before .before .loop in
     let w = feeds-fit _ _ _ _ _ _ _ (c .feed .ensures) in
     let a = length-take (length p - l .from) (drop (l .from) p) in
@@ -34,7 +34,7 @@ took c =
 
 holds : (c : tie.After-feed Inv-loop μ-loop) → HoldsIn (c .feed .result .stream) (length (c .feed .last .1 .0))
 holds c =
-    let p = c .before .before .before .before .before .before .before .before .before .args .piece .now in
+    let p = c .before .before .before .before .before .before .before .before .before .before .args .piece .now in
     let l = c .before .before .before .before .before .loop in
     let a = length-take (length p - l .from) (drop (l .from) p) in
     let b = length-drop (l .from) p in
@@ -43,7 +43,7 @@ holds c =
     ready-takes _ _ _ _ _ _ _ (record { room = l .inv .3; holds = l .inv .0 }) some (c .feed .ensures) .1
 
 loop-holds : tie.Need-loop-holds Inv-loop μ-loop
-loop-holds c = let s = c .before .before .before in (s .pre .0, refl, refl, s .pre .1, omega arith)
+loop-holds c = let s = c .before .before .before .before in (s .pre .0, refl, refl, s .pre .1, omega arith)
 
 sub-feed : tie.Need-sub-feed Inv-loop μ-loop
 sub-feed c = search needs
@@ -76,30 +76,27 @@ slice-aggregate-write-out c =
 write-out-requires : tie.Need-write-out-requires Inv-loop μ-loop
 write-out-requires c κs = search needs
 
-slice-aggregate-failed : tie.Need-slice-aggregate-failed Inv-loop μ-loop
-slice-aggregate-failed c = search needs
-
 failed-requires : tie.Need-failed-requires Inv-loop μ-loop
 failed-requires c κs = search needs
 
 same-length : tie.Need-same-length Inv-loop μ-loop
 same-length c =
-    let l = c .before .before .before .before .before .before .before .before .before .before .before .before .before .before .loop .inv in
-    feeds-fit _ _ _ _ _ _ _ (c .before .before .before .before .before .before .before .before .before .feed .ensures) .2 ∙ l .1
+    let l = c .before .before .before .before .before .before .before .before .before .before .before .before .before .loop .inv in
+    feeds-fit _ _ _ _ _ _ _ (c .before .before .before .before .before .before .before .before .feed .ensures) .2 ∙ l .1
 
 same-length-2 : tie.Need-same-length-2 Inv-loop μ-loop
 same-length-2 c =
-    let l = c .before .before .before .before .before .before .before .before .before .before .before .before .before .before .loop .inv in
-    feeds-fit _ _ _ _ _ _ _ (c .before .before .before .before .before .before .before .before .before .feed .ensures) .3 ∙ l .2
+    let l = c .before .before .before .before .before .before .before .before .before .before .before .before .before .loop .inv in
+    feeds-fit _ _ _ _ _ _ _ (c .before .before .before .before .before .before .before .before .feed .ensures) .3 ∙ l .2
 
 returns : tie.Need-returns Inv-loop μ-loop
-returns c = subst (λ (x : Stream). HoldsIn x (length (c .before .before .before .before .before .before .before .before .before .feed .last .1 .0))) (sym (c .failed .ensures)) tt
+returns c = subst (λ (x : Stream). HoldsIn x (length (c .before .before .before .before .before .before .before .before .feed .last .1 .0))) (sym (c .failed .ensures)) tt
 
 add-from : tie.Need-add-from Inv-loop μ-loop
 add-from c =
     let w = took (c .before .before .before .before .before .before .before .before .before) in
     let a = w .0 in
-    let g = c .before .before .before .before .before .before .before .before .before .before .before .before .before .before .before .before .before .before .good .1 .1 .0 in
+    let g = c .before .before .before .before .before .before .before .before .before .before .before .before .before .before .before .before .before .before .before .good .1 .1 .0 in
     search (needs, g)
 
 loop-less : tie.Need-loop-less Inv-loop μ-loop
@@ -141,7 +138,6 @@ take-spec =
     slice-reshare-prefix-write-out
     slice-aggregate-write-out
     write-out-requires
-    slice-aggregate-failed
     failed-requires
     same-length
     same-length-2

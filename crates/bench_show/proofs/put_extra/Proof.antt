@@ -1,10 +1,10 @@
 use native.Mathlib.Omega.{arith}
 use lib.ListN.{length-take}
 use Rattle.exec.specs.Call.{reportOf}
-use Rattle.bench_turn.specs.Laws.Turn.{extra-words, extra-value, extra-nothing}
+use Rattle.bench_show.specs.Laws.Shown.{extra-words, extra-value, extra-any, extra-nothing}
 use borrow.Author.Needs.{needs}
-use Rattle.bench_turn.proofs.put_extra.Statement.{statement}
-use Rattle.bench_turn.proofs.put_extra.Tie as tie
+use Rattle.bench_show.proofs.put_extra.Statement.{statement}
+use Rattle.bench_show.proofs.put_extra.Tie as tie
 
 least-requires : tie.Need-least-requires
 least-requires c κs = search needs
@@ -44,10 +44,22 @@ returns-2 c =
     let w = c .before .before .put-field in
     extra-value (s .args .verb) (reportOf (s .args .report)) (s .args .words .now) (s .args .out .now) (w .last .0) (s .args .at) (w .result) (c .before .before .before .before .before .if1 .left) (c .before .before .before .before .if2 .taken) (w .ensures)
 
+put-if-any-requires : tie.Need-put-if-any-requires
+put-if-any-requires c κs = search needs
+
+same-length-3 : tie.Need-same-length-3
+same-length-3 c = search needs
+
 returns-3 : tie.Need-returns-3
 returns-3 c =
-    let s = c .before .before .before .before in
-    extra-nothing (s .args .verb) (reportOf (s .args .report)) (s .args .words .now) (s .args .out .now) (s .args .at) (c .before .if1 .left) (c .if2 .left)
+    let s = c .before .before .before .before .before .before .before .before .before in
+    let w = c .before .before .put-if-any in
+    extra-any (s .args .verb) (reportOf (s .args .report)) (s .args .words .now) (s .args .out .now) (w .last .0) (s .args .at) (w .result) (c .before .before .before .before .before .before .if1 .left) (c .before .before .before .before .before .if2 .left) (c .before .before .before .before .if3 .taken) (w .ensures)
+
+returns-4 : tie.Need-returns-4
+returns-4 c =
+    let s = c .before .before .before .before .before in
+    extra-nothing (s .args .verb) (reportOf (s .args .report)) (s .args .words .now) (s .args .out .now) (s .args .at) (c .before .before .if1 .left) (c .before .if2 .left) (c .if3 .left)
 
 pub put-extra-spec : {M : Type 1} → statement M
 put-extra-spec =
@@ -61,4 +73,7 @@ put-extra-spec =
     put-field-requires
     same-length-2
     returns-2
-    returns-3)
+    put-if-any-requires
+    same-length-3
+    returns-3
+    returns-4)

@@ -5,10 +5,10 @@ use native.Mathlib.Omega.{arith}
 use lib.ListN.{length, set, length-set}
 use Rattle.bench_script.specs.Output.{fieldsText}
 use Rattle.put_text.specs.Wrote.{Wrote}
-use Rattle.bench_turn.specs.Laws.Turn.{headOf, after-head, shown-refused, after-extra, shown-accepted}
+use Rattle.bench_show.specs.Laws.Shown.{headOf, after-head, shown-refused, after-extra, shown-accepted}
 use borrow.Author.Needs.{needs}
-use Rattle.bench_turn.proofs.show.Statement.{statement}
-use Rattle.bench_turn.proofs.show.Tie as tie
+use Rattle.bench_show.proofs.show.Statement.{statement}
+use Rattle.bench_show.proofs.show.Tie as tie
 
 -- the head was written
 wrote : (c : tie.After-put-answer) → Wrote (set (c .before .before .before .before .before .args .out .now) (c .before .before .before .before .before .args .at) (c .before .before .before .before .before .args .verb)) (c .before .before .before .before .before .args .at + 1) (fieldsText (headOf (c .before .before .before .before .before .args .answer) (c .before .before .before .before .before .args .count) (c .before .before .before .before .before .args .running))) (c .put-answer .last .0) (c .put-answer .result)

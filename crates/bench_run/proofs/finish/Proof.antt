@@ -2,8 +2,8 @@ use native.Mathlib.Omega.{arith}
 use lib.ListN.{length-take}
 use Rattle.bench_stream.specs.Laws.Fits.{ends-fit}
 use borrow.Author.Needs.{needs}
-use Rattle.runner.proofs.finish.Statement.{statement}
-use Rattle.runner.proofs.finish.Tie as tie
+use Rattle.bench_run.proofs.finish.Statement.{statement}
+use Rattle.bench_run.proofs.finish.Tie as tie
 
 end-requires : tie.Need-end-requires
 end-requires c κs = search needs
@@ -26,9 +26,6 @@ slice-aggregate-write-out c =
 
 write-out-requires : tie.Need-write-out-requires
 write-out-requires c κs = search needs
-
-slice-aggregate-fail : tie.Need-slice-aggregate-fail
-slice-aggregate-fail c = search needs
 
 fail-requires : tie.Need-fail-requires
 fail-requires c κs = search needs
@@ -53,7 +50,6 @@ finish-spec =
     slice-reshare-prefix-write-out
     slice-aggregate-write-out
     write-out-requires
-    slice-aggregate-fail
     fail-requires
     same-length
     returns
