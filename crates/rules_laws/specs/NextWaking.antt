@@ -15,13 +15,13 @@ use lib.Seq.{getD-set-same, getD-set-other}
 use Rattle.laws.specs.Laws.Iter.{iter-ind}
 use Rattle.laws.specs.Laws.Tables.{in-range, below-suc}
 use Rattle.laws.specs.Laws.Decides.{is-eqb, is-and, is-in}
-use Rattle.laws.specs.Members.{In, isIn, keep}
+use Rattle.laws.specs.Members.{In}
 use Rattle.laws.specs.Laws.Members.{in-without, in-keep}
 use Rattle.laws.specs.Order.{Sorted}
 use Rattle.laws.specs.Laws.Order.{in-place}
 use Rattle.rules.specs.Rig.{Rig}
 use Rattle.rules.specs.RigOk.{RigOk}
-use Rattle.rules.specs.State.{Chain, timeChain, chainOf, State, Work, Entry, stateOf, valueOf, wakeOf, withTables, blank, Done}
+use Rattle.rules.specs.State.{Chain, timeChain, State, Work, stateOf, valueOf, wakeOf, withTables, blank, Done}
 use Rattle.rules.specs.Conditions.{met, relax}
 use Rattle.rules.specs.Serving.{activate, takes, wake, serve}
 use Rattle.rules.specs.Waiting.{waitOn, waitUntilCount, leave, isDue, wakeDue}
@@ -30,14 +30,14 @@ use Rattle.rules.specs.Running.{dispatch}
 use Rattle.rules.specs.NextWaking.{WaitsOnTime, LowestWaking, waitsOnTime, lowerOne, lowestWaking}
 use Rattle.rules.specs.Calls.{Call, schedule, cancel, terminate, finish, tick, waitUntil, waitFor, latched, unlatched, signal, readFlag, readBlock, writeBlock, nextWaking}
 use Rattle.rules.specs.Calls.{scheduled, finished, terminated, cancelled, ticked, effect, refusal, refusals, lastCount, decide, output, accepted, after, Step, step, run, started, start}
-use Rattle.rules.specs.Proper.{Proper, ProperRun}
-use Rattle.rules.specs.History.{nothing, onFlag, untilCount, begins}
+use Rattle.rules.specs.Proper.{ProperRun}
+use Rattle.rules.specs.History.{nothing, untilCount, begins}
 use Rattle.rules.specs.Soundness.{Sound}
 use Rattle.rules_laws.specs.Acceptance.{somebody-runs}
 use Rattle.rules_laws.specs.Good.{serve-keeps}
 use Rattle.rules_laws.specs.Serve.{serve-nil}
 use Rattle.rules_laws.specs.Steps.{step-sound, start-sound, dispatch-same}
-use Rattle.rules_laws.specs.WakingLaws.{Begun, begun-is}
+use Rattle.rules_laws.specs.WakingLaws.{begun-is}
 
 -- ---- the lowest
 

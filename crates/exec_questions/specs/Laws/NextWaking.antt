@@ -17,7 +17,6 @@ use Rattle.chains.specs.Laws.Read.{sound-chains}
 use Rattle.rig.specs.declared.Cycle.{Cycle}
 use Rattle.rig.specs.declared.Rig.{Rig}
 use Rattle.rules.specs.Rig as G
-use Rattle.rules.specs.State as S
 use Rattle.rules.specs.Calls as R
 use Rattle.rules.specs.NextWaking.{lowestWaking}
 use Rattle.rules_laws.specs.NextWaking.{nobody-there, head-lowest}
