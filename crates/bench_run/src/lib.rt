@@ -84,7 +84,9 @@ fn go_on(
 }
 
 // The whole program, with the panel's verbs on or off, and what it calls its input and its output where one of them fails.
-pub fn run(panel: bool, input: &[u8], output: &[u8]) {
+pub fn run(panel: bool, input: &[u8], output: &[u8])
+    ensures { λ r. ⌜ r ≡ tt ⌝ }
+{
     let mut keep = [0u8; bench_input::KEEP];
     let mut piece = [0u8; PIECE];
     let mut out = [0u8; PIECE];

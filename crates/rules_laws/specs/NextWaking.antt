@@ -1,5 +1,5 @@
 -- WHEN THE BENCH NEXT WAKES SOMEONE: what is computed is the lowest waking count, and the head of the time chain has it; who
--- comes to wait on time, and that nobody is due before the lowest.
+-- comes to wait on time, and for which counts.
 use mathlib.Core.Path.{_≡_, refl, sym, ap, _∙_, subst}
 use mathlib.Core.Logic.{_≢_, _⊎_, inl, inr, ⊎-elim}
 use mathlib.Core.Bool.{Bool, true, false, not, cond, _&&_, _||_, false≢true}
@@ -262,30 +262,26 @@ module _ (r : Rig) (s : State) (h : Sound r s) where
 
 -- ---- runs
 
--- no call of the run is accepted and begins a wait for a count below c
-unfoldable pub NoneSooner : Rig → State → ℕ → List Call → Type 0
-NoneSooner r s c [] = Unit {0}
-NoneSooner r s c (k ∷ ks) = ((d : ℕ) → refusal r s k ≡ 0 → begins s k ≡ untilCount d → c ≤ d) × NoneSooner r (step r s k .next) c ks
+-- every count for which a wait begins, by an accepted call of the run, is as P says
+unfoldable pub OnlyBegins : (ℕ → Type 0) → Rig → State → List Call → Type 0
+OnlyBegins P r s [] = Unit {0}
+OnlyBegins P r s (k ∷ ks) = ((d : ℕ) → refusal r s k ≡ 0 → begins s k ≡ untilCount d → P d) × OnlyBegins P r (step r s k .next) ks
+
+-- 9 refuses a wait for a count above the last
+within-counts : (r : Rig) (ks : List Call) (s : State) → OnlyBegins (λ (d : ℕ). d ≤ lastCount) r s ks
+unfolding OnlyBegins
+within-counts r [] s = tt
+within-counts r (k ∷ ks) s = ((λ d e b. begun-is r s k d e b .top), within-counts r ks (step r s k .next))
 
 module _ (r : Rig) (ok : RigOk r) where
-  -- where nobody waits for a count below c, and nobody begins to, nobody does later
-  pub none-sooner : (c : ℕ) (ks : List Call) (s : State) → Sound r s → ProperRun ks → NoneSooner r s c ks
-      → ((t : ℕ) → In t (s .chains timeChain) → c ≤ wakeOf s t)
-      → (t : ℕ) → In t (run r s ks .chains timeChain) → c ≤ wakeOf (run r s ks) t
-  unfolding run NoneSooner
-  none-sooner c [] s h p n f = f
-  none-sooner c (k ∷ ks) s h p n f =
-      none-sooner c ks (step r s k .next) (step-sound r ok s h k (p .0)) (p .1) (n .1)
-      (step-counts r s h (λ d. c ≤ d) k (n .0) f)
-
-  -- 9 refuses a wait for a count above the last: no waking count is above it
-  within-counts : (ks : List Call) (s : State) → Sound r s → ProperRun ks → ((t : ℕ) → In t (s .chains timeChain) → wakeOf s t ≤ lastCount)
-      → (t : ℕ) → In t (run r s ks .chains timeChain) → wakeOf (run r s ks) t ≤ lastCount
-  unfolding run
-  within-counts [] s h p f = f
-  within-counts (k ∷ ks) s h p f =
-      within-counts ks (step r s k .next) (step-sound r ok s h k (p .0)) (p .1)
-      (step-counts r s h (λ d. d ≤ lastCount) k (λ c e b. begun-is r s k c e b .top) f)
+  -- so is then every waking count of those who wait on time, if it was at first
+  pub run-counts : (P : ℕ → Type 0) (ks : List Call) (s : State) → Sound r s → ProperRun ks → OnlyBegins P r s ks
+      → ((t : ℕ) → In t (s .chains timeChain) → P (wakeOf s t))
+      → (t : ℕ) → In t (run r s ks .chains timeChain) → P (wakeOf (run r s ks) t)
+  unfolding run OnlyBegins
+  run-counts P [] s h p n f = f
+  run-counts P (k ∷ ks) s h p n f =
+      run-counts P ks (step r s k .next) (step-sound r ok s h k (p .0)) (p .1) (n .1) (step-counts r s h P k (n .0) f)
 
   -- at first nobody waits
   nobody-yet : (t : ℕ) → In t (scheduled r blank 1 .now .chains timeChain) → ⊥
@@ -306,5 +302,5 @@ module _ (r : Rig) (ok : RigOk r) where
       → (t : ℕ) → In t (run r (start r) ks .chains timeChain) → wakeOf (run r (start r) ks) t ≤ lastCount
   unfolding start started
   waking-in-range ks p =
-      within-counts ks (start r) (start-sound r ok) p
+      run-counts (λ (d : ℕ). d ≤ lastCount) ks (start r) (start-sound r ok) p (within-counts r ks (start r))
       (λ t i. absurd (nobody-yet t (served-thinner r (scheduled r blank 1) t i .0)))

@@ -101,7 +101,3 @@ pub record Told (y : Exec) (m : Made) : Type 0 where
   pub none : (toldBy (m .step) ≡ 0) ↔ ((t : ℕ) → OnTime y t → ⊥)
   pub some : toldBy (m .step) ≢ 0 → (t : ℕ) × OnTime y t × (wakeIn y t ≡ toldBy (m .step))
   pub lowest : (t : ℕ) → OnTime y t → toldBy (m .step) ≤ wakeIn y t
-
--- the next tick makes task t dispatchable by its count: "tasks due at it become dispatchable"
-abbrev pub DueNext : Exec → ℕ → Type 0
-DueNext y t = OnTime y t × (wakeIn y t ≡ suc (y .st .count))

@@ -16,12 +16,13 @@ use Rattle.rig.specs.declared.Rig.{Rig}
 use Rattle.rules.specs.Rig as G
 use Rattle.rules.specs.RigOk.{RigOk}
 use Rattle.rules.specs.State as S
-use Rattle.rules.specs.State.{Chain, timeChain, chainOf}
+use Rattle.rules.specs.State.{Chain, timeChain, chainOf, waiting}
 use Rattle.rules.specs.Soundness.{IsChain, Sound}
 use Rattle.rules.specs.Calls as R
 use Rattle.rules.specs.Calls.{tick, waitUntil, waitFor, nextWaking, refusal}
 use Rattle.rules.specs.Proper.{ProperRun}
 use Rattle.rules_laws.specs.Refusals.{code-is, refused-unchanged}
+use Rattle.rules_laws.specs.Steps.{step-sound, run-sound}
 use Rattle.rules_laws.specs.Bound.{served-79, start-served}
 use Rattle.rules_laws.specs.Demand.{flag-on, waits-in-one}
 use Rattle.rules.specs.History.{History, untilCount, begins, notedIf, history, never, historyOf, InOrder}
@@ -31,7 +32,7 @@ use Rattle.rules.specs.Waking.{Struck}
 use Rattle.rules_laws.specs.Waking.{Spared}
 use Rattle.rules_laws.specs.Waking as W
 use Rattle.rules_laws.specs.WakingLaws as WL
-use Rattle.rules_laws.specs.NextWaking.{in-time, NoneSooner, none-sooner, waking-in-range}
+use Rattle.rules_laws.specs.NextWaking.{in-time, OnlyBegins, run-counts, waking-in-range}
 use Rattle.rules_laws.specs.Activation.{BySchedule, ByService, activated-by}
 use Rattle.exec_family.specs.Anchors.{anchorOf}
 use Rattle.exec_family.specs.Laws.Anchors.{anchor-low, anchor-high}
@@ -43,7 +44,7 @@ use Rattle.exec_sound.specs.Laws.RightRig.{rig-ok}
 use Rattle.exec.specs.Laws.Promises.{twelve-exactly, Answered, asked}
 use Rattle.exec.specs.Starting.{Started, noExec, brokenRig}
 use Rattle.runs.specs.Runs.{Made, MadeOn, Ran, callsOf, codeOf, servedOf, toldBy, AcceptedStart, noting, historyIn, SparedIn, NoneSoonerIn}
-use Rattle.runs.specs.Demands.{Stands, Chained, Activated, Bounded, Demand, Wakes, forwardIn, stateIn, wakeIn, OnTime, Told, DueNext}
+use Rattle.runs.specs.Demands.{Stands, Chained, Activated, Bounded, Demand, Wakes, forwardIn, stateIn, wakeIn, OnTime, Told}
 use Rattle.exec.specs.declared.Exec.{Exec}
 use Rattle.exec.specs.declared.Step.{Step}
 
@@ -127,8 +128,8 @@ module _ (r : G.Rig) where
   )
 
   sooner-same : (s : S.State) (x : Exec) → Shows r s x → (ms : List Made) (y : Exec) → Ran x ms y → (c : ℕ) → NoneSoonerIn x c ms
-      → NoneSooner r s c (callsOf ms)
-  unfolding NoneSooner
+      → OnlyBegins (λ (d : ℕ). c ≤ d) r s (callsOf ms)
+  unfolding OnlyBegins
   sooner-same s x h [] y e c q = tt
   sooner-same s x h (m ∷ ms) y p c q = (
     (λ d e b. q .0 d (code-same s x h m (p .0) ∙ e) (ap (λ (v : S.State). begins v (m .call)) (h .state) ∙ b)),
@@ -396,17 +397,29 @@ module _ (g : Rig) (table : List (List ℕ)) (x : Exec) (s : AcceptedStart g tab
             (callsOf between) (ran-proper (m .step .exec) between z went)
             (spared-same (rigIn x) now (m .step .exec) asked-shows between z went t spared))
 
-    -- "and no tick before does so by its count": where no wait for a count below c began since, nobody is due at a tick that makes a lower
-    -- one. c is at most what was told; where none was told, it is any.
+    -- "and no tick before does so by its count": where no wait for a count below c began since, a tick that makes a lower one leaves
+    -- everybody waiting who waits on time. c is at most what was told; where none was told, it is any.
     pub nobody-before : (c : ℕ) → (toldBy (m .step) ≢ 0 → c ≤ toldBy (m .step)) → (between : List Made) (z : Exec) → Ran (m .step .exec) between z
-        → NoneSoonerIn (m .step .exec) c between → suc (z .st .count) < c → (t : ℕ) → DueNext z t → ⊥
-    nobody-before c low between z went none l t due =
-        let end = ran-shows (rigIn x) now (m .step .exec) asked-shows between z went in
-        let i : In t (R.run (rigIn x) now (callsOf between) .chains timeChain) =
-        subst (λ (s : S.State). In t (s .chains timeChain)) (end .state) (subst (In t) (sym (read z (end .sound) timeChain tt)) (due .0 .1)) in
-        let k = none-sooner (rigIn x) rig-right c (callsOf between) now sound-now (ran-proper (m .step .exec) between z went)
-        (sooner-same (rigIn x) now (m .step .exec) asked-shows between z went c none) first t i in
-        omega (arith, k, ap (λ (s : S.State). S.wakeOf s t) (end .state), due .1, l)
+        → NoneSoonerIn (m .step .exec) c between → (k : Made) (buffer : List ℕ) → MadeOn z k → k .call ≡ tick buffer
+        → k .step .exec .st .count < c → (t : ℕ) → OnTime z t → stateIn (k .step .exec) t ≡ waiting
+    nobody-before c low between z went none k buffer o e l t w =
+        let r = rigIn x in
+        let s = R.run r now (callsOf between) in
+        let end = ran-shows r now (m .step .exec) asked-shows between z went in
+        let proper = ran-proper (m .step .exec) between z went in
+        let sound : Sound r s = run-sound r rig-right now sound-now (callsOf between) proper in
+        let i : In t (s .chains timeChain) =
+        subst (λ (v : S.State). In t (v .chains timeChain)) (end .state) (subst (In t) (sym (read z (end .sound) timeChain tt)) (w .1)) in
+        let late = run-counts r rig-right (λ (d : ℕ). c ≤ d) (callsOf between) now sound-now proper
+        (sooner-same r now (m .step .exec) asked-shows between z went c none) first t i in
+        let v = gives r s z end k o in
+        let count = ap (λ (u : S.State). u .count) (v .next .state) in
+        ap (λ (u : S.State). S.stateOf u t) (v .next .state)
+        ∙ ⊎-elim
+        (λ y. step-sound r rig-right s sound (k .call) (o .proper) .chains .listed .two t (timeChain, y .1 .there))
+        (λ y. absurd (omega (arith, y .0, late, count, l)))
+        (WL.step-next r rig-right s sound t (S.wakeOf s t) (record { there = i; due = refl }) (sound .chains .ahead t i) (k .call)
+        (λ struck. subst (λ (u : R.Call). Struck r s u t) e struck))
       where
         -- at the question nobody waits for less
         first : (u : ℕ) → In u (now .chains timeChain) → c ≤ S.wakeOf now u

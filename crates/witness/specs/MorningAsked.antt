@@ -1,9 +1,10 @@
 -- "WHEN DOES THE BENCH NEXT WAKE SOMEONE?" ON THE BENCH MORNING: asked behind `R 2`, at count 4, the answer is 6. The run meets the premises of
--- what is promised over runs: nobody is due at the tick that makes the count 5, and the tick that makes the count 6 wakes somebody.
+-- what is promised over runs: the tick that makes the count 5 wakes nobody by its count, and the tick that makes the count 6 wakes somebody.
 use mathlib.Core.Path.{_≡_, refl, _∙_, ap, subst}
 use mathlib.Core.List.{List, [], _∷_}
 use Prim.Native.Nat.{ℕ}
 use native.Mathlib.Omega.{arith}
+use lib.ListN.{replicate}
 use Rattle.laws.specs.Iter.{iter}
 use Rattle.laws.specs.All.{all}
 use Rattle.laws.specs.Any.{any}
@@ -12,7 +13,7 @@ use Rattle.laws.specs.Put.{put}
 use Rattle.word_parts.specs.Packed.{commandWord}
 use Rattle.rules.specs.Rig as G
 use Rattle.rules.specs.State as S
-use Rattle.rules.specs.State.{blank}
+use Rattle.rules.specs.State.{blank, waiting}
 use Rattle.rules.specs.Conditions.{relax, met, drive, names}
 use Rattle.rules.specs.Serving.{activate, takes, rouse, wake, ready, offer, offers, serveFlag, serving, serve}
 use Rattle.rules.specs.Waiting.{waitOn, waitUntilCount, leave, wakeDue}
@@ -28,7 +29,7 @@ use Rattle.exec_state.specs.View.{rigOf}
 use Rattle.exec_sound.specs.Laws.RightRig.{rig-ok}
 use Rattle.exec.specs.declared.Exec.{Exec}
 use Rattle.runs.specs.Runs.{Made, MadeOn, Ran, SparedIn, toldBy}
-use Rattle.runs.specs.Demands.{Wakes, OnTime, DueNext}
+use Rattle.runs.specs.Demands.{Wakes, OnTime, stateIn}
 use Rattle.runs.specs.Laws.{next-wakes, nobody-before}
 use Rattle.witness.specs.CodeRig.{codeTable, codeCycles}
 use Rattle.witness.specs.Records.{recordOf, runOf, madeOf, answer-is, made, ran}
@@ -49,10 +50,10 @@ before r = R.run r (R.start r) callsBefore
 asked : G.Rig → S.State
 asked r = R.step r (before r) R.nextWaking .next
 
--- what is computed: the answer, and the counts before and behind it
-computed : (before bench .count ≡ 4) × (R.step bench (before bench) R.nextWaking .answer .report .value ≡ 6) × (asked bench .count ≡ 4)
+-- what is computed: the answer, and the count behind the tick
+computed : (R.step bench (before bench) R.nextWaking .answer .report .value ≡ 6) × (R.step bench (asked bench) tick₀ .next .count ≡ 5)
 unfolding before asked callsBefore bench rig ofTask ofCondition numbers ofLine ofCycle tick₀ iter all any total over put commandWord blank relax met drive names activate takes rouse wake ready offer offers serveFlag serving serve waitOn waitUntilCount leave wakeDue family cleared deserted offs best chosen dispatch written copied rowWords busWords lowestWaking R.scheduled R.finished R.terminated R.cancelled R.cycleQueue R.ticked R.effect R.decide R.noSuch R.inCycle R.isMinor R.isActivation R.lastCount R.wrongBlock R.refusals R.refusal R.wordsAt R.lent R.output R.accepted R.after R.step R.run R.started R.start
-computed = (refl, refl, refl)
+computed = (refl, refl)
 
 pub madeBefore : List Made
 madeBefore = runOf morningRig (codeCycles bench) (R.start seen) callsBefore
@@ -96,16 +97,16 @@ unfolding theQuestion
 told-six =
     ap (λ (a : R.Answer). a .report .value) (answer-is seen (before seen) R.nextWaking)
     ∙ ap (λ (r : G.Rig). R.step r (before r) R.nextWaking .answer .report .value) morning-rig
-    ∙ computed .1
+    ∙ computed .0
 
 -- then one tick is made
 pub tick-ran : Ran (theQuestion .step .exec) (theTick ∷ []) atFive
 unfolding theQuestion theTick atFive asked tick₀
 tick-ran = (made morningRig (codeCycles bench) morning-right (asked seen) asked-sound tick₀ tt, refl)
 
-four : theQuestion .step .exec .st .count ≡ 4
-unfolding theQuestion asked
-four = ap (λ (r : G.Rig). asked r .count) morning-rig ∙ computed .2
+five : theTick .step .exec .st .count ≡ 5
+unfolding theTick
+five = ap (λ (r : G.Rig). R.step r (asked r) tick₀ .next .count) morning-rig ∙ computed .1
 
 asks : theQuestion .call ≡ R.nextWaking
 unfolding theQuestion
@@ -117,11 +118,12 @@ tick-spares t = ((λ struck. struck), tt)
 
 -- ---- WHAT IS PROMISED HOLDS OF IT
 
--- nobody is due at the tick that makes the count 5
-pub nobody-at-five : (t : ℕ) → DueNext (theQuestion .step .exec) t → ⊥
+-- the tick that makes the count 5 leaves everybody waiting who waits on time
+pub nobody-at-five : (t : ℕ) → OnTime (theQuestion .step .exec) t → stateIn (theTick .step .exec) t ≡ waiting
+unfolding theTick tick₀
 nobody-at-five =
     nobody-before morningRig (codeTable bench) morningStart morning-starts madeBefore atFour before-ran theQuestion question-made asks
-    6 (λ n. omega (arith, told-six)) [] (theQuestion .step .exec) refl tt (omega (arith, four))
+    6 (λ n. omega (arith, told-six)) [] (theQuestion .step .exec) refl tt theTick (replicate 128 0) (tick-ran .0) refl (omega (arith, five))
 
 -- somebody waits for the count 6, and is woken by the tick that makes it
 pub somebody-at-six : (t : ℕ) × OnTime atFour t × Wakes t 6 atFive
