@@ -204,10 +204,12 @@ refusal r s k = decide (refusals r s k)
 
 -- ---- what each call answers and writes
 
--- served: "the number of flags it served"; words: how many bus words a tick wrote; value: of the flag that was read, or the number
--- that a question is answered by
+-- served: "the number of flags it served"; woken, activated (L2): "how many waiting tasks" the services "made dispatchable and how many"
+-- they "activated"; words: how many bus words a tick wrote; value: of the flag that was read, or the number that a question is answered by
 pub record Report : Type 0 where
   pub served : ℕ
+  pub woken : ℕ
+  pub activated : ℕ
   pub words : ℕ
   pub value : ℕ
 
@@ -216,8 +218,13 @@ pub record Answer : Type 0 where
   pub code : ℕ
   pub report : Report
 
+-- L2: "a refusal shows 0 and 0"
 abbrev pub nothing : Report
-nothing = record { served = 0; words = 0; value = 0 }
+nothing = record { served = 0; woken = 0; activated = 0; words = 0; value = 0 }
+
+-- what is told of the flags that were served, and of what a call puts out beside that
+abbrev pub reported : Done → ℕ → ℕ → Report
+reported d words value = record { served = d .served; woken = d .woken; activated = d .activated; words = words; value = value }
 
 -- the bus words of a tick that made the count
 unfoldable pub wordsAt : Rig → ℕ → List ℕ
@@ -284,7 +291,7 @@ accepted r s k =
     let o = output r n k in
     record {
       next = n;
-      answer = record { code = 0; report = record { served = d .served; words = o .words; value = o .value } };
+      answer = record { code = 0; report = reported d (o .words) (o .value) };
       lent = o .lent;
     }
 

@@ -8,7 +8,7 @@ use Rattle.laws.specs.Iter.{iter}
 use Rattle.laws.specs.Tables.{over}
 use Rattle.rules.specs.Sizes.{mostTasks}
 use Rattle.rules.specs.Rig.{Rig}
-use Rattle.rules.specs.State.{Chain, chainOf, withChain, State, Entry, Work, Done, stateOf, withValues, withTables, withChains, inactive, dispatchable, on}
+use Rattle.rules.specs.State.{Chain, chainOf, withChain, State, Entry, Work, Done, stateOf, withValues, withTables, withChains, inactive, waiting, dispatchable, on}
 use Rattle.rules.specs.Conditions.{relax, met, drive, names}
 
 -- "queued"; activation flag 0 is none, and queues nothing
@@ -61,17 +61,33 @@ unfoldable pub serveFlag : Rig → Entry → State → List Entry → Work
 serveFlag r e s q =
     offers r (e .flag) mostTasks (record { now = wake (chainOf (e .flag) (e .value)) (takes r e s); queue = q })
 
-abbrev pub another : Done → Done
-another d = record { now = d .now; served = suc (d .served) }
+-- L2: "how many waiting tasks it made dispatchable and how many it activated". Of the tasks' states before a service and after it:
+-- how many were a, waiting or inactive, and are dispatchable
+unfoldable pub made : ℕ → List ℕ → List ℕ → ℕ
+made a [] after = 0
+made a (x ∷ before) [] = 0
+made a (x ∷ before) (y ∷ after) = cond (eqb x a && eqb y dispatchable) 1 0 + made a before after
+
+abbrev pub madeBy : ℕ → State → Work → ℕ
+madeBy a s w = made a (s .states) (w .now .states)
+
+-- one service more: L2's numbers are "added over all services of a call"
+abbrev pub another : ℕ → ℕ → Done → Done
+another woken activated d =
+    record { now = d .now; served = suc (d .served); woken = woken + d .woken; activated = activated + d .activated }
+
+-- nothing was served
+abbrev pub unserved : State → Done
+unserved s = record { now = s; served = 0; woken = 0; activated = 0 }
 
 -- "This goes on until the queue is empty." The number k only bounds how many are served: `serve` gives one that never
 -- cuts it short (theorems serve-nil and serve-cons).
 unfoldable pub serving : Rig → ℕ → State → List Entry → Done
-serving r zero s q = record { now = s; served = 0 }
-serving r (suc k) s [] = record { now = s; served = 0 }
+serving r zero s q = unserved s
+serving r (suc k) s [] = unserved s
 serving r (suc k) s (e ∷ q) =
     let w = serveFlag r e s q in
-    another (serving r k (w .now) (w .queue))
+    another (madeBy waiting s w) (madeBy inactive s w) (serving r k (w .now) (w .queue))
 
 -- how many tasks are inactive
 abbrev pub isInactive : ℕ → ℕ

@@ -82,10 +82,13 @@ pub record Work : Type 0 where
   pub now : State
   pub queue : List Entry
 
--- a state and how many flags were served on the way to it
+-- a state, how many flags were served on the way to it, and what L2 asks for: how many waiting tasks that "made dispatchable and how
+-- many it activated"
 pub record Done : Type 0 where
   pub now : State
   pub served : ℕ
+  pub woken : ℕ
+  pub activated : ℕ
 
 -- ---- a state with one part of it changed (there is no shorter way to write this)
 
