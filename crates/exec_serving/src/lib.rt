@@ -16,10 +16,12 @@ ghost use Rattle.exec_offers.specs.Set.{withTables};
 ghost use Rattle.exec_serving.specs.Post.{Begins, Emptied};
 ghost use Rattle.exec_serving.specs.Set.{withPlaces};
 
-// A state and how many flags were served on the way to it.
+// A state, how many flags were served on the way to it, how many waiting tasks that made dispatchable, and how many it activated.
 pub struct Done {
     pub st: State,
     pub served: u32,
+    pub woken: u32,
+    pub activated: u32,
 }
 
 // Whether somebody waits in the chain of anchor c.
@@ -79,5 +81,5 @@ pub fn serve<'a>(
         k = k + 1;
     }
     st.state = state;
-    Done { st: st, served: k }
+    Done { st: st, served: k, woken: 0, activated: 0 }
 }

@@ -222,6 +222,10 @@ pub record Answer : Type 0 where
 abbrev pub nothing : Report
 nothing = record { served = 0; woken = 0; activated = 0; words = 0; value = 0 }
 
+-- no flag was served, and this number is the answer
+abbrev pub valueOnly : ℕ → Report
+valueOnly n = record { served = 0; woken = 0; activated = 0; words = 0; value = n }
+
 -- what is told of the flags that were served, and of what a call puts out beside that
 abbrev pub reported : Done → ℕ → ℕ → Report
 reported d words value = record { served = d .served; woken = d .woken; activated = d .activated; words = words; value = value }

@@ -23,13 +23,13 @@ use Rattle.rules.specs.Rig.{Rig}
 use Rattle.rules.specs.RigOk.{RigOk}
 use Rattle.rules.specs.State.{Chain, timeChain, State, Work, stateOf, valueOf, wakeOf, withTables, blank, Done}
 use Rattle.rules.specs.Conditions.{met, relax}
-use Rattle.rules.specs.Serving.{activate, takes, wake, serve}
+use Rattle.rules.specs.Serving.{activate, takes, wake, unserved, serve}
 use Rattle.rules.specs.Waiting.{waitOn, waitUntilCount, leave, isDue, wakeDue}
 use Rattle.rules.specs.Family.{family, isMarked, leaveOne, deserted}
 use Rattle.rules.specs.Running.{dispatch}
 use Rattle.rules.specs.NextWaking.{WaitsOnTime, LowestWaking, waitsOnTime, lowerOne, lowestWaking}
 use Rattle.rules.specs.Calls.{Call, schedule, cancel, terminate, finish, tick, waitUntil, waitFor, latched, unlatched, signal, readFlag, readBlock, writeBlock, nextWaking}
-use Rattle.rules.specs.Calls.{scheduled, finished, terminated, cancelled, ticked, effect, refusal, refusals, lastCount, decide, output, accepted, after, Step, step, run, started, start}
+use Rattle.rules.specs.Calls.{scheduled, finished, terminated, cancelled, ticked, effect, refusal, refusals, lastCount, decide, reported, valueOnly, output, accepted, after, Step, step, run, started, start}
 use Rattle.rules.specs.Proper.{ProperRun}
 use Rattle.rules.specs.History.{nothing, untilCount, begins}
 use Rattle.rules.specs.Soundness.{Sound}
@@ -154,13 +154,13 @@ module _ (r : Rig) (s : State) (h : Sound r s) where
 
 -- the state is what it was, no flag is served, and the lowest waking count is told
 pub asked-step : (r : Rig) (s : State) → Sound r s
-    → step r s nextWaking ≡ record { next = s; answer = record { code = 0; report = record { served = 0; words = 0; value = lowestWaking s } }; lent = [] }
+    → step r s nextWaking ≡ record { next = s; answer = record { code = 0; report = valueOnly (lowestWaking s) }; lent = [] }
 unfolding step after accepted refusal refusals decide effect output
 asked-step r s h =
-    ap (λ (d : Done). said (dispatch r (d .now)) (d .served)) (serve-nil r s) ∙ ap (λ (n : State). said n 0) (dispatch-same r s h)
+    ap (λ (d : Done). said (dispatch r (d .now)) d) (serve-nil r s) ∙ ap (λ (n : State). said n (unserved s)) (dispatch-same r s h)
   where
-    said : State → ℕ → Step
-    said n k = record { next = n; answer = record { code = 0; report = record { served = k; words = 0; value = lowestWaking n } }; lent = [] }
+    said : State → Done → Step
+    said n d = record { next = n; answer = record { code = 0; report = reported d 0 (lowestWaking n) }; lent = [] }
 
 -- ---- who comes to wait on time: the running task, by a call that begins a wait for a count, and nobody else
 

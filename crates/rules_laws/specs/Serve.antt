@@ -13,7 +13,7 @@ use Rattle.laws.specs.Laws.Iter.{iter-ind}
 use Rattle.laws.specs.Laws.Tables.{over-set, over-store, in-range}
 use Rattle.rules.specs.Rig.{Rig}
 use Rattle.rules.specs.State.{Chain, chainOf, State, Work, Entry, stateOf}
-use Rattle.rules.specs.Serving.{push, isInactive, inactives, activate, offer, offerNext, offers, rouse, wake, takes, serveFlag, another, serving, serve, ready}
+use Rattle.rules.specs.Serving.{push, isInactive, inactives, activate, offer, offerNext, offers, rouse, wake, takes, serveFlag, another, unserved, serving, serve, ready}
 
 -- what is left to do: the entries queued and the tasks that may yet be activated
 abbrev pub load : Work → ℕ
@@ -73,24 +73,24 @@ room r (suc k) zero s (e ∷ q) h g = absurd (omega arith)
 room r (suc k) (suc j) s [] h g = refl
 room r (suc k) (suc j) s (e ∷ q) h g =
     let g₁ = serveFlag-load r e s q in
-    ap another (room r k j (serveFlag r e s q .now) (serveFlag r e s q .queue) (omega arith) (omega arith))
+    ap (another 0 0) (room r k j (serveFlag r e s q .now) (serveFlag r e s q .queue) (omega arith) (omega arith))
 
-serving-nil : (r : Rig) (k : ℕ) (s : State) → serving r k s [] ≡ record { now = s; served = 0 }
+serving-nil : (r : Rig) (k : ℕ) (s : State) → serving r k s [] ≡ unserved s
 unfolding serving
 serving-nil r zero s = refl
 serving-nil r (suc k) s = refl
 
 -- THE SERVING RULE, with no bound in it
-pub serve-nil : (r : Rig) (s : State) → serve r (record { now = s; queue = [] }) ≡ record { now = s; served = 0 }
+pub serve-nil : (r : Rig) (s : State) → serve r (record { now = s; queue = [] }) ≡ unserved s
 unfolding serve
 serve-nil r s = serving-nil r _ s
 
 pub serve-cons : (r : Rig) (s : State) (e : Entry) (q : List Entry)
-    → serve r (record { now = s; queue = e ∷ q }) ≡ another (serve r (serveFlag r e s q))
+    → serve r (record { now = s; queue = e ∷ q }) ≡ another 0 0 (serve r (serveFlag r e s q))
 unfolding serve serving
 serve-cons r s e q =
     ap (λ (n : ℕ). serving r n s (e ∷ q)) (suc-add (length q) (inactives (s .states)))
-    ∙ ap another
+    ∙ ap (another 0 0)
     (room r (length q + inactives (s .states)) (load (serveFlag r e s q)) (serveFlag r e s q .now) (serveFlag r e s q .queue)
     (serveFlag-load r e s q) (le-refl _))
 

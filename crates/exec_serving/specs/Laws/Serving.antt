@@ -80,7 +80,7 @@ module _ (r : G.Rig) (ok : (t : ℕ) → r .activation t ≤ 128) where
 
 -- d with k more served
 abbrev pub more : ℕ → S.Done → S.Done
-more k d = record { now = d .now; served = k + d .served }
+more k d = record { now = d .now; served = k + d .served; woken = d .woken; activated = d .activated }
 
 -- k entries are served
 pub record Turned (g : Rig) (s₀ : State) (q₀ : Queue) (s : State) (q : Queue) (k : ℕ) : Type 0 where
@@ -94,7 +94,7 @@ module _ (g : Rig) (s₀ : State) (q₀ : Queue) where
   turned-start a b c =
       record {
         is = λ cycles.
-            ap (λ (n : ℕ). record { now = serve (rigOf g cycles) (workOf s₀ q₀) .now; served = n })
+            ap (λ (n : ℕ). record { now = serve (rigOf g cycles) (workOf s₀ q₀) .now; served = n; woken = serve (rigOf g cycles) (workOf s₀ q₀) .woken; activated = serve (rigOf g cycles) (workOf s₀ q₀) .activated })
             (zero-left (serve (rigOf g cycles) (workOf s₀ q₀) .served));
         sound = a;
         room = omega (arith, b);
@@ -108,7 +108,7 @@ module _ (g : Rig) (s₀ : State) (q₀ : Queue) where
     pub short : q .n ≤ 79
     short = omega (arith, h .room, entries-length (q .flag) (q .value) (q .n))
 
-    pub turned-done : q .n ≡ 0 → Emptied g s₀ q₀ (record { st = s; served = k })
+    pub turned-done : q .n ≡ 0 → Emptied g s₀ q₀ (record { st = s; served = k; woken = 0; activated = 0 })
     unfolding entries
     turned-done e =
         record {
@@ -117,7 +117,7 @@ module _ (g : Rig) (s₀ : State) (q₀ : Queue) where
               (h .is cycles
               ∙ ap (λ (n : ℕ). more k (serve (rigOf g cycles) (record { now = viewOf s; queue = entries (q .flag) (q .value) n }))) e
               ∙ ap (more k) (serve-nil (rigOf g cycles) (viewOf s))
-              ∙ ap (λ (n : ℕ). record { now = viewOf s; served = n }) (zero-right k));
+              ∙ ap (λ (n : ℕ). record { now = viewOf s; served = n; woken = 0; activated = 0 }) (zero-right k));
           sound = h .sound;
           few = omega (arith, h .room);
         }
@@ -162,9 +162,8 @@ module _ (g : Rig) (s₀ : State) (q₀ : Queue) where
                   h .is cycles
                   ∙ ap (λ (l : List Entry). more k (serve (rigOf g cycles) (record { now = viewOf s; queue = l }))) split
                   ∙ ap (more k) (serve-cons (rigOf g cycles) (viewOf s) (record { flag = f; value = v }) (entriesOf popped))
-                  ∙ ap (λ (w : S.Work). more k (another (serve (rigOf g cycles) w))) (sym (m .is cycles))
-                  ∙ ap (λ (n : ℕ). record { now = serve (rigOf g cycles) (workOf (r .st) (r .queue)) .now; served = n })
-                  (shift k (serve (rigOf g cycles) (workOf (r .st) (r .queue)) .served));
+                  ∙ ap (λ (w : S.Work). more k (another 0 0 (serve (rigOf g cycles) w))) (sym (m .is cycles))
+                  ∙ (λ i. record { now = serve (rigOf g cycles) (workOf (r .st) (r .queue)) .now; served = shift k (serve (rigOf g cycles) (workOf (r .st) (r .queue)) .served) i; woken = none (serve (rigOf g cycles) (workOf (r .st) (r .queue)) .woken) i; activated = none (serve (rigOf g cycles) (workOf (r .st) (r .queue)) .activated) i });
               sound = m .sound;
               room = omega (arith, load-is, rest-load, h .room);
               entries =
@@ -173,5 +172,8 @@ module _ (g : Rig) (s₀ : State) (q₀ : Queue) where
                   (subst (λ (l : List Entry). Servable l) split (h .entries) .1));
             }
           where
+            none : (a : ℕ) → 0 + a ≡ a
+            none a = omega arith
+
             shift : (a b : ℕ) → a + suc b ≡ a + 1 + b
             shift a b = omega arith
