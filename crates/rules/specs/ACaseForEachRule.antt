@@ -13,7 +13,7 @@ use Rattle.word_parts.specs.Packed.{commandWord}
 use Rattle.rules.specs.Rig.{Rig}
 use Rattle.rules.specs.State.{blank}
 use Rattle.rules.specs.Conditions.{relax, met, drive, names}
-use Rattle.rules.specs.Serving.{activate, takes, rouse, wake, ready, offer, offers, serveFlag, serving, serve}
+use Rattle.rules.specs.Serving.{activate, takes, rouse, wake, ready, offer, offers, serveFlag, made, serving, serve}
 use Rattle.rules.specs.Waiting.{waitOn, waitUntilCount, leave, wakeDue}
 use Rattle.rules.specs.Family.{family, cleared, deserted, offs}
 use Rattle.rules.specs.Running.{best, chosen, dispatch}
@@ -22,7 +22,7 @@ use Rattle.rules.specs.NextWaking.{lowestWaking}
 use Rattle.rules.specs.Calls.{schedule, cancel, terminate, finish, tick, waitUntil, waitFor, latched, unlatched, signal, readFlag, readBlock, writeBlock, nextWaking}
 use Rattle.rules.specs.Calls.{scheduled, finished, terminated, cancelled, cycleQueue, ticked, effect, decide, noSuch, inCycle, isMinor, isActivation, lastCount, wrongBlock, refusals, refusal, wordsAt, lent, output, accepted, after, step, run, started, start}
 use Rattle.rules.specs.Scripts.{TaskLine, MinorLine, T, C, A, M, B, ofTask, ofCondition, numbers, ofLine, ofCycle, rig, tick₀, startAt, seen, Case, shown, case, caseAt, bench, morningCalls}
-use Rattle.rules.specs.Scripts.{runs, answers, serves, writes, reads, lends, sends, stateIs, conditionIs, valueIs, waitFlag, waitTime, _and_}
+use Rattle.rules.specs.Scripts.{runs, answers, serves, hears, writes, reads, lends, sends, stateIs, conditionIs, valueIs, waitFlag, waitTime, _and_}
 
 -- ---- rigs that several cases use
 
@@ -432,6 +432,65 @@ served-numbers =
     serves
     (0 ∷ 0 ∷ 0 ∷ 0 ∷ 0 ∷ 2 ∷ 1 ∷ 0 ∷ 0 ∷ 0 ∷ [])
 
+-- ---- L2: "A signal should say whom it woke." Seen: woken, activated
+
+-- "how many waiting tasks it made dispatchable": those who wait for the value that is served, and nobody else. Tasks 2 and 3 wait for the
+-- on, task 4 for the off; who wakes is not counted again
+pub a-signal-says-whom-it-woke : Case
+a-signal-says-whom-it-woke =
+    case quad
+    (schedule 2 ∷ unlatched 1 1 ∷ schedule 3 ∷ unlatched 1 1 ∷ schedule 4 ∷ unlatched 1 0 ∷ signal 1 1 ∷ signal 1 1 ∷ signal 1 0 ∷ [])
+    hears
+    (0 ∷ 0 ∷ 0 ∷ 0 ∷ 0 ∷ 0 ∷ 0 ∷ 0 ∷ 0 ∷ 0 ∷ 0 ∷ 0 ∷ 2 ∷ 0 ∷ 0 ∷ 0 ∷ 1 ∷ 0 ∷ [])
+
+-- "and how many it activated": task 2 by the first signal, nobody by the second
+pub a-signal-says-whom-it-activated : Case
+a-signal-says-whom-it-activated =
+    case forgetting
+    (schedule 2 ∷ signal 1 1 ∷ signal 1 1 ∷ [])
+    hears
+    (0 ∷ 0 ∷ 0 ∷ 1 ∷ 0 ∷ 0 ∷ [])
+
+-- "added over all services of a call": flag 1 activates task 2, its flag 2 wakes task 5 and activates task 3, its flag 3 wakes task 4.
+-- "a refusal shows 0 and 0": there is no flag 9
+pub added-over-all-services : Case
+added-over-all-services =
+    case
+    (rig 5 4 1 (T 1 0 10 0 0 ∷ T 2 1 5 0 2 ∷ T 3 1 5 0 3 ∷ T 4 1 20 0 0 ∷ T 5 1 20 0 0 ∷ []) (C 2 0 0 1 ∷ C 3 0 0 1 ∷ []) (A 2 0 1 ∷ A 3 0 2 ∷ []) [] [])
+    (schedule 2 ∷ schedule 3 ∷ schedule 4 ∷ unlatched 3 1 ∷ schedule 5 ∷ unlatched 2 1 ∷ signal 1 1 ∷ signal 9 1 ∷ [])
+    (serves and hears)
+    (
+    0 ∷ 0 ∷ 0 ∷
+    0 ∷ 0 ∷ 0 ∷
+    0 ∷ 0 ∷ 0 ∷
+    0 ∷ 0 ∷ 0 ∷
+    0 ∷ 0 ∷ 0 ∷
+    0 ∷ 0 ∷ 0 ∷
+    3 ∷ 2 ∷ 2 ∷
+    0 ∷ 0 ∷ 0 ∷ []
+    )
+
+-- services alone count: not the activation of the task that is scheduled, but that of task 3 by its flag; and not who is due at a tick's count
+pub services-alone-count : Case
+services-alone-count =
+    case (rig 3 4 1 (T 1 0 10 0 0 ∷ T 2 1 20 0 3 ∷ T 3 1 5 0 0 ∷ []) (C 3 0 0 1 ∷ []) (A 3 0 3 ∷ []) [] [])
+    (schedule 3 ∷ schedule 2 ∷ waitFor 1 ∷ tick₀ ∷ [])
+    (hears and stateIs 2 and stateIs 3)
+    (
+    0 ∷ 0 ∷ 0 ∷ 1 ∷
+    0 ∷ 1 ∷ 3 ∷ 3 ∷
+    0 ∷ 0 ∷ 2 ∷ 3 ∷
+    0 ∷ 0 ∷ 3 ∷ 3 ∷ []
+    )
+
+-- the calls of the bench morning: the tick that makes count 4 activates tasks 2 and 3
+pub heard-in-the-morning : Case
+heard-in-the-morning =
+    case bench
+    morningCalls
+    hears
+    (0 ∷ 0 ∷ 0 ∷ 0 ∷ 0 ∷ 0 ∷ 0 ∷ 0 ∷ 0 ∷ 0 ∷ 0 ∷ 2 ∷ 0 ∷ 0 ∷ 0 ∷ 0 ∷ 0 ∷ 0 ∷ 0 ∷ 0 ∷ [])
+
 -- ---- waits
 
 -- "Wait until a count ..": waiting, and dispatchable after the tick that makes it
@@ -641,6 +700,14 @@ the-last-task =
     0 ∷ 1 ∷ 0 ∷ 0 ∷ 0 ∷ 1 ∷
     6 ∷ 0 ∷ 0 ∷ 0 ∷ 0 ∷ 1 ∷ []
     )
+
+-- L2: task 64 is counted like any other
+pub the-last-task-hears : Case
+the-last-task-hears =
+    case largest
+    (schedule 64 ∷ unlatched 127 1 ∷ signal 127 1 ∷ [])
+    hears
+    (0 ∷ 0 ∷ 0 ∷ 0 ∷ 1 ∷ 0 ∷ [])
 
 -- task 64 is activated by a service too
 pub the-last-task-is-activated : Case
@@ -877,6 +944,12 @@ pub cases-hold :
     × Holds only-the-value-waited-for-wakes
     × Holds all-who-wait-wake
     × Holds served-numbers
+    × Holds a-signal-says-whom-it-woke
+    × Holds a-signal-says-whom-it-activated
+    × Holds added-over-all-services
+    × Holds services-alone-count
+    × Holds heard-in-the-morning
+    × Holds the-last-task-hears
     × Holds wait-until-a-count
     × Holds wait-for-cycles
     × Holds no-wait-at-or-below-the-count
@@ -915,5 +988,5 @@ pub cases-hold :
     × Holds refused-9-last-tick
     × Holds refused-10-tick
     × Holds refused-10-area
-unfolding tasksFrom flagsFrom largest lone pair quad line remembering forgetting asking bench morningCalls rows stopped-and-started thirty-two-is-written-as-zero equal-rank-takes-nothing phase-against-the-count-after-the-tick cancel-strikes-every-descendant cancel-strikes-grandchildren unlatched-waits-for-the-next-service latched-conditions-remember conditions-are-driven-while-the-task-runs conditions-are-driven-while-the-task-waits schedule-relaxes undesired-of-off-is-on position-fifteen-counts no-line-no-condition activation-relaxes tested-on-schedule-and-service-only who-is-active-is-not-activated only-its-own-flags-activate-a-task all-conditions-as-desired one-condition-of-two-flags finish-wakes-who-waits-for-the-off finish-leaves-the-conditions terminate-takes-out-of-a-flag-chain terminate-takes-out-of-the-time-chain terminate-leaves-the-conditions cancel-touches-no-condition cancel-leaves-unlatched-conditions cancel-queues-off-for-the-active-only cancel-serves-the-highest-off-first last-queued-first activation-by-rising-number only-the-value-waited-for-wakes all-who-wait-wake served-numbers wait-until-a-count wait-for-cycles no-wait-at-or-below-the-count latched-wait-takes-the-value-there time-chain-in-order flag-chains-in-order cycle-of-the-count start-schedules-task-1 higher-rank-takes-the-processor lowest-number-first stayed-throughout privileged-above-all-others privileged-above-the-highest-priority rows-in-order due-at-its-phase due-at-the-last-phase write-touches-no-other-word read-copies-the-data the-last-task the-last-task-is-activated the-last-flag the-last-row the-last-block the-lowest-waking-count asked-while-nobody-runs waiting-on-a-flag-is-not-on-time the-last-task-wakes lowestWaking refused-5-first refused-6-no-such refused-7-not-the-controller refused-7-flags refused-8-states refused-8-active refused-9-waking-count refused-9-waking-sum refused-9-last-tick refused-10-tick refused-10-area ofTask ofCondition numbers ofLine ofCycle rig tick₀ startAt seen shown runs answers serves writes reads lends sends stateIs conditionIs valueIs waitFlag waitTime _and_ iter all any total over put commandWord blank relax met drive names activate takes rouse wake ready offer offers serveFlag serving serve waitOn waitUntilCount leave wakeDue family cleared deserted offs best chosen dispatch written copied rowWords busWords scheduled finished terminated cancelled cycleQueue ticked effect decide noSuch inCycle isMinor isActivation lastCount wrongBlock refusals refusal wordsAt lent output accepted after step run started start
-cases-hold = (refl, refl, refl, refl, refl, refl, refl, refl, refl, refl, refl, refl, refl, refl, refl, refl, refl, refl, refl, refl, refl, refl, refl, refl, refl, refl, refl, refl, refl, refl, refl, refl, refl, refl, refl, refl, refl, refl, refl, refl, refl, refl, refl, refl, refl, refl, refl, refl, refl, refl, refl, refl, refl, refl, refl, refl, refl, refl, refl, refl, refl, refl, refl, refl, refl, refl, refl, refl, refl, refl, refl, refl)
+unfolding tasksFrom flagsFrom largest lone pair quad line remembering forgetting asking bench morningCalls rows stopped-and-started thirty-two-is-written-as-zero equal-rank-takes-nothing phase-against-the-count-after-the-tick cancel-strikes-every-descendant cancel-strikes-grandchildren unlatched-waits-for-the-next-service latched-conditions-remember conditions-are-driven-while-the-task-runs conditions-are-driven-while-the-task-waits schedule-relaxes undesired-of-off-is-on position-fifteen-counts no-line-no-condition activation-relaxes tested-on-schedule-and-service-only who-is-active-is-not-activated only-its-own-flags-activate-a-task all-conditions-as-desired one-condition-of-two-flags finish-wakes-who-waits-for-the-off finish-leaves-the-conditions terminate-takes-out-of-a-flag-chain terminate-takes-out-of-the-time-chain terminate-leaves-the-conditions cancel-touches-no-condition cancel-leaves-unlatched-conditions cancel-queues-off-for-the-active-only cancel-serves-the-highest-off-first last-queued-first activation-by-rising-number only-the-value-waited-for-wakes all-who-wait-wake served-numbers a-signal-says-whom-it-woke a-signal-says-whom-it-activated added-over-all-services services-alone-count heard-in-the-morning the-last-task-hears wait-until-a-count wait-for-cycles no-wait-at-or-below-the-count latched-wait-takes-the-value-there time-chain-in-order flag-chains-in-order cycle-of-the-count start-schedules-task-1 higher-rank-takes-the-processor lowest-number-first stayed-throughout privileged-above-all-others privileged-above-the-highest-priority rows-in-order due-at-its-phase due-at-the-last-phase write-touches-no-other-word read-copies-the-data the-last-task the-last-task-is-activated the-last-flag the-last-row the-last-block the-lowest-waking-count asked-while-nobody-runs waiting-on-a-flag-is-not-on-time the-last-task-wakes lowestWaking refused-5-first refused-6-no-such refused-7-not-the-controller refused-7-flags refused-8-states refused-8-active refused-9-waking-count refused-9-waking-sum refused-9-last-tick refused-10-tick refused-10-area ofTask ofCondition numbers ofLine ofCycle rig tick₀ startAt seen shown runs answers serves hears writes reads lends sends stateIs conditionIs valueIs waitFlag waitTime _and_ iter all any total over put commandWord blank relax met drive names activate takes rouse wake ready offer offers serveFlag made serving serve waitOn waitUntilCount leave wakeDue family cleared deserted offs best chosen dispatch written copied rowWords busWords scheduled finished terminated cancelled cycleQueue ticked effect decide noSuch inCycle isMinor isActivation lastCount wrongBlock refusals refusal wordsAt lent output accepted after step run started start
+cases-hold = (refl, refl, refl, refl, refl, refl, refl, refl, refl, refl, refl, refl, refl, refl, refl, refl, refl, refl, refl, refl, refl, refl, refl, refl, refl, refl, refl, refl, refl, refl, refl, refl, refl, refl, refl, refl, refl, refl, refl, refl, refl, refl, refl, refl, refl, refl, refl, refl, refl, refl, refl, refl, refl, refl, refl, refl, refl, refl, refl, refl, refl, refl, refl, refl, refl, refl, refl, refl, refl, refl, refl, refl, refl, refl, refl, refl, refl, refl)

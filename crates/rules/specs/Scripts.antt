@@ -96,7 +96,7 @@ seen look r s (k ∷ ks) =
     let p = step r s k in
     look p ++ seen look r (p .next) ks
 
--- looks: who runs; the answer's number; how many flags were served; how many bus words were written; the value that was
+-- looks: who runs; the answer's number; how many flags were served; whom that woke and activated; how many bus words were written; the value that was
 -- read; the lent buffer; the bus words in it; the state of a task; the value of its condition at a position; the value of a
 -- flag; who waits in a chain, from its front, and a 0 behind them
 unfoldable pub runs : Step → List ℕ
@@ -107,6 +107,9 @@ answers p = p .answer .code ∷ []
 
 unfoldable pub serves : Step → List ℕ
 serves p = p .answer .report .served ∷ []
+
+unfoldable pub hears : Step → List ℕ
+hears p = p .answer .report .woken ∷ p .answer .report .activated ∷ []
 
 unfoldable pub writes : Step → List ℕ
 writes p = p .answer .report .words ∷ []

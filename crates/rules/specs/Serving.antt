@@ -87,7 +87,7 @@ serving r zero s q = unserved s
 serving r (suc k) s [] = unserved s
 serving r (suc k) s (e ∷ q) =
     let w = serveFlag r e s q in
-    another 0 0 (serving r k (w .now) (w .queue))
+    another (madeBy waiting s w) (madeBy inactive s w) (serving r k (w .now) (w .queue))
 
 -- how many tasks are inactive
 abbrev pub isInactive : ℕ → ℕ

@@ -39,13 +39,16 @@ module _ (r : Rig) (P : State → Type 0) (tk : (e : Entry) (s : State) → P s 
   unfolding offers
   offers-keeps f k w h = iter-ind (λ i x. P (x .now)) (offerNext r f) w h (λ i x g. offer-keeps f (i + 1) x g) k
 
-  serving-keeps : (k : ℕ) (s : State) (q : List Entry) → P s → P (serving r k s q .now)
-  unfolding serving serveFlag
+  pub serveFlag-keeps : (e : Entry) (s : State) (q : List Entry) → P s → P (serveFlag r e s q .now)
+  unfolding serveFlag
+  serveFlag-keeps e s q h = offers-keeps (e .flag) 64 _ (wk (e .flag) (e .value) (takes r e s) (tk e s h))
+
+  pub serving-keeps : (k : ℕ) (s : State) (q : List Entry) → P s → P (serving r k s q .now)
+  unfolding serving
   serving-keeps zero s q h = h
   serving-keeps (suc k) s [] h = h
   serving-keeps (suc k) s (e ∷ q) h =
-      serving-keeps k (serveFlag r e s q .now) (serveFlag r e s q .queue)
-      (offers-keeps (e .flag) 64 _ (wk (e .flag) (e .value) (takes r e s) (tk e s h)))
+      serving-keeps k (serveFlag r e s q .now) (serveFlag r e s q .queue) (serveFlag-keeps e s q h)
 
   pub serve-keeps : (w : Work) → P (w .now) → P (serve r w .now)
   unfolding serve

@@ -1,4 +1,6 @@
 pub mod Serve
+pub mod Made
+pub mod Heard
 pub mod Lengths
 pub mod Queued
 pub mod Agreement

@@ -1,0 +1,360 @@
+-- L2: WHOM A CALL WOKE. Its numbers, added over its services, are those of the whole: tasks that were waiting, or inactive, when the
+-- first flag was served, and are dispatchable at the end. So no task is counted twice.
+use mathlib.Core.Path.{_≡_, refl, sym, ap, _∙_, subst}
+use mathlib.Core.Logic.{_≢_, _⊎_, inl, inr, ⊎-elim, _↔_}
+use mathlib.Core.Bool.{Bool, true, false, cond, _&&_}
+use mathlib.Core.List.{List, [], _∷_}
+use Prim.Native.Nat.{ℕ, zero, suc, _+_, _≤_, _<_}
+use native.Mathlib.Omega.{arith}
+use borrow.Author.Tests.{eqb-true}
+use lib.Dec.{eqb}
+use lib.ListN.{length, getD, set, length-set, replicate}
+use lib.Seq.{getD-set-other}
+use Rattle.laws.specs.Cases.{dec-eq, and-true}
+use Rattle.laws.specs.Tables.{total}
+use Rattle.laws.specs.Members.{In, Distinct}
+use Rattle.laws.specs.Laws.Members.{dec-in}
+use Rattle.laws.specs.Laws.Iter.{iter-ind}
+use Rattle.laws.specs.Laws.Tables.{in-range, was-there}
+use Rattle.rules.specs.Rig.{Rig}
+use Rattle.rules.specs.RigOk.{RigOk}
+use Rattle.rules.specs.State.{Chain, chainOf, State, Work, Entry, Done, stateOf, active, waiting, inactive, dispatchable, blank}
+use Rattle.rules.specs.Serving.{activate, ready, offer, offerNext, offers, takes, wake, rouse, made, unserved, serveFlag, serving, serve}
+use Rattle.rules.specs.Conditions.{relax, met}
+use Rattle.rules.specs.Running.{dispatch}
+use Rattle.rules.specs.Calls.{Call, signal, quiet, scheduled, effect, refusal, accepted, Step, step, started}
+use Rattle.rules.specs.Proper.{Proper}
+use Rattle.rules.specs.Soundness.{Chains, Sound}
+use Rattle.rules_laws.specs.Refusals.{accepted-is, refused-is}
+use Rattle.rules_laws.specs.Lengths.{rouse-length}
+use Rattle.rules_laws.specs.Rousing.{rouse-one, rouse-in, rouse-out}
+use Rattle.rules_laws.specs.Offering.{offers-changed}
+use Rattle.rules_laws.specs.Made.{Up, up-same, up-up, up-set, made-next, made-other, made-from, made-none, isState, made-le, made-adds, within-few}
+use Rattle.rules_laws.specs.WhileServing.{Reached, begin, onward}
+use Rattle.rules_laws.specs.Good.{Ready, clean-ready, serveFlag-clean, serveFlag-keeps, serving-keeps, serve-keeps}
+use Rattle.rules_laws.specs.Serve.{serve-cons, serve-nil}
+use Rattle.rules_laws.specs.Steps.{effect-ready}
+use Rattle.rules_laws.specs.Activation.{ByService, serve-activates}
+
+-- ---- one service
+
+rouse-up : (ts l : List ℕ) → Up l (rouse ts l)
+unfolding rouse
+rouse-up [] l = up-same l
+rouse-up (t ∷ ts) l = up-up l (set l t 3) (rouse ts (set l t 3)) (up-set l t) (rouse-up ts (set l t 3))
+
+-- all of a list of waiting tasks are counted
+rouse-made : (l ts m : List ℕ) → Distinct ts → ((t : ℕ) → In t ts → (getD l t 0 ≡ 2) × (getD m t 0 ≡ 2))
+    → made 2 l (rouse ts m) ≡ length ts + made 2 l m
+unfolding rouse
+rouse-made l [] m d h = omega arith
+rouse-made l (t ∷ ts) m d h =
+    let w = h t (inl refl) in
+    let n = made-next 2 l m t (in-range l t 1 (w .0)) (in-range m t 1 (w .1)) (w .0) (λ q. omega (arith, w .1, q)) in
+    let k = rouse-made l ts (set m t 3) (d .1)
+    (λ u i. (h u (inr i) .0, getD-set-other m t u 3 0 (λ q. d .0 (subst (λ (v : ℕ). In v ts) q i)) ∙ h u (inr i) .1)) in
+    omega arith
+
+-- and none of them as inactive
+rouse-from : (ts l m : List ℕ) → ((t : ℕ) → In t ts → getD l t 0 ≢ 1) → made 1 (rouse ts l) m ≡ made 1 l m
+unfolding rouse
+rouse-from [] l m h = refl
+rouse-from (t ∷ ts) l m h =
+    rouse-from ts (set l t 3) m (λ u i e. h u (inr i) (was-there l t u 3 1 (λ q. omega arith) e))
+    ∙ made-from 1 l m t 3 (h t (inl refl)) (λ q. omega arith)
+
+module _ (r : Rig) (l : List ℕ) where
+  -- who is inactive was so in l, and nobody who was waiting there is counted by an offer
+  record Offering (n : ℕ) (w : Work) : Type 0 where
+    ones : (t : ℕ) → getD (w .now .states) t 0 ≡ 1 → getD l t 0 ≡ 1
+    many : made 2 l (w .now .states) ≡ n
+
+  offer-made : (f t n : ℕ) (w : Work) → Offering n w → Offering n (offer r f t w)
+  unfolding offer activate
+  offer-made f t n w h = go (eqb (stateOf (w .now) t) 1) refl (ready r f t (w .now))
+    where
+      go : (a : Bool) → eqb (stateOf (w .now) t) 1 ≡ a → (b : Bool) → Offering n (cond (a && b) (activate r t w) w)
+      go true e true =
+          let was : getD l t 0 ≡ 1 = h .ones t (eqb-true _ 1 e) in
+          record {
+            ones = λ u k. h .ones u (was-there (w .now .states) t u 3 1 (λ q. omega arith) k);
+            many = made-other 2 l (w .now .states) t 3 (λ q. omega (arith, was, q)) ∙ h .many;
+          }
+      go true e false = h
+      go false e b = h
+
+  offers-made : (f k n : ℕ) (w : Work) → Offering n w → Offering n (offers r f k w)
+  unfolding offers
+  offers-made f k n w h = iter-ind (λ i x. Offering n x) (offerNext r f) w h (λ i x g. offer-made f (i + 1) n x g) k
+
+-- the chains of a state, as soundness has them
+abbrev pub ChainsIn : State → Type 0
+ChainsIn s = Chains (s .count) (s .wakes) (s .chains) (s .states)
+
+module _ (r : Rig) (e : Entry) (s : State) (q : List Entry) (h : ChainsIn s) where
+  -- "how many waiting tasks it made dispatchable": those who waited on that flag and value
+  pub service-woken : made waiting (s .states) (serveFlag r e s q .now .states) ≡ length (s .chains (chainOf (e .flag) (e .value)))
+  unfolding serveFlag wake takes
+  service-woken =
+      let c = chainOf (e .flag) (e .value) in
+      let l = s .states in
+      let two : (t : ℕ) → In t (s .chains c) → getD l t 0 ≡ 2 = λ t i. h .listed .two t (c, i) in
+      let n : made 2 l (rouse (s .chains c) l) ≡ length (s .chains c) =
+      rouse-made l (s .chains c) l (h .once c) (λ t i. (two t i, two t i)) ∙ none (length (s .chains c)) (made-none 2 (λ z. omega arith) l) in
+      offers-made r l (e .flag) 64 (length (s .chains c)) _ (record { ones = λ t k. rouse-one t (s .chains c) l k; many = n }) .many
+    where
+      none : {z : ℕ} (n : ℕ) → z ≡ 0 → n + z ≡ n
+      none n k = omega arith
+
+  -- "and how many it activated": whom the service took from inactive, after it woke who waited
+  pub service-activated : (m : List ℕ) → made inactive (wake (chainOf (e .flag) (e .value)) (takes r e s) .states) m ≡ made inactive (s .states) m
+  unfolding wake takes
+  service-activated m =
+      let c = chainOf (e .flag) (e .value) in
+      rouse-from (s .chains c) (s .states) m (λ t i k. omega (arith, h .listed .two t (c, i), k))
+
+-- ---- the services of a call
+
+module _ (r : Rig) (l : List ℕ) where
+  abbrev Grown : State → Type 0
+  Grown x = Up l (x .states) × (length (x .states) ≡ length l)
+
+  grown-takes : (e : Entry) (s : State) → Grown s → Grown (takes r e s)
+  unfolding takes
+  grown-takes e s h = h
+
+  grown-wake : (f v : ℕ) (s : State) → Grown s → Grown (wake (chainOf f v) s)
+  unfolding wake
+  grown-wake f v s h = (
+    up-up l (s .states) (rouse (s .chains (chainOf f v)) (s .states)) (h .0) (rouse-up (s .chains (chainOf f v)) (s .states)),
+    rouse-length (s .chains (chainOf f v)) (s .states) ∙ h .1,
+  )
+
+  grown-activate : (t : ℕ) (w : Work) → stateOf (w .now) t ≡ 1 → Grown (w .now) → Grown (activate r t w .now)
+  unfolding activate
+  grown-activate t w k h = (up-up l (w .now .states) (set (w .now .states) t 3) (h .0) (up-set (w .now .states) t), length-set (w .now .states) t 3 ∙ h .1)
+
+  pub service-up : (e : Entry) (s : State) (q : List Entry) → Grown s → Grown (serveFlag r e s q .now)
+  service-up = serveFlag-keeps r Grown grown-takes grown-wake grown-activate
+
+  serving-up : (k : ℕ) (s : State) (q : List Entry) → Grown s → Grown (serving r k s q .now)
+  serving-up = serving-keeps r Grown grown-takes grown-wake grown-activate
+
+  pub serve-up : (w : Work) → Grown (w .now) → Grown (serve r w .now)
+  serve-up = serve-keeps r Grown grown-takes grown-wake grown-activate
+
+-- the numbers of a serving that starts from s: whom it took from waiting, and whom from inactive, to dispatchable
+pub record Numbers (s : State) (d : Done) : Type 0 where
+  pub woken : d .woken ≡ made waiting (s .states) (d .now .states)
+  pub activated : d .activated ≡ made inactive (s .states) (d .now .states)
+
+module _ (r : Rig) where
+  none : (s : State) → Numbers s (unserved s)
+  none s = record { woken = sym (made-none 2 (λ z. omega arith) (s .states)); activated = sym (made-none 1 (λ z. omega arith) (s .states)) }
+
+  adds : (a : ℕ) → a ≢ 3 → (k : ℕ) (e : Entry) (s : State) (q : List Entry) (n : ℕ) → let w = serveFlag r e s q in let d = serving r k (w .now) (w .queue) in
+      n ≡ made a (w .now .states) (d .now .states) → made a (s .states) (w .now .states) + n ≡ made a (s .states) (d .now .states)
+  adds a z k e s q n j =
+      let w = serveFlag r e s q in
+      let d = serving r k (w .now) (w .queue) in
+      let g = service-up r (s .states) e s q (up-same (s .states), refl) in
+      let u = serving-up r (w .now .states) k (w .now) (w .queue) (up-same (w .now .states), refl) in
+      let m = made-adds a z (s .states) (w .now .states) (d .now .states) (g .1) (u .1 ∙ g .1) (g .0) (u .0) in
+      omega arith
+
+  serving-made : (k : ℕ) (s : State) (q : List Entry) → Numbers s (serving r k s q)
+  unfolding serving
+  serving-made zero s q = none s
+  serving-made (suc k) s [] = none s
+  serving-made (suc k) s (e ∷ q) =
+      let w = serveFlag r e s q in
+      let ih = serving-made k (w .now) (w .queue) in
+      record {
+        woken = adds 2 (λ z. omega arith) k e s q (serving r k (w .now) (w .queue) .woken) (ih .woken);
+        activated = adds 1 (λ z. omega arith) k e s q (serving r k (w .now) (w .queue) .activated) (ih .activated);
+      }
+
+  -- "added over all services of a call", and no task twice
+  pub serve-made : (w : Work) → Numbers (w .now) (serve r w)
+  unfolding serve
+  serve-made w = serving-made _ (w .now) (w .queue)
+
+-- ---- a flag that was served on the way, and who waited on it
+
+-- task t waited on a flag that the serving of w served, for the value that was served
+pub record WaitedOn (r : Rig) (w : Work) (t : ℕ) : Type 0 where
+  pub before : State
+  pub entry : Entry
+  pub behind : List Entry
+  pub reached : Reached r w (record { now = before; queue = entry ∷ behind })
+  pub waits : In t (before .chains (chainOf (entry .flag) (entry .value)))
+
+module _ (r : Rig) (ok : RigOk r) (w : Work) (c : Ready r w) where
+  -- what a serving comes through is as it began: its flags may be served, and the rest of it leads to the same end
+  record OnTheWay (x : Work) : Type 0 where
+    ready : Ready r x
+    grown : Up (w .now .states) (x .now .states)
+    end : serve r w .now ≡ serve r x .now
+    before : ℕ
+    many : serve r w .woken ≡ before + serve r x .woken
+
+  on-the-way : (x : Work) → Reached r w x → OnTheWay x
+  on-the-way x begin = record { ready = c; grown = up-same (w .now .states); end = refl; before = 0; many = omega arith }
+  on-the-way x (onward s e q p) =
+      let h = on-the-way (record { now = s; queue = e ∷ q }) p in
+      let d = serve-cons r s e q in
+      record {
+        ready = clean-ready r (serveFlag r e s q) (serveFlag-clean r ok e s q (h .ready .good) (h .ready .clear));
+        grown =
+            up-up (w .now .states) (s .states) (serveFlag r e s q .now .states) (h .grown)
+            (service-up r (s .states) e s q (up-same (s .states), refl) .0);
+        end = h .end ∙ ap (λ (y : Done). y .now) d;
+        before = h .before + made 2 (s .states) (serveFlag r e s q .now .states);
+        many = omega (arith, h .many, ap (λ (y : Done). y .woken) d);
+      }
+
+  -- "a call that served a flag on which k tasks waited with that value says at least k"
+  pub says-at-least : (s : State) (e : Entry) (q : List Entry) → Reached r w (record { now = s; queue = e ∷ q })
+      → length (s .chains (chainOf (e .flag) (e .value))) ≤ serve r w .woken
+  says-at-least s e q p =
+      let h = on-the-way (record { now = s; queue = e ∷ q }) p in
+      omega (arith, h .many, ap (λ (y : Done). y .woken) (serve-cons r s e q), service-woken r e s q (h .ready .good .chains))
+
+-- ---- one task in one service
+
+module _ (r : Rig) (e : Entry) (s : State) (q : List Entry) (h : ChainsIn s) (t : ℕ) where
+  abbrev own : Chain
+  own = chainOf (e .flag) (e .value)
+
+  abbrev roused : Work
+  roused = record { now = wake own (takes r e s); queue = q }
+
+  -- an offer is for the inactive alone
+  not-offered : stateOf (roused .now) t ≢ 1 → stateOf (serveFlag r e s q .now) t ≡ stateOf (roused .now) t
+  unfolding serveFlag
+  not-offered n = go (dec-eq (stateOf (offers r (e .flag) 64 roused .now) t) (stateOf (roused .now) t))
+    where
+      go : Dec (stateOf (offers r (e .flag) 64 roused .now) t ≡ stateOf (roused .now) t)
+          → stateOf (offers r (e .flag) 64 roused .now) t ≡ stateOf (roused .now) t
+      go (yes k) = k
+      go (no k) = absurd (n (eqb-true _ 1 (and-true (eqb (stateOf (roused .now) t) 1) _ (offers-changed r (e .flag) roused t k) .0)))
+
+  -- who waits on the flag and value becomes dispatchable
+  pub waited-wakes : In t (s .chains own) → stateOf (serveFlag r e s q .now) t ≡ 3
+  unfolding wake takes
+  waited-wakes i =
+      let n = rouse-in t (s .chains own) (s .states) (in-range (s .states) t 1 (h .listed .two t (own, i))) i in
+      not-offered (λ k. omega (arith, n, k)) ∙ n
+
+  -- who waits elsewhere goes on waiting
+  pub else-waits : stateOf s t ≡ 2 → (In t (s .chains own) → ⊥) → stateOf (serveFlag r e s q .now) t ≡ 2
+  unfolding wake takes
+  else-waits k n =
+      let m = rouse-out t (s .chains own) (s .states) n ∙ k in
+      not-offered (λ j. omega (arith, m, j)) ∙ m
+
+module _ (r : Rig) (ok : RigOk r) (w : Work) (c : Ready r w) (t : ℕ) where
+  serving-wakes : (k : ℕ) (s : State) (q : List Entry) → Ready r (record { now = s; queue = q }) → Reached r w (record { now = s; queue = q })
+      → stateOf s t ≡ 2 → stateOf (serving r k s q .now) t ≡ 3 → WaitedOn r w t
+  unfolding serving
+  serving-wakes zero s q g p i n = absurd (omega arith)
+  serving-wakes (suc k) s [] g p i n = absurd (omega arith)
+  serving-wakes (suc k) s (e ∷ q) g p i n =
+      go (dec-in t (s .chains (chainOf (e .flag) (e .value))))
+      (λ j. serving-wakes k (serveFlag r e s q .now) (serveFlag r e s q .queue)
+      (clean-ready r (serveFlag r e s q) (serveFlag-clean r ok e s q (g .good) (g .clear))) (onward s e q p) (else-waits r e s q (g .good .chains) t i j) n)
+    where
+      go : Dec (In t (s .chains (chainOf (e .flag) (e .value)))) → ((In t (s .chains (chainOf (e .flag) (e .value))) → ⊥) → WaitedOn r w t) → WaitedOn r w t
+      go (yes j) later = record { before = s; entry = e; behind = q; reached = p; waits = j }
+      go (no j) later = later j
+
+  woke : (x : WaitedOn r w t) → (stateOf (w .now) t ≡ 2) × (stateOf (serve r w .now) t ≡ 3)
+  woke x =
+      let s = x .before in
+      let f = serveFlag r (x .entry) s (x .behind) in
+      let h = on-the-way r ok w c (record { now = s; queue = x .entry ∷ x .behind }) (x .reached) in
+      let two = h .ready .good .chains .listed .two t (chainOf (x .entry .flag) (x .entry .value), x .waits) in
+      let three = waited-wakes r (x .entry) s (x .behind) (h .ready .good .chains) t (x .waits) in
+      let end = h .end ∙ ap (λ (y : Done). y .now) (serve-cons r s (x .entry) (x .behind)) in (
+        ⊎-elim (λ k. sym k ∙ two) (λ k. absurd (omega (arith, two, k))) (h .grown t),
+        ap (λ (y : State). stateOf y t) end
+            ∙ ⊎-elim (λ k. k ∙ three) (λ k. k) (serve-up r (f .now .states) f (up-same (f .now .states), refl) .0 t),
+      )
+
+  -- who was waiting and is dispatchable: exactly who waited on a served flag's chain
+  pub woken-exactly : ((stateOf (w .now) t ≡ waiting) × (stateOf (serve r w .now) t ≡ dispatchable)) ↔ WaitedOn r w t
+  unfolding serve
+  woken-exactly = ((λ k. serving-wakes _ (w .now) (w .queue) c begin (k .0) (k .1)), (λ x. woke x))
+
+-- ---- WHAT AN ACCEPTED CALL SAYS of its services, from when its first flag is served to its end
+
+pub record Says (r : Rig) (s : State) (k : Call) (n : Step) : Type 0 where
+  -- woken is the number of tasks that were waiting and became dispatchable: those who waited on the served flags' chains
+  pub woken : n .answer .report .woken ≡ made waiting (effect r s k .now .states) (n .next .states)
+  pub waited : (t : ℕ) → ((stateOf (effect r s k .now) t ≡ waiting) × (stateOf (n .next) t ≡ dispatchable)) ↔ WaitedOn r (effect r s k) t
+  -- a flag on which so many waited with that value was served: at least so many
+  pub least : (x : State) (e : Entry) (q : List Entry) → Reached r (effect r s k) (record { now = x; queue = e ∷ q })
+      → length (x .chains (chainOf (e .flag) (e .value))) ≤ n .answer .report .woken
+  -- activated is the number of tasks that were inactive and became dispatchable, each by a service
+  pub activated : n .answer .report .activated ≡ made inactive (effect r s k .now .states) (n .next .states)
+  pub called : (t : ℕ) → stateOf (effect r s k .now) t ≡ inactive → stateOf (n .next) t ≡ dispatchable → ByService r (effect r s k) t
+  -- no task is counted twice
+  pub few : n .answer .report .woken + n .answer .report .activated ≤ r .tasks
+
+module _ (r : Rig) (ok : RigOk r) (s : State) (h : Sound r s) (k : Call) (p : Proper k) where
+  says-accepted : refusal r s k ≡ 0 → Says r s k (accepted r s k)
+  unfolding accepted dispatch
+  says-accepted e =
+      let w = effect r s k in
+      let c = effect-ready r ok s h k p e in
+      let m = serve-made r w in
+      record {
+        woken = m .woken;
+        waited = woken-exactly r ok w c;
+        least = says-at-least r ok w c;
+        activated = m .activated;
+        called = λ t i n. serve-activates r ok w t c (ap active i) (ap active n);
+        few = omega (arith, m .woken, m .activated, within-few (r .tasks) (w .now .states) (serve r w .now .states) (c .good .tasks .within));
+      }
+
+  pub says : refusal r s k ≡ 0 → Says r s k (step r s k)
+  says e = subst (Says r s k) (sym (accepted-is r s k e)) (says-accepted e)
+
+  -- whether it is accepted or refused
+  pub heard-few : step r s k .answer .report .woken + step r s k .answer .report .activated ≤ r .tasks
+  heard-few = go (refusal r s k) refl
+    where
+      go : (n : ℕ) → refusal r s k ≡ n → step r s k .answer .report .woken + step r s k .answer .report .activated ≤ r .tasks
+      go zero e = says e .few
+      go (suc n) e = let q = refused-is r s k n e in omega (arith, ap (λ (x : Step). x .answer .report .woken) q, ap (λ (x : Step). x .answer .report .activated) q)
+
+-- of a signal the numbers are read off the states before the call and after it
+pub signal-says : (r : Rig) (ok : RigOk r) (s : State) → Sound r s → (f v : ℕ) → Proper (signal f v) → refusal r s (signal f v) ≡ 0
+    → let n = step r s (signal f v) in
+    (n .answer .report .woken ≡ made waiting (s .states) (n .next .states)) × (n .answer .report .activated ≡ made inactive (s .states) (n .next .states))
+unfolding effect
+signal-says r ok s h f v p e = let x = says r ok s h (signal f v) p e in (x .woken, x .activated)
+
+-- ---- the start: nobody waits, and nobody but task 1 is invoked
+
+-- with nobody in state a nobody is made dispatchable from it
+nobody : (a : ℕ) → total (isState a) (set (set (replicate 65 0) 1 1) 1 3) ≡ 0 → (m : List ℕ) → made a (set (set (replicate 65 0) 1 1) 1 3) m ≡ 0
+nobody a e m = omega (arith, made-le a (set (set (replicate 65 0) 1 1) 1 3) m)
+
+pub start-heard : (r : Rig) → (started r .woken ≡ 0) × (started r .activated ≡ 0)
+unfolding started scheduled activate blank total
+start-heard r = go (met (r .present) (r .desired) 1 conds)
+  where
+    conds : List ℕ
+    conds = relax (r .present) (r .latched) (r .desired) 1 (replicate 1040 0)
+
+    w : Work
+    w =
+        quiet
+        (record { count = 0; flags = replicate 129 0; conds = conds; states = set (replicate 65 0) 1 1; wakes = replicate 65 0; chains = λ (c : Chain). []; running = 0 })
+
+    go : (b : Bool) → (serve r (cond b (activate r 1 w) w) .woken ≡ 0) × (serve r (cond b (activate r 1 w) w) .activated ≡ 0)
+    go true =
+        let m = serve-made r (activate r 1 w) in
+        (m .woken ∙ nobody 2 refl (serve r (activate r 1 w) .now .states), m .activated ∙ nobody 1 refl (serve r (activate r 1 w) .now .states))
+    go false = let e = serve-nil r (w .now) in (ap (λ (d : Done). d .woken) e, ap (λ (d : Done). d .activated) e)
