@@ -8,8 +8,9 @@ use Rattle.exec_queue.specs.View.{entriesOf}
 use Rattle.exec_queue.specs.declared.Queue.{Queue}
 use Rattle.rig.specs.declared.Cycle.{Cycle}
 use Rattle.rig.specs.declared.Rig.{Rig}
-use Rattle.rules.specs.State.{Entry}
-use Rattle.rules.specs.Serving.{serveFlag, serve}
+use Rattle.rules.specs.State.{Entry, waiting, inactive}
+use Rattle.rules.specs.Serving.{serveFlag, made, serve}
+use Rattle.rules_laws.specs.Heard.{ChainsIn}
 use Rattle.rules_laws.specs.Serve.{load}
 use Rattle.exec_state.specs.View.{rigOf, viewOf, workOf}
 use Rattle.exec_state.specs.Post.{FlagOk}
@@ -34,14 +35,18 @@ pub record Begins (n : ℕ) (lineTask linePos activation : List ℕ) (s : State)
   pub fits : Fits n lineTask linePos activation
   pub room : load (workOf s q) ≤ 79
   pub sound : HoldsChains (s .links)
+  pub chains : ChainsIn (viewOf s)
   pub entries : Servable (entriesOf q)
 
 -- ---- what is given
 
-pub record Served (s : State) (q : Queue) (g : Rig) (f v : ℕ) (r : Work) : Type 0 where
+-- one flag is served: so many waiting tasks became dispatchable, and so many inactive ones
+pub record Served (s : State) (q : Queue) (g : Rig) (f v : ℕ) (r : Work) (woken activated : ℕ) : Type 0 where
   pub is :
       (cycles : List Cycle) → workOf (r .st) (r .queue) ≡ serveFlag (rigOf g cycles) (record { flag = f; value = v }) (viewOf s) (entriesOf q)
   pub sound : HoldsChains (r .st .links)
+  pub woken-is : woken ≡ made waiting (s .state) (r .st .state)
+  pub activated-is : activated ≡ made inactive (s .state) (r .st .state)
 
 -- the queue is served to its end
 pub record Emptied (g : Rig) (s : State) (q : Queue) (r : Done) : Type 0 where

@@ -53,6 +53,8 @@ pub fn serve<'a>(
     let mut state = st.state;
     let mut q = queue;
     let mut k: u32 = 0;
+    let mut woken: u32 = 0;
+    let mut activated: u32 = 0;
     while q.n != 0 {
         let j = q.n - 1;
         let f = q.flag[j];
@@ -62,10 +64,12 @@ pub fn serve<'a>(
         exec_conditions::drive(lineTask, linePos, lineFlag, n, f, v, &mut st.cond);
         let c = FLAG_CHAINS + 2 * (f as usize) + (v as usize);
         if waited(&st.links.next, c) {
-            let links = exec_waking::wake(st.links, &mut state, c);
+            let roused = exec_waking::wake(st.links, &mut state, c);
+            let links = roused.links;
             st.links = links;
+            woken = woken + roused.woken;
         }
-        q = exec_offers::offers(
+        let heeded = exec_offers::offers(
             present,
             latched,
             desired,
@@ -78,8 +82,16 @@ pub fn serve<'a>(
             &mut state,
             q,
         );
+        let rest = heeded.queue;
+        q = rest;
+        activated = activated + heeded.activated;
         k = k + 1;
     }
     st.state = state;
-    Done { st: st, served: k, woken: 0, activated: 0 }
+    Done {
+        st: st,
+        served: k,
+        woken,
+        activated,
+    }
 }

@@ -2,6 +2,7 @@
 use mathlib.Core.Path.{_≡_}
 use mathlib.Core.List.{List}
 use Prim.Native.Nat.{ℕ, _<_, _≤_}
+use lib.ListN.{length}
 use Rattle.laws.specs.Members.{In}
 use Rattle.laws.specs.Order.{Sorted}
 use Rattle.chains.specs.Held.{at, HoldsChains}
@@ -18,6 +19,7 @@ use Rattle.exec_state.specs.View.{rigOf, viewOf, workOf}
 use Rattle.exec_state.specs.Set.{putState, putLinks}
 use Rattle.exec_state.specs.declared.State.{State}
 use Rattle.exec_state.specs.declared.Work.{Work}
+use Rattle.exec_waking.specs.declared.Roused.{Roused}
 
 -- ---- what is asked
 
@@ -41,6 +43,12 @@ pub record Woken (s : State) (c : Chain) (r : State) : Type 0 where
 -- the same of the links and the states alone, with whatever stands beside them, for the chain of anchor a
 abbrev pub Awoken : Links → List ℕ → ℕ → Links → List ℕ → Type 0
 Awoken l states a r after = (s : State) (c : Chain) → anchorOf c ≡ a → Woken (putLinks (putState s states) l) c (putLinks (putState s after) r)
+
+-- .. and how many they were
+pub record Rouses (l : Links) (states : List ℕ) (a : ℕ) (r : Roused) (after : List ℕ) : Type 0 where
+  pub awoken : Awoken l states a (r .links) after
+  pub many : r .woken ≡ length (chainsOf l a)
+  pub few : r .woken ≤ 64
 
 pub record WokenDue (s : State) (r : State) : Type 0 where
   pub is : viewOf r ≡ wakeDue (viewOf s)

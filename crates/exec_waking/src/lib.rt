@@ -9,25 +9,33 @@ use rig::Cycle;
 use rig_tables::TASK_PLACES;
 ghost use Prim.Native.Nat.{_<_};
 ghost use Rattle.chains.specs.Held.{HoldsChains};
-ghost use Rattle.exec_waking.specs.Post.{Timed, TickOk, Awoken, WokenDue, Ticked};
+ghost use Rattle.exec_waking.specs.Post.{Timed, TickOk, Rouses, WokenDue, Ticked};
 
 // "64 minor cycles a major frame"
 const CYCLES: u32 = 64;
 
+// The links that a waking leaves, and how many it woke.
+pub struct Roused {
+    pub links: Links,
+    pub woken: u32,
+}
+
 // All who wait in the chain of anchor s become dispatchable.
-pub fn wake(links: Links, state: &mut [u8; TASK_PLACES], s: usize) -> Links
+pub fn wake(links: Links, state: &mut [u8; TASK_PLACES], s: usize) -> Roused
     requires { ⌜ HoldsChains links ⌝ }
     requires { ⌜ (64 < s) × (s < 322) ⌝ }
-    ensures { λ r. ⌜ Awoken links (now (state .entry)) s r (now (state .exit)) ⌝ }
+    ensures { λ r. ⌜ Rouses links (now (state .entry)) s r (now (state .exit)) ⌝ }
 {
     let mut k = links;
+    let mut woken: u32 = 0;
     let mut v = k.next[s] as usize;
     while v != s {
         k = chains::unlink(k, v);
         state[v] = DISPATCHABLE;
+        woken = woken + 1;
         v = k.next[s] as usize;
     }
-    k
+    Roused { links: k, woken }
 }
 
 // The tasks due at the count become dispatchable: they leave the time chain from its front.

@@ -28,6 +28,7 @@ use Rattle.rules.specs.Soundness.{Chains, Sound}
 use Rattle.rules_laws.specs.Refusals.{accepted-is, refused-is}
 use Rattle.rules_laws.specs.Lengths.{rouse-length}
 use Rattle.rules_laws.specs.Rousing.{rouse-one, rouse-in, rouse-out}
+use Rattle.rules_laws.specs.WaitingLaws.{chains-wake, chains-set}
 use Rattle.rules_laws.specs.Offering.{offers-changed}
 use Rattle.rules_laws.specs.Made.{Up, up-same, up-up, up-set, made-next, made-other, made-from, made-none, isState, made-le, made-adds, within-few}
 use Rattle.rules_laws.specs.WhileServing.{Reached, begin, onward}
@@ -90,6 +91,13 @@ module _ (r : Rig) (l : List ℕ) where
 -- the chains of a state, as soundness has them
 abbrev pub ChainsIn : State → Type 0
 ChainsIn s = Chains (s .count) (s .wakes) (s .chains) (s .states)
+
+-- a service keeps them so
+pub service-chains : (r : Rig) (e : Entry) (s : State) (q : List Entry) → ChainsIn s → ChainsIn (serveFlag r e s q .now)
+unfolding takes wake activate
+service-chains r e s q =
+    serveFlag-keeps r ChainsIn (λ e s h. h) (λ f v s h. chains-wake (s .count) (s .wakes) (s .chains) (s .states) (chainOf f v) h)
+    (λ t w k h. chains-set (w .now .count) (w .now .wakes) (w .now .chains) (w .now .states) t 3 (λ z. omega (arith, k, z)) (λ z. omega arith) h) e s q
 
 module _ (r : Rig) (e : Entry) (s : State) (q : List Entry) (h : ChainsIn s) where
   -- "how many waiting tasks it made dispatchable": those who waited on that flag and value

@@ -13,10 +13,10 @@ use Rattle.exec_offers.proofs.offers.Statement.{statement}
 use Rattle.exec_offers.proofs.offers.Tie as tie
 
 abbrev Inv-loop : tie.InvT-loop
-Inv-loop present latched desired lineTask lineFlag activation n f cond₀ state₀ q₀ i₀ cond state q i = ((g : Rig) (s : State) → Turned (withTables present latched desired lineTask lineFlag activation n g) f (putCond (putState s state₀) cond₀) q₀ (putCond (putState s state) cond) q i) × (i ≤ 64)
+Inv-loop present latched desired lineTask lineFlag activation n f cond₀ state₀ q₀ activated₀ i₀ cond state q activated i = ((g : Rig) (s : State) → Turned (withTables present latched desired lineTask lineFlag activation n g) f (putCond (putState s state₀) cond₀) q₀ (putCond (putState s state) cond) q activated i) × (i ≤ 64)
 
 abbrev μ-loop : tie.MeasureT-loop
-μ-loop present latched desired lineTask lineFlag activation n f cond₀ state₀ q₀ i₀ cond state q i = 64 - i
+μ-loop present latched desired lineTask lineFlag activation n f cond₀ state₀ q₀ activated₀ i₀ cond state q activated i = 64 - i
 
 -- the rig about the tables that are lent, and the state about the two that change
 abbrev rig : tie.Start Inv-loop μ-loop → Rig → Rig
@@ -55,7 +55,12 @@ push-requires : tie.Need-push-requires Inv-loop μ-loop
 push-requires c κs =
     let d = c .before .before .before .before .before .before .before .before in
     let b = c .before .before .before .before .before .before .before .before .before in
-    omega (arith, turned-room (rig b noRig) (b .args .f) (before b someState) (b .args .queue) (within d someState) (d .loop .q) (d .loop .i) (d .loop .inv .0 noRig someState) (b .pre .1))
+    omega (arith, turned-room (rig b noRig) (b .args .f) (before b someState) (b .args .queue) (within d someState) (d .loop .q) (d .loop .activated) (d .loop .i) (d .loop .inv .0 noRig someState) (b .pre .1))
+
+add-activated : tie.Need-add-activated Inv-loop μ-loop
+add-activated c =
+    let d = c .before .before .before .before .before .before .before .before .before in
+    omega (arith, d .loop .inv .0 noRig someState .few, d .loop .inv .1)
 
 add-i : tie.Need-add-i Inv-loop μ-loop
 add-i c = search needs
@@ -69,14 +74,14 @@ loop-again c =
     let b = c .before .before .before .before .before .before in (
       ⊎-elim
           (λ w.
-          rw (w .5, w .6, w .7)
+          rw (w .5, w .6, w .7, w .8)
           (λ g s.
-          turned-yes (rig b g) (b .args .f) (before b s) (b .args .queue) (within d s) (d .loop .q) (d .loop .i) (d .loop .inv .0 g s) (sym (c .before .ready .ensures) ∙ w .0 .taken)
+          turned-yes (rig b g) (b .args .f) (before b s) (b .args .queue) (within d s) (d .loop .q) (d .loop .activated) (d .loop .i) (d .loop .inv .0 g s) (sym (c .before .ready .ensures) ∙ w .0 .taken)
           (w .2 .last .1 .1 .1 .1 .0) (w .2 .ensures) (w .4 .result) (w .4 .ensures)))
           (λ w.
-          rw (w .1, w .2, w .3)
+          rw (w .1, w .2, w .3, w .4)
           (λ g s.
-          turned-no (rig b g) (b .args .f) (before b s) (b .args .queue) (within d s) (d .loop .q) (d .loop .i) (d .loop .inv .0 g s) (sym (c .before .ready .ensures) ∙ w .0 .left)))
+          turned-no (rig b g) (b .args .f) (before b s) (b .args .queue) (within d s) (d .loop .q) (d .loop .activated) (d .loop .i) (d .loop .inv .0 g s) (sym (c .before .ready .ensures) ∙ w .0 .left)))
           (c .if1 .came),
       omega (arith, c .before .before .before .before .loop-test .taken),
     )
@@ -85,7 +90,12 @@ returns : tie.Need-returns Inv-loop μ-loop
 returns c =
     let d = c .before in
     let b = c .before .before in
-    λ g s. turned-done (rig b g) (b .args .f) (before b s) (b .args .queue) (within d s) (d .loop .q) (d .loop .i) (d .loop .inv .0 g s) (omega arith)
+    let h = d .loop .inv .0 noRig someState in
+    record {
+      offering = λ g s. turned-done (rig b g) (b .args .f) (before b s) (b .args .queue) (within d s) (d .loop .q) (d .loop .activated) (d .loop .i) (d .loop .inv .0 g s) (omega arith);
+      many = h .many;
+      few = omega (arith, h .few);
+    }
 
 pub offers-spec : {M : Type 1} → statement M
 offers-spec =
@@ -101,6 +111,7 @@ offers-spec =
     relax-requires
     element-copy-out-g
     push-requires
+    add-activated
     add-i
     loop-less
     loop-again

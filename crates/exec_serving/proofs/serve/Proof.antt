@@ -1,25 +1,24 @@
-use mathlib.Core.Path.{_≡_, sym, _∙_}
+use mathlib.Core.Path.{_≡_, refl, sym, _∙_}
 use mathlib.Core.Logic.{⊎-elim}
 use mathlib.Core.List.{List}
 use Prim.Native.Nat.{ℕ, suc, _+_, _*_, _-_, _<_, _≤_}
 use native.Mathlib.Omega.{arith}
 use borrow.Author.Tests.{eqb-true, not-false}
-use lib.ListN.{getD, set}
+use lib.ListN.{length, getD, set}
 use Rattle.rig.specs.Forms.{noRig}
 use Rattle.rig.specs.declared.Rig.{Rig}
 use Rattle.rules.specs.State.{Chain, chainOf}
 use Rattle.rules_laws.specs.Serve.{load}
 use Rattle.exec_family.specs.Laws.Anchors.{anchor-flag}
-use Rattle.exec_state.specs.View.{workOf}
+use Rattle.exec_state.specs.View.{viewOf, workOf}
 use Rattle.exec_state.specs.Set.{putValue, putCond, putState}
 use Rattle.exec_offers.specs.Set.{withTables}
 use Rattle.exec_serving.specs.Set.{withPlaces}
 use Rattle.exec_state.specs.Post.{FlagOk}
-use Rattle.exec_waking.specs.Post.{Woken}
 use Rattle.exec_serving.specs.Post.{Served}
 use Rattle.exec_offers.specs.Post.{workIn}
 use Rattle.exec_waking.specs.Laws.Waking.{waking-none}
-use Rattle.exec_serving.specs.Laws.Serving.{Turned, turned-start, short, last-ok, rest-room, turned-falls, turned-step, turned-done, served-room, served-is}
+use Rattle.exec_serving.specs.Laws.Serving.{Roused, roused-is, Turned, turned-start, short, last-ok, rest-room, turned-falls, turned-step, turned-done, served-room, served-is}
 use Rattle.exec_state.specs.declared.State.{State}
 use Rattle.exec_state.specs.declared.Work.{Work}
 use Rattle.exec_queue.specs.declared.Queue.{Queue}
@@ -27,10 +26,10 @@ use Rattle.exec_serving.proofs.serve.Statement.{statement}
 use Rattle.exec_serving.proofs.serve.Tie as tie
 
 abbrev Inv-loop : tie.InvT-loop
-Inv-loop n present latched desired lineTask linePos lineFlag activation st₀ state₀ q₀ k₀ st state q k = (g : Rig) → Turned (withTables present latched desired lineTask lineFlag activation n (withPlaces linePos g)) st₀ q₀ (putState st state) q k
+Inv-loop n present latched desired lineTask linePos lineFlag activation st₀ state₀ q₀ k₀ woken₀ activated₀ st state q k woken activated = (g : Rig) → Turned (withTables present latched desired lineTask lineFlag activation n (withPlaces linePos g)) st₀ q₀ (putState st state) q k woken activated
 
 abbrev μ-loop : tie.MeasureT-loop
-μ-loop n present latched desired lineTask linePos lineFlag activation st₀ state₀ q₀ k₀ st state q k = load (workOf (putState st state) q)
+μ-loop n present latched desired lineTask linePos lineFlag activation st₀ state₀ q₀ k₀ woken₀ activated₀ st state q k woken activated = load (workOf (putState st state) q)
 
 -- a rig about the tables that are lent
 abbrev rig : tie.Start Inv-loop μ-loop → Rig → Rig
@@ -43,7 +42,7 @@ whole d = putState (d .loop .st) (d .loop .state)
 few : (d : tie.At-loop Inv-loop μ-loop) → d .loop .q .n ≤ 79
 few d =
     let b = d .before .before in
-    short (rig b noRig) (b .args .t1) (b .args .queue) (whole d) (d .loop .q) (d .loop .k) (d .loop .inv noRig)
+    short (rig b noRig) (b .args .t1) (b .args .queue) (whole d) (d .loop .q) (d .loop .k) (d .loop .woken) (d .loop .activated) (d .loop .inv noRig)
 
 -- the place of the entry that is taken off
 low : (n : ℕ) → (n ≡ 0 → ⊥) → n ≡ suc (n - 1)
@@ -68,7 +67,7 @@ ok : (c : tie.In-loop Inv-loop μ-loop) → FlagOk (flag c) (value c)
 ok c =
     let d = c .before in
     let b = start c in
-    last-ok (rig b noRig) (b .args .t1) (b .args .queue) (whole d) (d .loop .q) (d .loop .k) (d .loop .inv noRig) (d .loop .q .n - 1) (low (d .loop .q .n) (c .loop-test .taken))
+    last-ok (rig b noRig) (b .args .t1) (b .args .queue) (whole d) (d .loop .q) (d .loop .k) (d .loop .woken) (d .loop .activated) (d .loop .inv noRig) (d .loop .q .n - 1) (low (d .loop .q .n) (c .loop-test .taken))
 
 abbrev popped : tie.In-loop Inv-loop μ-loop → Queue
 popped c = record { n = c .before .loop .q .n - 1; flag = c .before .loop .q .flag; value = c .before .loop .q .value }
@@ -86,11 +85,11 @@ taken j =
 abbrev woken : tie.Joined1 Inv-loop μ-loop → State
 woken j = putState (j .if1 .st) (j .if1 .state)
 
-woken-so : (s : State) (c : Chain) (x y : State) (a b : List ℕ) → x ≡ y → a ≡ b → Woken s c (putState y b) → Woken s c (putState x a)
-woken-so s c x y a b e f h = rw (e, f) h
+roused-so : (s : State) (c : Chain) (x y : State) (a b : List ℕ) (m n p : ℕ) → x ≡ y → a ≡ b → n ≡ p → Roused s c (putState y b) m p → Roused s c (putState x a) m n
+roused-so s c x y a b m n p e f g h = rw (e, f, g) h
 
 -- who waited is woken, or nobody waited
-awoken : (j : tie.Joined1 Inv-loop μ-loop) → let e = turn j in Woken (taken j) (chainOf (flag e) (value e)) (woken j)
+awoken : (j : tie.Joined1 Inv-loop μ-loop) → let e = turn j in Roused (taken j) (chainOf (flag e) (value e)) (woken j) (e .before .loop .woken) (j .if1 .woken)
 awoken j =
     let e = turn j in
     let d = e .before in
@@ -99,28 +98,40 @@ awoken j =
     let a = anchor-flag (flag e) (value e) (o .some, o .flag, o .value) in
     let p : 64 + 2 * flag e + value e < 322 = omega (arith, o .flag, o .value) in
     ⊎-elim
-    (λ w. woken-so (taken j) c _ _ _ _ (w .4) (w .5) (w .3 .ensures (taken j) c a))
-    (λ w. woken-so (taken j) c _ _ _ _ (w .1) (w .2)
+    (λ w. roused-so (taken j) c _ _ _ _ _ _ _ (w .6) (w .7) (w .8)
+    (roused-is _ _ _ _ _ _ (w .3 .ensures) (taken j) c a (d .loop .woken) _ refl))
+    (λ w. roused-so (taken j) c _ _ _ _ _ _ _ (w .1) (w .2) (w .3)
+    (roused-is _ _ _ _ _ _
     (waking-none (64 + 2 * flag e + value e) (omega (arith, o .some)) p (d .loop .st .links) (d .loop .state) (d .loop .inv noRig .sound)
-    (eqb-true _ _ (not-false _ (sym (j .before .waited .ensures) ∙ w .0 .left))) (taken j) c a))
+    (eqb-true _ _ (not-false _ (sym (j .before .waited .ensures) ∙ w .0 .left)))) (taken j) c a (d .loop .woken) _ (none (d .loop .woken))))
     (j .if1 .came)
+  where
+    none : (n : ℕ) → n ≡ n + 0
+    none n = omega arith
 
 abbrev served : tie.After-offers Inv-loop μ-loop → Work
 served c =
     let j = joined c in
-    workIn (woken j) (c .offers .last .1 .1 .1 .1 .1 .1 .1 .1 .0) (c .offers .last .1 .1 .1 .1 .1 .1 .1 .1 .1 .0) (c .offers .result)
+    workIn (woken j) (c .offers .last .1 .1 .1 .1 .1 .1 .1 .1 .0) (c .offers .last .1 .1 .1 .1 .1 .1 .1 .1 .1 .0) (c .offers .result .queue)
 
-served-so : (c : tie.After-offers Inv-loop μ-loop) (g : Rig) → let e = turn (joined c) in Served (whole (e .before)) (popped e) (rig (start e) g) (flag e) (value e) (served c)
+-- how many waited
+abbrev waiting : tie.After-offers Inv-loop μ-loop → ℕ
+waiting c = let e = turn (joined c) in length (viewOf (taken (joined c)) .chains (chainOf (flag e) (value e)))
+
+served-so : (c : tie.After-offers Inv-loop μ-loop) (g : Rig)
+    → let e = turn (joined c) in Served (whole (e .before)) (popped e) (rig (start e) g) (flag e) (value e) (served c) (waiting c) (c .offers .result .activated)
 served-so c g =
     let j = joined c in
     let e = turn j in
     let b = start e in
-    served-is (whole (e .before)) (popped e) (rig b g) (flag e) (value e) (driven j) (j .before .before .before .before .drive .ensures) (woken j) (awoken j) (served c) (c .offers .ensures (withPlaces (b .args .linePos .now) g) (woken j))
+    let d = e .before in
+    served-is (whole d) (popped e) (rig b g) (flag e) (value e) (driven j) (j .before .before .before .before .drive .ensures) (woken j) (awoken j .woken) (served c)
+    (c .offers .ensures .offering (withPlaces (b .args .linePos .now) g) (woken j)) (d .loop .inv noRig .chains) (waiting c) (c .offers .result .activated) refl (c .offers .ensures .many)
 
 loop-holds : tie.Need-loop-holds Inv-loop μ-loop
 loop-holds c =
     let b = c .before in
-    λ g. turned-start (rig b g) (b .args .t1) (b .args .queue) (b .pre .sound) (b .pre .room) (b .pre .entries)
+    λ g. turned-start (rig b g) (b .args .t1) (b .args .queue) (b .pre .sound) (b .pre .chains) (b .pre .room) (b .pre .entries)
 
 sub-j : tie.Need-sub-j Inv-loop μ-loop
 sub-j c = omega (arith, c .loop-test .taken)
@@ -170,32 +181,47 @@ offers-requires c κs =
     let e = turn j in
     let d = e .before in
     let b = start e in
-    let p = rest-room (rig b noRig) (b .args .t1) (b .args .queue) (whole d) (d .loop .q) (d .loop .k) (d .loop .inv noRig) (d .loop .q .n - 1) (low (d .loop .q .n) (e .loop-test .taken)) in
-    (b .pre .fits .lines .few, served-room (whole d) (popped e) (rig b noRig) (flag e) (value e) (driven j) (j .before .before .before .before .drive .ensures) (woken j) (awoken j) p)
+    let p = rest-room (rig b noRig) (b .args .t1) (b .args .queue) (whole d) (d .loop .q) (d .loop .k) (d .loop .woken) (d .loop .activated) (d .loop .inv noRig) (d .loop .q .n - 1) (low (d .loop .q .n) (e .loop-test .taken)) in
+    (b .pre .fits .lines .few, served-room (whole d) (popped e) (rig b noRig) (flag e) (value e) (driven j) (j .before .before .before .before .drive .ensures) (woken j) (awoken j .woken) p)
+
+add-woken : tie.Need-add-woken Inv-loop μ-loop
+add-woken c =
+    let e = c .before .before .before .before .before .before .before .before .before .before .before .before .before in
+    let h = e .before .loop .inv noRig in
+    omega (arith, h .few .0, h .room, c .before .before .wake .ensures .few)
+
+add-activated : tie.Need-add-activated Inv-loop μ-loop
+add-activated c =
+    let h = turn (joined (c .before .before)) .before .loop .inv noRig in
+    omega (arith, h .few .1, h .room, c .before .before .offers .ensures .few)
 
 add-k : tie.Need-add-k Inv-loop μ-loop
-add-k c = omega (arith, c .before .before .before .before .before .before .before .before .before .before .before .before .loop .inv noRig .room)
+add-k c = omega (arith, turn (joined (c .before .before)) .before .loop .inv noRig .room)
 
 loop-less : tie.Need-loop-less Inv-loop μ-loop
 loop-less c =
-    let e = turn (joined c) in
+    let o = c .before .before in
+    let e = turn (joined o) in
     let d = e .before in
     let b = start e in
-    turned-falls (rig b noRig) (b .args .t1) (b .args .queue) (whole d) (d .loop .q) (d .loop .k) (d .loop .inv noRig) (d .loop .q .n - 1) (low (d .loop .q .n) (e .loop-test .taken)) (b .pre .fits .flags) (served c) (served-so c noRig)
+    turned-falls (rig b noRig) (b .args .t1) (b .args .queue) (whole d) (d .loop .q) (d .loop .k) (d .loop .woken) (d .loop .activated) (d .loop .inv noRig) (d .loop .q .n - 1) (low (d .loop .q .n) (e .loop-test .taken)) (b .pre .fits .flags) (served o) (waiting o) (o .offers .result .activated) (served-so o noRig)
 
 loop-again : tie.Need-loop-again Inv-loop μ-loop
 loop-again c =
-    let e = turn (joined c) in
+    let o = c .before .before in
+    let j = joined o in
+    let e = turn j in
     let d = e .before in
     let b = start e in
     λ g.
-    turned-step (rig b g) (b .args .t1) (b .args .queue) (whole d) (d .loop .q) (d .loop .k) (d .loop .inv g) (d .loop .q .n - 1) (low (d .loop .q .n) (e .loop-test .taken)) (b .pre .fits .flags) (served c) (served-so c g)
+    turned-step (rig b g) (b .args .t1) (b .args .queue) (whole d) (d .loop .q) (d .loop .k) (d .loop .woken) (d .loop .activated) (d .loop .inv g) (d .loop .q .n - 1) (low (d .loop .q .n) (e .loop-test .taken)) (b .pre .fits .flags) (served o) (waiting o) (o .offers .result .activated) (served-so o g)
+    (awoken j .few) (o .offers .ensures .few) (j .if1 .woken) (awoken j .sum)
 
 returns : tie.Need-returns Inv-loop μ-loop
 returns c =
     let d = c .before in
     let b = c .before .before .before in
-    λ g. turned-done (rig b g) (b .args .t1) (b .args .queue) (whole d) (d .loop .q) (d .loop .k) (d .loop .inv g) (omega (arith, c .loop-test .left))
+    λ g. turned-done (rig b g) (b .args .t1) (b .args .queue) (whole d) (d .loop .q) (d .loop .k) (d .loop .woken) (d .loop .activated) (d .loop .inv g) (omega (arith, c .loop-test .left))
 
 pub serve-spec : {M : Type 1} → statement M
 serve-spec =
@@ -217,7 +243,9 @@ serve-spec =
     add-c-2
     waited-requires
     wake-requires
+    add-woken
     offers-requires
+    add-activated
     add-k
     loop-less
     loop-again
