@@ -11,6 +11,8 @@ pub struct Outcome {
     pub st: State,
     pub refusal: u8,
     pub served: u32,
+    pub woken: u32,
+    pub activated: u32,
     pub words: u32,
     pub value: u32,
 }
@@ -23,6 +25,8 @@ pub fn refused(st: State, refusal: u8) -> Outcome
         st,
         refusal,
         served: 0,
+        woken: 0,
+        activated: 0,
         words: 0,
         value: 0,
     }
@@ -36,6 +40,8 @@ pub fn kept(st: State, value: u32) -> Outcome
         st,
         refusal: 0,
         served: 0,
+        woken: 0,
+        activated: 0,
         words: 0,
         value,
     }
@@ -61,11 +67,15 @@ pub fn settle(rig: Rig, w: Work) -> Outcome
         &rig.activation,
     );
     let served = d.served;
+    let woken = d.woken;
+    let activated = d.activated;
     let st = d.st.dispatched(&rig.privileged, &rig.priority);
     Outcome {
         st,
         refusal: 0,
         served,
+        woken,
+        activated,
         words: 0,
         value: 0,
     }
