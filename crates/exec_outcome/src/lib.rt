@@ -6,7 +6,8 @@ ghost use mathlib.Core.Path.{_≡_};
 ghost use Rattle.exec_outcome.specs.Outcome.{refusedBy, keptWith};
 ghost use Rattle.exec_outcome.specs.Laws.Settling.{Settles, Settled};
 
-// The refusal's number is 0 for an accepted call. What a refused call tells is 0, and its state is as it was.
+// The refusal's number is 0 for an accepted call. Told are the flags served, how many waiting tasks that made dispatchable and how
+// many it activated, the bus words and a value. What a refused call tells is 0, and its state is as it was.
 pub struct Outcome {
     pub st: State,
     pub refusal: u8,
