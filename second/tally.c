@@ -192,8 +192,8 @@ void tally_run(tally *t, const text *input, line_set taken, text *output)
         text_add(output, out, print_refused_rig(out, &v));
         return;
     }
-    (void)exec_start(&r.e, &made);
-    text_add(output, out, print_started(out, &r.e));
+    answer started = exec_start(&r.e, &made);
+    text_add(output, out, print_started(out, &started, &r.e));
     if (parts.has_script)
         run_script(&r, bytes + parts.rig_length + RUN_LINE_LENGTH, bytes + input->length, taken);
 }
