@@ -136,7 +136,7 @@ static size_t end_line(char *out, char *at)
     return (size_t)(at - out);
 }
 
-/* For mutants alone: the numbers of a call that answered otherwise, as they print them for this one. */
+/* For mutants alone: the numbers that they print for this answer, some of them those of an earlier one. */
 static answer numbers_told(char verb, const answer *a)
 {
     static answer before;
@@ -150,7 +150,7 @@ static answer numbers_told(char verb, const answer *a)
     return before;
 }
 
-/* Whom the services of the call woke and activated: how many of each. */
+/* How many tasks the services of the call woke, and how many they activated.  `verb`, the line's first letter, is for mutants. */
 static char *print_heard(char *at, char verb, const answer *a)
 {
     answer told = WITH_MUTANTS ? numbers_told(verb, a) : *a;
@@ -194,7 +194,7 @@ size_t print_started(char *out, const answer *a, const exec *e)
     at = print_field(at, a->refusal);
     at = print_field(at, e->count);
     at = print_field(at, e->running);
-    return end_line(out, print_heard(at, 'T', a));
+    return end_line(out, print_heard(at, *out, a));
 }
 
 size_t print_refused_rig(char *out, const rig_verdict *v)

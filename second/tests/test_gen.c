@@ -151,6 +151,20 @@ static void rounds_of_entries(void)
     CHECK_IS(tally_heard_missing_entries(&t.heard, 1, stdout), 0);
 }
 
+/* Where nothing was hit, everything is missed: a comparison that never meets the numbers does not pass. */
+static void unheard_counters_are_missed(void)
+{
+    static const heard_tally none;
+    FILE *said = tmpfile();
+    CHECK(said != NULL);
+    if (said == NULL)
+        return;
+    CHECK_IS(tally_heard_missing(&none, 1, said), 13);
+    CHECK_IS(tally_heard_missing_asked(&none, 1, said), 1);
+    CHECK_IS(tally_heard_missing_entries(&none, 1, said), 2);
+    fclose(said);
+}
+
 static bool is_number(const char *word)
 {
     uint64_t number;
@@ -173,6 +187,7 @@ static void numbers_are_strict(void)
 void gen_tests(void)
 {
     RUN(numbers_are_strict);
+    RUN(unheard_counters_are_missed);
     RUN(rounds_of_streams);
     RUN(rounds_for_the_panel);
     RUN(rounds_of_entries);
