@@ -6,6 +6,7 @@
 void print_reply(const char *verb, const algolmallet_reply *reply)
 {
     printf("%s\t%" PRIu32 "\t%" PRIu32 "\t%" PRIu32, verb, reply->refusal, reply->count, reply->running);
+    printf("\t%" PRIu32 "\t%" PRIu32, reply->woken, reply->activated);
 }
 
 /* Whether the verb is one of the calls and has the numbers that it takes. */

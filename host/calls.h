@@ -7,7 +7,7 @@
 #include "algolmallet.h"
 #include "script.h"
 
-/* Prints verb, answer, count and running task, with no LF yet. */
+/* Prints verb, answer, count, running task, woken and activated, with no LF yet. */
 void print_reply(const char *verb, const algolmallet_reply *reply);
 
 /* Runs a line with one of the verbs S X Z F K U R L N G Q and prints its answer; false, with nothing done, if it is none. */

@@ -55,7 +55,7 @@ static void ask_harmed(const algolmallet_record *record, enum harm harm)
     algolmallet_reply again = algolmallet_next_waking(copy);
     free(copy);
     printf("H\t%" PRIu32 "\t%" PRIu32 "\t%" PRIu32 "\t%" PRIu32, reply.refusal, reply.served, reply.words, reply.value);
-    printf("\t%" PRIu32 "\t%" PRIu32 "\n", again.refusal, again.value);
+    printf("\t%" PRIu32 "\t%" PRIu32 "\t%" PRIu32 "\t%" PRIu32 "\n", reply.woken, reply.activated, again.refusal, again.value);
 }
 
 bool run_harmed_call(const algolmallet_record *record, const struct script_line *line)

@@ -4,8 +4,8 @@
  *   H harm    0 the copy as it is, 1 after a refused start, 2 all its bytes 0, 3 all 255, 4 the first half of them 255,
  *             5 the second half
  *
- * Prints verb, answer, flags served, words and value as the reply has them (a value of 0 for none), and then answer and value
- * once more, asked of the copy when the harmed bytes have been put back: the question has left the others as they were. Count and
+ * Prints verb, answer, flags served, words, value, woken and activated as the reply has them (a value of 0 for none), and then answer
+ * and value once more, asked of the copy when the harmed bytes have been put back: the question has left the others as they were. Count and
  * running task are not printed: a harmed record may have any.
  */
 #ifndef HOST_HARMED_H

@@ -40,8 +40,8 @@ extern "C" {
 #endif
 
 /* The version of this header: first, second and third number, and all three as one, which rises. */
-#define ALGOLMALLET_VERSION "0.3.0"
-#define ALGOLMALLET_VERSION_NUMBER 3000 /* 1,000,000 times the first, 1,000 times the second, and the third */
+#define ALGOLMALLET_VERSION "0.4.0"
+#define ALGOLMALLET_VERSION_NUMBER 4000 /* 1,000,000 times the first, 1,000 times the second, and the third */
 
 /* The version of the archive: ALGOLMALLET_VERSION_NUMBER, if this header belongs to it. */
 uint32_t algolmallet_version(void);
@@ -95,15 +95,19 @@ enum algolmallet_refusal {
  * nothing is written. (The library keeps no memory of its own, so it has no text to point at.) */
 size_t algolmallet_refusal_text(uint32_t number, char *out, size_t room);
 
-/* What a call answers. After a refusal `served`, `words` and `value` are 0. */
+/* What a call answers. After a refusal `served`, `words`, `value`, `woken` and `activated` are 0. `woken` and `activated` are what request
+ * L2 asked for: "Serving a flag must also answer how many waiting tasks it made dispatchable and how many it activated, added over all services
+ * of a call." Tasks that a tick wakes by its count, and the task that a schedule or a start activates itself, are in neither. */
 typedef struct {
-    uint32_t refusal; /* enum algolmallet_refusal */
-    uint32_t line;    /* of a start refused by 1 to 4: the rig file's line, 0 for the whole file; else 0 */
-    uint32_t served;  /* flag changes that the call served, "at most 79" */
-    uint32_t words;   /* bus words written by a tick */
-    uint32_t value;   /* of a flag read, 0 or 1; of algolmallet_next_waking a waking count, 0 for none; else 0 */
-    uint32_t count;   /* the count after the call, as the record has it; 0 after a refused start */
-    uint32_t running; /* the running task after the call, as the record has it, 0 for none */
+    uint32_t refusal;   /* enum algolmallet_refusal */
+    uint32_t line;      /* of a start refused by 1 to 4: the rig file's line, 0 for the whole file; else 0 */
+    uint32_t served;    /* flag changes that the call served, "at most 79" */
+    uint32_t words;     /* bus words written by a tick */
+    uint32_t value;     /* of a flag read, 0 or 1; of algolmallet_next_waking a waking count, 0 for none; else 0 */
+    uint32_t count;     /* the count after the call, as the record has it; 0 after a refused start */
+    uint32_t running;   /* the running task after the call, as the record has it, 0 for none */
+    uint32_t woken;     /* "how many waiting tasks" the call's services "made dispatchable" */
+    uint32_t activated; /* "how many" tasks they "activated" */
 } algolmallet_reply;
 
 /* The library's side of these offsets is proved in crates/host_layout/proofs/Offsets.antt. */
@@ -112,9 +116,11 @@ typedef struct {
 #else
 #define ALGOLMALLET_HOLDS(fact, text) _Static_assert(fact, text)
 #endif
-ALGOLMALLET_HOLDS(sizeof(algolmallet_reply) == 28, "the size of a reply");
+ALGOLMALLET_HOLDS(sizeof(algolmallet_reply) == 36, "the size of a reply");
 ALGOLMALLET_HOLDS(offsetof(algolmallet_reply, served) == 8, "the layout of a reply");
 ALGOLMALLET_HOLDS(offsetof(algolmallet_reply, running) == 24, "the layout of a reply");
+ALGOLMALLET_HOLDS(offsetof(algolmallet_reply, woken) == 28, "the layout of a reply");
+ALGOLMALLET_HOLDS(offsetof(algolmallet_reply, activated) == 32, "the layout of a reply");
 ALGOLMALLET_HOLDS(sizeof(size_t) == 8, "the library is for x86-64");
 
 /* The bytes of a record, and what its address must be a multiple of (what malloc gives always is). */
@@ -155,7 +161,8 @@ algolmallet_reply algolmallet_wait_for(algolmallet_record *r, uint32_t cycles);
 algolmallet_reply algolmallet_wait_latched(algolmallet_record *r, uint32_t flag, bool value);
 algolmallet_reply algolmallet_wait_unlatched(algolmallet_record *r, uint32_t flag, bool value);
 
-/* "the flag and value are queued", and served. Refused by 12, 5, 6, 7. */
+/* "the flag and value are queued", and served. The reply's `woken` and `activated` say whether anything heard (request L2). Refused by
+ * 12, 5, 6, 7. */
 algolmallet_reply algolmallet_signal(algolmallet_record *r, uint32_t flag, bool value);
 
 /* The reply's `value` is the flag's. Refused by 12, 5, 6, 7. */

@@ -245,9 +245,10 @@ static unsigned print_seldom(const tally *t, const wishes *w)
     if (wants(w, STREAMS))
         n += tally_stream_missing(&t->stream, LEAST_HITS, stdout);
     if (wants(w, ENTRIES))
-        n += tally_missing_calls(t, "WDJ", LEAST_HITS, stdout) + tally_panel_missing_harmed(&t->panel, LEAST_HITS, stdout);
+        n += tally_missing_calls(t, "WDJ", LEAST_HITS, stdout) + tally_panel_missing_harmed(&t->panel, LEAST_HITS, stdout) +
+             tally_heard_missing_entries(&t->heard, LEAST_HITS, stdout);
     if (wants(w, PANEL))
-        n += tally_panel_missing(&t->panel, LEAST_HITS, stdout);
+        n += tally_panel_missing(&t->panel, LEAST_HITS, stdout) + tally_heard_missing_asked(&t->heard, LEAST_HITS, stdout);
     return n;
 }
 

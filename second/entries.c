@@ -123,6 +123,8 @@ static size_t run_harmed(const exec *e, const entries_call *call, answer *a, cha
     at = print_field(at, a->served);
     at = print_field(at, a->words);
     at = print_field(at, a->value);
+    at = print_field(at, a->woken);
+    at = print_field(at, a->activated);
     at = print_field(at, again.refusal);
     at = print_field(at, again.value);
     *at++ = '\n';

@@ -22,18 +22,18 @@
  * modulo 65,536; a buffer lent to D or J holds before the call, at word i,
  * 9 i + 2.
  *
- * W, D and J print verb, answer, count, running task, the number of flags
- * served (0 if refused) and then, also if refused, one check number: of the
- * whole area for W, of the whole lent buffer (all `words` or `room` of it) for
- * D and J.  So what a refused call writes, and what an accepted one writes past
+ * W, D and J print verb, answer, count, running task, woken, activated, the
+ * number of flags served (0 if refused) and then, also if refused, one check
+ * number: of the whole area for W, of the whole lent buffer (all `words` or
+ * `room` of it) for D and J.  So what a refused call writes, and what an accepted one writes past
  * its own words, is seen.  The check number of words w0, w1, ... starts as 0
  * and with each becomes (31 check + word) modulo 65,521.
  *
- * H prints verb, answer, flags served, words and value, as they are told (a
- * value of 0 for none), and then answer and value once more, asked of the copy
- * when the harmed bytes have been put back: the question has left the others
- * as they were.  Count and running task are not printed: a harmed record may
- * have any.
+ * H prints verb, answer, flags served, words, value, woken and activated, as
+ * they are told (a value of 0 for none), and then answer and value once more,
+ * asked of the copy when the harmed bytes have been put back: the question has
+ * left the others as they were.  Count and running task are not printed: a
+ * harmed record may have any.
  */
 #ifndef SECOND_ENTRIES_H
 #define SECOND_ENTRIES_H

@@ -64,7 +64,11 @@ static answer settle(exec *e, serving *s, bool stayed)
     if (MUTATED(RESTART_STAYED) && caller != 0 && e->state[caller] == DISPATCHABLE)
         stayed = true;
     dispatch(e, stayed);
-    return (answer){.refusal = ACCEPTED, .served = (uint8_t)s->served};
+    return (answer){.refusal = ACCEPTED,
+                    .served = (uint8_t)s->served,
+                    .woken = (uint8_t)s->woken,
+                    .activated = (uint8_t)s->activated,
+                    .heard = (uint8_t)s->heard};
 }
 
 /* The running task began to wait; nothing was queued. */
@@ -119,6 +123,7 @@ answer exec_start(exec *e, const rig *r)
     e->rig = *r;
     exec_make_plan(r, &e->plan);
     schedule(e, &s, 1);
+    s.activated += MUTATED(START_COUNTED);
     return settle(e, &s, false);
 }
 
@@ -133,6 +138,7 @@ answer exec_schedule(exec *e, uint32_t task)
     if (e->state[task] != UNINVOKED)
         return refused(WRONG_STATE);
     schedule(e, &s, task);
+    s.activated += MUTATED(SCHEDULE_COUNTED) && e->state[task] == DISPATCHABLE;
     return settle(e, &s, true);
 }
 
@@ -393,6 +399,15 @@ static unsigned write_due_rows(const exec *e, uint16_t *words)
     return n;
 }
 
+/* For mutants alone. */
+static unsigned due_tasks(const exec *e)
+{
+    unsigned n = 0;
+    for (unsigned t = 1; t <= e->rig.tasks; t++)
+        n += waits_on_time(e, t) && e->wait[t].wake == e->count;
+    return n;
+}
+
 answer exec_tick(exec *e, uint16_t *words, size_t room)
 {
     serving s = {.served = 0};
@@ -403,7 +418,9 @@ answer exec_tick(exec *e, uint16_t *words, size_t room)
     if (MUTATED(ROOM_EXACTLY) ? room != TICK_WORDS : room < TICK_WORDS)
         return refused(BAD_LENGTH);
     e->count++;
-    wake_due(e);
+    if (MUTATED(DUE_COUNTED))
+        s.woken = due_tasks(e);
+    wake_due(e); /* by the count, not by a flag: not among the woken */
     queue_cycle(e, &s);
     answer a = settle(e, &s, true);
     a.words = (uint16_t)write_due_rows(e, words);

@@ -57,9 +57,12 @@ typedef struct {
 /* A refused call answers the refusal alone; all else is then 0. */
 typedef struct {
     enum refusal refusal;
-    uint8_t served;  /* flags served by this call */
-    uint16_t words;  /* exec_tick: bus words written */
-    uint32_t value;  /* exec_read_flag: the flag's; exec_next_waking: the waking count, 0 for none */
+    uint8_t served;    /* flags served by this call */
+    uint16_t words;    /* exec_tick: bus words written */
+    uint32_t value;    /* exec_read_flag: the flag's; exec_next_waking: the waking count, 0 for none */
+    uint8_t woken;     /* "how many waiting tasks" the services of this call "made dispatchable" (request L2) */
+    uint8_t activated; /* "and how many" they "activated"; a schedule's own activation is no service's */
+    uint8_t heard;     /* services that added to either; not printed, the comparison counts sums by it */
 } answer;
 
 /* A refused start (4) leaves a record of all zeros. */

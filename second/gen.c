@@ -9,6 +9,7 @@ enum input_kind {
     FAMILIES,
     RACES,
     SLEEPERS,
+    LISTENERS,
     SERVES_79,
     SCRIPT_DAMAGED,
     LINE_SHAPE,
@@ -32,12 +33,12 @@ static const uint8_t kinds[] = {
     RULE_BROKEN + RULE_ACTIVATION_SHARED, RULE_BROKEN + RULE_ACTIVATION_MINOR,
     RULE_BROKEN + RULE_A_WITHOUT_C, RULE_BROKEN + RULE_C_WITHOUT_A, RULE_BROKEN + RULE_MINOR_NOT_ALONE,
     RULE_BROKEN + RULE_MINOR_LATCHED, RULE_BROKEN + RULE_MINOR_DESIRES_OFF, RULE_BROKEN + RULE_SAME_ENDS,
-    SMALL, SMALL};
+    LISTENERS, LISTENERS};
 
 /* One round of kinds for the panel: right rigs, most of them with many tasks that wait on time, and two that are refused. */
 static const uint8_t panel_kinds[] = {
     SLEEPERS, SMALL, SLEEPERS, FAMILIES, SLEEPERS, SLEEPERS, MEDIUM, SLEEPERS, RESTARTS, SLEEPERS,
-    SLEEPERS, SMALL, SLEEPERS, RACES, SLEEPERS, SLEEPERS, SCRIPT_DAMAGED, SLEEPERS, FUZZED, LINE_ORDER};
+    SLEEPERS, LISTENERS, SLEEPERS, RACES, SLEEPERS, SLEEPERS, SCRIPT_DAMAGED, SLEEPERS, FUZZED, LINE_ORDER};
 
 enum { ROUND = sizeof kinds, PANEL_ROUND = sizeof panel_kinds };
 
@@ -146,6 +147,15 @@ static void sleepers_input(chance *c, text *out)
     gen_sleepers_script(c, &r, pick(c, 40, 140), out);
 }
 
+static void listeners_input(chance *c, text *out)
+{
+    static rig r;
+    gen_listeners_rig(c, &r);
+    gen_print_rig(&r, out);
+    gen_add_run(out);
+    gen_listeners_script(c, &r, pick(c, 100, 250), out);
+}
+
 static void full_serving_input(chance *c, text *out)
 {
     static rig r;
@@ -221,6 +231,7 @@ static const struct {
     [FAMILIES] = {"families", families_input},
     [RACES] = {"races", race_input},
     [SLEEPERS] = {"sleepers", sleepers_input},
+    [LISTENERS] = {"listeners", listeners_input},
     [SERVES_79] = {"79 served", full_serving_input},
     [SCRIPT_DAMAGED] = {"damaged script", damaged_script_input},
     [LINE_SHAPE] = {"line of wrong shape", shape_input},
@@ -282,7 +293,7 @@ void gen_entries_input(uint64_t seed, uint64_t index, text *out)
     gen_rig(&c, (rig_size)(index % 3), &r);
     gen_print_rig(&r, out);
     gen_add_run(out);
-    gen_entries_script(&c, &r, pick(&c, 100, 300), out);
+    gen_entries_script(&c, &r, pick(&c, 200, 400), out);
     gen_weave(&woven, ASKED_HARMED, add_harmed_question, start, out);
 }
 

@@ -85,6 +85,9 @@ void gen_race_rig(chance *c, rig *out);
 /* Tasks that start when they are scheduled, so that many wait at once; task 1 acts when the others rest. */
 void gen_sleepers_rig(chance *c, rig *out);
 
+/* Tasks that wait for flags, and tasks that flags start in chains, so that one signal is heard by several in several ways. */
+void gen_listeners_rig(chance *c, rig *out);
+
 /* 64 tasks and a cycle of 15 flags, whose tick can serve 79. */
 void gen_full_serving_rig(chance *c, rig *out);
 
@@ -122,6 +125,9 @@ void gen_race_script(chance *c, const rig *r, unsigned lines, text *out);
 
 /* Plays a sleepers rig: many wait on time, some are cancelled or terminated, most often the earliest; or nobody runs. */
 void gen_sleepers_script(chance *c, const rig *r, unsigned lines, text *out);
+
+/* Plays a listeners rig: its tasks wait for flags or finish, and whoever runs signals. */
+void gen_listeners_script(chance *c, const rig *r, unsigned lines, text *out);
 
 /* Plays a growth rig: puts its tasks to waits of both kinds, then ticks, signals and reads by turns. */
 void gen_growth_script(chance *c, const rig *r, unsigned lines, text *out);

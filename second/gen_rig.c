@@ -406,6 +406,50 @@ void gen_sleepers_rig(chance *c, rig *out)
     make_cycles(c, out, &m);
 }
 
+/* ---- Listeners ---- */
+
+/* One condition on one flag: a minor-cycle flag, a plain one, or the activation flag of one of the tasks from `first` to this. */
+static void make_started(chance *c, rig *r, const makings *m, unsigned task, unsigned first)
+{
+    if (m->minors > 0 && likely(c, 15)) {
+        add_condition(r, task, 0, false, true);
+        add_one_flag(r, task, 0, m->minor[pick(c, 0, m->minors - 1)]);
+        return;
+    }
+    bool chained = task > first && likely(c, 60);
+    unsigned plain = m->other[pick(c, m->activations, m->others - 1)];
+    add_condition(r, task, 0, likely(c, 25), likely(c, 85));
+    add_one_flag(r, task, 0, chained ? r->task[pick(c, first, task - 1)].activation : plain);
+}
+
+/*
+ * Under task 1, which rests below all others, first those that start when they
+ * are scheduled, to wait for flags, then those that flags start.  There are few
+ * plain flags, so that several tasks hear one signal.
+ */
+void gen_listeners_rig(chance *c, rig *out)
+{
+    unsigned last_waiting = 1 + pick(c, 2, 7), minors = pick(c, 0, 2);
+    makings m = {.tasks = last_waiting + pick(c, 2, 6)};
+    memset(out, 0, sizeof *out);
+    m.flags = m.tasks + minors + pick(c, 1, 3);
+    divide_flags(c, &m, minors, m.tasks);
+    out->tasks = (uint8_t)m.tasks;
+    out->flags = (uint8_t)m.flags;
+    make_ranks(c, out);
+    give_activation_flags(c, out, &m);
+    for (unsigned t = 2; t <= m.tasks; t++) {
+        out->task[t].controller = 1;
+        out->task[t].priority |= 1;
+    }
+    out->task[1].privileged = 0;
+    out->task[1].priority = 0;
+    for (unsigned t = last_waiting + 1; t <= m.tasks; t++)
+        make_started(c, out, &m, t, last_waiting + 1);
+    make_cycles(c, out, &m);
+    make_rows(c, out, SIZE_SMALL);
+}
+
 enum { TRIGGER_CYCLE = 1, FULL_CYCLE = 3 };
 
 /*

@@ -509,6 +509,54 @@ void gen_sleepers_script(chance *c, const rig *r, unsigned lines, text *out)
     call(&p, 'K', 0, 0);
 }
 
+/* Task 1 of a listeners rig has all others ready, then signals; now and then it strikes one or sleeps. */
+static void listeners_first(player *p)
+{
+    unsigned way = pick(p->c, 0, 99);
+    if (way < 50 && do_schedule(p))
+        return;
+    if (way < 85 && do_signal(p))
+        return;
+    if (way < 90 && (likely(p->c, 50) ? do_cancel(p) : do_terminate(p)))
+        return;
+    if (way < 96)
+        call(p, 'K', 0, 0);
+    else
+        call(p, 'R', pick(p->c, 1, 2), 0);
+}
+
+/* The others wait for flags; those that a flag started mostly finish, to be started again. */
+static void listeners_other(player *p)
+{
+    bool started = p->e.rig.conditions[p->e.running].present != 0;
+    unsigned way = pick(p->c, 0, 99);
+    if (way < (started ? 55 : 6))
+        call(p, 'F', 0, 0);
+    else if (way < 75 && do_wait_flag(p))
+        return;
+    else if (way < 88 && do_signal(p))
+        return;
+    else
+        sleep_a_while(p);
+}
+
+void gen_listeners_script(chance *c, const rig *r, unsigned lines, text *out)
+{
+    static player p;
+    play(&p, c, r, out);
+    for (unsigned i = 0; i < lines && p.idle < IDLE_MAX; i++) {
+        p.idle = p.e.running == 0 ? p.idle + 1 : 0;
+        if (p.e.running == 0)
+            call(&p, 'K', 0, 0);
+        else if (likely(c, 8))
+            (void)do_barred(&p); /* a refusal, often right behind a call that was heard */
+        else if (p.e.running == 1)
+            listeners_first(&p);
+        else
+            listeners_other(&p);
+    }
+}
+
 void gen_growth_script(chance *c, const rig *r, unsigned lines, text *out)
 {
     static player p;

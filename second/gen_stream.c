@@ -115,7 +115,7 @@ static void even_places_input(chance *c, text *out)
     add_short_answers(TICKS_TO_TEN - 1, out);
 }
 
-/* And at each odd one: the tenth tick's answer has nine bytes. */
+/* And at each odd one: the tenth tick's answer has thirteen bytes. */
 static void odd_places_input(chance *c, text *out)
 {
     (void)c;

@@ -93,7 +93,23 @@
     V(77, TOLD_STANDS, "a waking count that was told stands, though its task was cancelled or terminated") \
     V(78, PANEL_TAKES_FIELDS, "a V line with fields is taken") \
     M(79, PANEL_ALWAYS_ON, "the runner answers the panel's verbs") \
-    E(80, UNSOUND_IS_NONE, "none is told of a record that is not sound")
+    E(80, UNSOUND_IS_NONE, "none is told of a record that is not sound") \
+    M(81, OTHER_VALUE_WOKEN, "who waits for the other value is counted as woken, who woke is not") \
+    M(82, EITHER_VALUE_WOKEN, "who waits for the other value is counted as woken too") \
+    M(83, SCHEDULE_COUNTED, "a schedule's own activation is counted as activated") \
+    M(84, START_COUNTED, "a start tells one activated") \
+    M(85, LAST_SERVICE_TOLD, "the numbers of the last service are told, not the sums") \
+    M(86, FIRST_SERVICE_TOLD, "the numbers of the first service are told, not the sums") \
+    M(87, SERVICES_COUNTED, "services that woke or activated somebody are counted, not the tasks") \
+    M(88, REFUSAL_TELLS_LAST, "a refusal tells the numbers of the last accepted call") \
+    M(89, NUMBERS_STAND, "a call that serves nothing tells the numbers of the last that did") \
+    M(90, DUE_COUNTED, "tasks due at a tick's count are counted as woken") \
+    M(91, NUMBERS_SWAPPED, "woken and activated are swapped") \
+    M(92, ACTIVATED_IS_WOKEN, "an activated task is counted as woken too") \
+    M(93, NUMBERS_UNPRINTED, "neither number is printed, as before the request") \
+    M(94, NUMBERS_BEHIND, "both numbers are printed behind words and values") \
+    V(95, QUESTION_TELLS_LAST, "a V line tells the numbers of the call before it") \
+    E(96, BLOCKS_TELL_LAST, "block reads and writes tell the numbers of the call before them")
 
 #define MUTANT_NAME(number, name, text) MUTANT_##name = number,
 enum { MUTANT_LIST(MUTANT_NAME, MUTANT_NAME, MUTANT_NAME, MUTANT_NAME, MUTANT_NAME, MUTANT_NAME) MUTANT_END };

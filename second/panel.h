@@ -7,9 +7,10 @@
  *
  *   V     "When does the bench next wake someone?" (request L4)
  *
- * alone on its line.  It prints verb, answer, count and running task, and then
- * the lowest waking count among tasks waiting on time; nothing more if no task
- * so waits.  The record stays as it is.
+ * alone on its line.  It prints verb, answer, count, running task, woken and
+ * activated (both 0: nothing is served), and then the lowest waking count among
+ * tasks waiting on time; nothing more if no task so waits.  The record stays as
+ * it is.
  */
 #ifndef SECOND_PANEL_H
 #define SECOND_PANEL_H

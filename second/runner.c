@@ -141,8 +141,8 @@ static void run_script(session *s, line_runner *run)
 {
     static exec e;
     in_line line;
-    (void)exec_start(&e, &s->rig); /* a rig that was read keeps the rules */
-    out_advance(&s->out, print_started(out_room(&s->out, OUTPUT_LINE_MAX), &e));
+    answer started = exec_start(&e, &s->rig); /* a rig that was read keeps the rules */
+    out_advance(&s->out, print_started(out_room(&s->out, OUTPUT_LINE_MAX), &started, &e));
     while (s->parts.has_script && !s->out.failed && in_next_line(&s->in, &line))
         answer_line(s, &e, &line, run);
 }

@@ -136,13 +136,38 @@ static size_t end_line(char *out, char *at)
     return (size_t)(at - out);
 }
 
+/* For mutants alone: the numbers that they print for this answer, some of them those of an earlier one. */
+static answer numbers_told(char verb, const answer *a)
+{
+    static answer before;
+    bool stale = (MUTATED(REFUSAL_TELLS_LAST) && a->refusal != ACCEPTED) || (MUTATED(NUMBERS_STAND) && a->served == 0) ||
+                 (MUTATED(QUESTION_TELLS_LAST) && verb == 'V') || (MUTATED(BLOCKS_TELL_LAST) && strchr("WD", verb) != NULL);
+    if (stale)
+        return before;
+    before = *a;
+    if (MUTATED(NUMBERS_SWAPPED))
+        return (answer){.woken = a->activated, .activated = a->woken};
+    return before;
+}
+
+/* How many tasks the services of the call woke, and how many they activated.  `verb`, the line's first letter, is for mutants. */
+static char *print_heard(char *at, char verb, const answer *a)
+{
+    answer told = WITH_MUTANTS ? numbers_told(verb, a) : *a;
+    if (MUTATED(NUMBERS_UNPRINTED))
+        return at;
+    at = print_field(at, told.woken);
+    return print_field(at, told.activated);
+}
+
 char *print_head(char *out, char verb, const answer *a, const exec *e)
 {
     char *at = out;
     *at++ = verb;
     at = print_field(at, a->refusal);
     at = print_field(at, e->count);
-    return print_field(at, e->running);
+    at = print_field(at, e->running);
+    return MUTATED(NUMBERS_BEHIND) ? at : print_heard(at, verb, a);
 }
 
 size_t print_call(char *out, const script_call *call, const answer *a, const exec *e,
@@ -153,6 +178,8 @@ size_t print_call(char *out, const script_call *call, const answer *a, const exe
         at = print_field(at, a->value);
     for (unsigned i = 0; i < a->words; i++)
         at = print_field(at, words[i]);
+    if (MUTATED(NUMBERS_BEHIND))
+        at = print_heard(at, call->verb, a);
     return end_line(out, at);
 }
 
@@ -161,13 +188,13 @@ size_t print_wrong_line(char *out)
     return end_line(out, print_text(out, "?"));
 }
 
-size_t print_started(char *out, const exec *e)
+size_t print_started(char *out, const answer *a, const exec *e)
 {
     char *at = print_text(out, "START");
-    at = print_field(at, ACCEPTED);
+    at = print_field(at, a->refusal);
     at = print_field(at, e->count);
     at = print_field(at, e->running);
-    return end_line(out, at);
+    return end_line(out, print_heard(at, *out, a));
 }
 
 size_t print_refused_rig(char *out, const rig_verdict *v)

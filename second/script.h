@@ -35,10 +35,13 @@ answer script_apply(exec *e, const script_call *call, uint16_t words[TICK_WORDS]
 size_t print_call(char *out, const script_call *call, const answer *a, const exec *e,
                   const uint16_t *words);
 size_t print_wrong_line(char *out);
-size_t print_started(char *out, const exec *e);
+size_t print_started(char *out, const answer *a, const exec *e);
 size_t print_refused_rig(char *out, const rig_verdict *v);
 
-/* Verb, answer, count and running task, as the line of every call begins; answers where the text ends. */
+/*
+ * Verb, answer, count, running task, woken and activated, as the line of every call begins; answers where the text ends.
+ * "The runner prints both after the running task wherever it prints that" (request L2).
+ */
 char *print_head(char *out, char verb, const answer *a, const exec *e);
 
 /* A tab and the number; answers where the text ends. */

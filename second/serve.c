@@ -2,13 +2,13 @@
 
 #include <string.h>
 
-static uint64_t woken; /* for EQUAL_RANK_TAKES alone: tasks made dispatchable since the last dispatch */
+static uint64_t taking; /* for EQUAL_RANK_TAKES alone: tasks made dispatchable since the last dispatch */
 
 static void make_dispatchable(exec *e, unsigned task)
 {
     e->state[task] = DISPATCHABLE;
     if (MUTATED(EQUAL_RANK_TAKES))
-        woken |= UINT64_C(1) << (task - 1);
+        taking |= UINT64_C(1) << (task - 1);
 }
 
 /* ---- The lines of waiting tasks ---- */
@@ -192,12 +192,77 @@ static void serve_flag(exec *e, serving *s, unsigned flag, unsigned value)
     }
 }
 
+/* ---- Whom a service woke, and whom it activated ---- */
+
+/* The states of all tasks; those past the rig's are UNINVOKED. */
+typedef struct {
+    uint8_t of[TASKS_MAX];
+} task_states;
+
+static task_states states_now(const exec *e)
+{
+    task_states s;
+    memcpy(s.of, e->state + 1, sizeof s.of);
+    return s;
+}
+
+/* How many tasks had the one state before and have the other now. */
+static unsigned count_changes(const exec *e, const task_states *before, enum task_state from, enum task_state to)
+{
+    uint8_t changes = 0; /* there are at most 64 */
+    for (unsigned i = 0; i < TASKS_MAX; i++)
+        changes = (uint8_t)(changes + ((before->of[i] == from) & (e->state[i + 1] == to)));
+    return changes;
+}
+
+/* For mutants alone: tasks that wait for this value of the flag. */
+static unsigned waiting_for(const exec *e, unsigned flag, unsigned value)
+{
+    unsigned n = 0;
+    for (unsigned i = 0; i < e->flagged.tasks; i++) {
+        const exec_wait *w = &e->wait[e->flagged.task[i]];
+        n += w->flag == flag && w->value == value;
+    }
+    return n;
+}
+
+/*
+ * What one service of a flag did, by the tasks' states before and after it: a
+ * task that waited and is dispatchable was woken, one that was inactive and is
+ * dispatchable was activated.  The service itself counts nothing, so a slip in
+ * how it goes through its tasks cannot hide here.
+ */
+static void count_heard(const exec *e, serving *s, const task_states *before, unsigned flag, unsigned value)
+{
+    unsigned woken = count_changes(e, before, WAITING, DISPATCHABLE);
+    unsigned activated = count_changes(e, before, INACTIVE, DISPATCHABLE);
+    if (MUTATED(OTHER_VALUE_WOKEN))
+        woken = waiting_for(e, flag, 1 - value);
+    if (MUTATED(EITHER_VALUE_WOKEN))
+        woken += waiting_for(e, flag, 1 - value);
+    if (MUTATED(ACTIVATED_IS_WOKEN))
+        woken += activated;
+    if (MUTATED(SERVICES_COUNTED)) {
+        woken = woken > 0;
+        activated = activated > 0;
+    }
+    if (MUTATED(LAST_SERVICE_TOLD))
+        s->woken = s->activated = 0;
+    if (MUTATED(FIRST_SERVICE_TOLD) && s->served > 1)
+        return;
+    s->woken += woken;
+    s->activated += activated;
+    s->heard += woken + activated > 0;
+}
+
 void serve_all(exec *e, serving *s)
 {
     while (s->waiting > 0) {
         unsigned flag, value;
         take_from_queue(s, &flag, &value);
+        task_states before = states_now(e);
         serve_flag(e, s, flag, value);
+        count_heard(e, s, &before, flag, value);
     }
 }
 
@@ -223,7 +288,7 @@ void dispatch(exec *e, bool stayed)
             continue;
         unsigned other = exec_rank(e, t);
         bool takes = best == 0 || other > rank;
-        if (MUTATED(EQUAL_RANK_TAKES) && stayed && (woken >> (t - 1) & 1))
+        if (MUTATED(EQUAL_RANK_TAKES) && stayed && (taking >> (t - 1) & 1))
             takes = takes || other >= rank;
         if (MUTATED(HIGHEST_NUMBER_FIRST) && !stayed)
             takes = takes || other >= rank;
@@ -234,5 +299,5 @@ void dispatch(exec *e, bool stayed)
     }
     e->running = (uint8_t)best;
     if (MUTATED(EQUAL_RANK_TAKES))
-        woken = 0;
+        taking = 0;
 }

@@ -13,6 +13,8 @@ enum { QUEUE_ROOM = SERVED_MAX + (WITH_MUTANTS ? TASKS_MAX : 0) };
 
 typedef struct {
     unsigned served;
+    unsigned woken, activated; /* by the services so far */
+    unsigned heard;            /* services that added to either */
     unsigned waiting;
     struct {
         uint8_t flag, value;

@@ -14,6 +14,7 @@ typedef struct {
     exec e, before;
     char wait_verb[TASKS_MAX + 1]; /* that began the task's wait; 0 if it does not wait */
     panel_waits waits;
+    bool told; /* whether the last line with woken and activated told one that is not 0 */
     entries_area area;
     text *output;
 } run;
@@ -91,10 +92,12 @@ static void count_waits(run *r, const script_call *call)
 static void count_call(run *r, const script_call *call, const answer *a)
 {
     r->t->call[(unsigned char)call->verb][a->refusal]++;
+    tally_heard_line(&r->t->heard, &r->told, call->verb, a);
     if (a->refusal != ACCEPTED)
         return;
     count_serving(r, call, a);
     count_waits(r, call);
+    tally_heard_call(&r->t->heard, call, &r->before, &r->e, a);
     tally_panel_waits(&r->waits, &r->before, &r->e, r->before.running, strchr("XZ", call->verb) != NULL);
 }
 
@@ -109,9 +112,12 @@ static size_t run_entries_call(run *r, const entries_call *call, char *out)
     r->t->call[(unsigned char)call->verb][a.refusal]++;
     if (call->verb == 'H')
         tally_panel_harmed(&r->t->panel, call, &a);
+    else
+        tally_heard_line(&r->t->heard, &r->told, call->verb, &a);
     if (call->verb == 'J' && a.refusal == ACCEPTED) {
         count_serving(r, &tick, &a);
         count_waits(r, &tick);
+        tally_heard_call(&r->t->heard, &tick, &r->before, &r->e, &a);
     }
     return n;
 }
@@ -122,6 +128,7 @@ static size_t run_panel_call(run *r, const panel_call *call, char *out)
     size_t n = panel_run(&r->e, call, &a, out);
     r->t->call[(unsigned char)call->verb][a.refusal]++;
     tally_panel_answer(&r->t->panel, &r->waits, &r->e, &a);
+    tally_heard_line(&r->t->heard, &r->told, call->verb, &a);
     return n;
 }
 
@@ -192,8 +199,8 @@ void tally_run(tally *t, const text *input, line_set taken, text *output)
         text_add(output, out, print_refused_rig(out, &v));
         return;
     }
-    (void)exec_start(&r.e, &made);
-    text_add(output, out, print_started(out, &r.e));
+    answer started = exec_start(&r.e, &made);
+    text_add(output, out, print_started(out, &started, &r.e));
     if (parts.has_script)
         run_script(&r, bytes + parts.rig_length + RUN_LINE_LENGTH, bytes + input->length, taken);
 }
@@ -265,6 +272,7 @@ void tally_print(const tally *t, FILE *to)
             (unsigned long long)t->most_served, (unsigned long long)t->served_most);
     tally_stream_print(&t->stream, to);
     tally_panel_print(&t->panel, to);
+    tally_heard_print(&t->heard, to);
 }
 
 /* ---- What was hit too seldom ---- */
@@ -312,5 +320,6 @@ unsigned tally_missing(const tally *t, uint64_t least, FILE *to)
     n += tally_seldom(t->terminated_restarts, least, to, "restart within one call", "by terminate");
     n += tally_seldom(t->cascades, least, to, "cascade", "");
     n += tally_seldom(t->served_most, least, to, "call", "that served 79");
+    n += tally_heard_missing(&t->heard, least, to);
     return n;
 }

@@ -12,6 +12,7 @@
 #include "chance.h"
 #include "paper.h"
 #include "rig.h"
+#include "tally_heard.h"
 #include "tally_panel.h"
 #include "tally_stream.h"
 
@@ -35,6 +36,7 @@ typedef struct {
     uint64_t terminated[128];      /* by Z */
     stream_tally stream;
     panel_tally panel;
+    heard_tally heard;
 } tally;
 
 /* Which lines a program takes: the runner's alone, or those of entries.h or panel.h besides. */

@@ -7,7 +7,7 @@ import sys
 
 STANDARD_OUTPUT = 1
 RUN_LINE = b"RUN"
-WORD_COLUMN = 4  # of an answer's fields: verb, refusal, count, running task, then words or a value
+WORD_COLUMN = 6  # of an answer's fields: verb, refusal, count, running task, woken, activated, then words or a value
 REFUSED_FILE_LINE = 2  # of a refused START's fields: START, refusal, line
 SHOWN_OF_WRONG_LINE = 24  # characters
 
@@ -70,10 +70,10 @@ REFUSED_RIGS = {
 
 TOO_LONG = "the rig is longer than 40,960 bytes"
 
-# One line of the script and its answer. `caller` ran before it, `running` runs after it; 0 is no task. `value` is what a
-# question was answered by, as text, None for all other lines. A line that is none has no count of its own: it shows that
-# of the line before.
-Step = collections.namedtuple("Step", "number verb call refusal why count caller running words value")
+# One line of the script and its answer. `caller` ran before it, `running` runs after it; 0 is no task. `woken` and `activated`
+# are how many tasks the flags that it served woke and activated. `value` is what a question was answered by, as text, None for
+# all other lines. A line that is none has no count of its own: it shows that of the line before.
+Step = collections.namedtuple("Step", "number verb call refusal why count caller running woken activated words value")
 
 Task = collections.namedtuple("Task", "number priority privileged")
 
@@ -123,7 +123,7 @@ def why_of(verb, refusal):
 
 
 def wrong_step(number, line, before):
-    return Step(number, NOT_A_CALL, shown(line), 1, why_of(NOT_A_CALL, 1), before.count, before.running, before.running, [], None)
+    return Step(number, NOT_A_CALL, shown(line), 1, why_of(NOT_A_CALL, 1), before.count, before.running, before.running, 0, 0, [], None)
 
 
 def value_of(verb, refusal, numbers):
@@ -134,12 +134,13 @@ def value_of(verb, refusal, numbers):
 
 def called_step(number, line, fields, before):
     verb, numbers = fields[0], [int(f) for f in fields[1:]]
-    refusal, count, running = numbers[:3]
+    refusal, count, running, woken, activated = numbers[: WORD_COLUMN - 1]
     rest = numbers[WORD_COLUMN - 1 :]
     call = CALLS[verb] % tuple(line.decode("ascii").split("\t")[1:])
     words = rest if verb == "K" else []
     value = value_of(verb, refusal, rest)
-    return Step(number, verb, call, refusal, why_of(verb, refusal), count, before.running, running, words, value)
+    why = why_of(verb, refusal)
+    return Step(number, verb, call, refusal, why, count, before.running, running, woken, activated, words, value)
 
 
 def step_of(number, line, answer, before):
@@ -152,7 +153,8 @@ def step_of(number, line, answer, before):
 
 
 def started_step(fields):
-    return Step(None, "START", "START", 0, "", int(fields[2]), 0, int(fields[3]), [], None)
+    count, running, woken, activated = (int(f) for f in fields[2:WORD_COLUMN])
+    return Step(None, "START", "START", 0, "", count, 0, running, woken, activated, [], None)
 
 
 def refused_of(fields):

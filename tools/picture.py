@@ -2,7 +2,8 @@
 """A bench morning as a picture: `./bench --picture FILE > morning.svg` runs it.
 
 Each script line is a column, read from left to right and then band by band. A lane for each task shows who runs; ticks
-are lines down through the lanes, with their counts along the bottom and their bus words, in hex, below the counts.
+are lines down through the lanes, with their counts along the bottom and their bus words, in hex, below the counts. Between
+the two stands how many tasks a column's flags woke and activated, where that is not 0.
 """
 import sys
 from html import escape
@@ -21,6 +22,7 @@ LETTER = 6.6  # width of a letter of the labels
 HEAD_GAP = 8  # between the calls' names and the lanes
 COUNT_ROOM = 18
 WIDE_COUNT = 1000  # from here on counts are written downwards
+HEARD_ROW = 15  # of the numbers of woken and of activated tasks
 WORDS_SHOWN = 6  # bus words of a tick; the others are told by their number
 WORD_LENGTH = 34  # pixels of a word and the gap behind it
 BAND_GAP = 26
@@ -35,6 +37,7 @@ STYLE = """
 text { font-family: "DejaVu Sans", Verdana, Arial, sans-serif; font-size: 11px; fill: #1c1c1c; }
 .title { font-size: 17px; font-weight: bold; }
 .word { font-family: "DejaVu Sans Mono", Menlo, Consolas, monospace; font-size: 11px; fill: #14532d; }
+.heard { fill: #9a4b00; font-weight: bold; }
 .quiet { fill: #555555; }
 .bad { fill: #b3161f; font-weight: bold; }
 .lane { fill: #f3f5f8; }
@@ -96,6 +99,11 @@ def is_call(step):
     return step.verb != NOT_A_CALL and step.number is not None
 
 
+def is_heard(step):
+    """Whether the flags that it served woke or activated anybody."""
+    return step.woken > 0 or step.activated > 0
+
+
 def width_of(step):
     return TICK_WIDTH if is_tick(step) else CALL_WIDTH
 
@@ -115,8 +123,9 @@ def told(step):
     place = "start" if step.number is None else "line %d: %s" % (step.number, step.call)
     answer = "accepted" if step.refusal == 0 else "refused by %d, %s" % (step.refusal, step.why)
     runs = "task %d runs" % step.running if step.running else "no task runs"
+    heard = "; %d woken, %d activated by flags" % (step.woken, step.activated) if is_heard(step) else ""
     words = "; bus words " + " ".join(hex_word(w) for w in step.words) if step.words else ""
-    return "%s, %s; count %d, %s%s" % (place, answer, step.count, runs, words)
+    return "%s, %s; count %d, %s%s%s" % (place, answer, step.count, runs, heard, words)
 
 
 def takes_part(tasks, steps):
@@ -171,9 +180,12 @@ class Band:
     def has_wide_counts(self):
         return self.steps[-1].count >= WIDE_COUNT
 
-    def words_top(self):
+    def heard_top(self):
         downwards_too = LETTER * len(str(self.steps[-1].count)) if self.has_wide_counts() else 0
         return self.bottom + COUNT_ROOM + downwards_too
+
+    def words_top(self):
+        return self.heard_top() + (2 * HEARD_ROW if any(is_heard(s) for s in self.steps) else 0)
 
     def end(self):
         most = max(len(s.words) for s in self.steps)
@@ -185,7 +197,7 @@ class Band:
 
     def draw(self):
         parts = self.draw_lanes() + self.draw_ticks() + self.draw_bars() + self.draw_changes()
-        return parts + self.draw_calls() + self.draw_feet() + self.draw_columns()
+        return parts + self.draw_calls() + self.draw_feet() + self.draw_heard() + self.draw_columns()
 
     def draw_lanes(self):
         parts = []
@@ -257,6 +269,18 @@ class Band:
         if any(s.words for s in self.steps):
             names.append(text(MARGIN + 4, self.words_top() + LINE, "bus words, hex", "quiet"))
         return names
+
+    def draw_heard(self):
+        """A row of numbers of woken tasks and one of activated tasks; no row where nobody was either."""
+        if not any(is_heard(s) for s in self.steps):
+            return []
+        rows = (("woken by flags", [s.woken for s in self.steps]), ("activated by flags", [s.activated for s in self.steps]))
+        parts = []
+        for place, (name, numbers) in enumerate(rows):
+            y = self.heard_top() + HEARD_ROW * place + 11
+            parts.append(text(MARGIN + 4, y, name, "quiet"))
+            parts += [text(x, y, str(n), "heard", ' text-anchor="middle"') for x, n in zip(self.places, numbers) if n]
+        return parts
 
     def draw_words(self, x, step):
         words = [hex_word(w) for w in step.words[:WORDS_SHOWN]]

@@ -4,8 +4,8 @@ import sys
 
 from morning import NOT_A_CALL, hex_word, run_tool
 
-HEADS = ("line", "call", "answer", "count", "runs", "words or value")
-RIGHT_ALIGNED = {"line", "count", "runs"}
+HEADS = ("line", "call", "answer", "count", "runs", "woken", "activated", "words or value")
+RIGHT_ALIGNED = {"line", "count", "runs", "woken", "activated"}
 WORDS_A_ROW = 8
 
 
@@ -24,11 +24,12 @@ def word_rows(step):
 
 def rows_of(step):
     number = "" if step.number is None else str(step.number)
-    count, runs = str(step.count), str(step.running) if step.running else "none"
+    after = (str(step.count), str(step.running) if step.running else "none", str(step.woken), str(step.activated))
     if step.verb == NOT_A_CALL:
-        count, runs = "-", "-"
+        after = ("-",) * len(after)
     first, *more = word_rows(step)
-    return [(number, step.call, answer_of(step), count, runs, first)] + [("", "", "", "", "", row) for row in more]
+    rows = [(number, step.call, answer_of(step), *after, first)]
+    return rows + [("",) * (len(HEADS) - 1) + (row,) for row in more]
 
 
 def aligned(rows):

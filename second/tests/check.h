@@ -48,6 +48,7 @@ void words_tests(void);
 void rig_tests(void);
 void exec_tests(void);
 void serving_tests(void);
+void heard_tests(void);
 void sound_tests(void);
 void panel_tests(void);
 void runner_tests(void);

@@ -137,6 +137,7 @@ int main(int argc, char **argv)
     rig_tests();
     exec_tests();
     serving_tests();
+    heard_tests();
     sound_tests();
     panel_tests();
     runner_tests();

@@ -30,7 +30,7 @@ static void ticks(unsigned n)
 static void refused(answer a, enum refusal refusal)
 {
     CHECK_IS(a.refusal, refusal);
-    CHECK(a.served == 0 && a.value == 0 && a.words == 0);
+    CHECK(a.served == 0 && a.value == 0 && a.words == 0 && a.woken == 0 && a.activated == 0);
     CHECK(memcmp(&e, &before, sizeof e) == 0);
 }
 

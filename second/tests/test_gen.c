@@ -26,7 +26,7 @@ static void right_rigs_are_right(void)
     static rig r;
     for (unsigned i = 0; i < 600; i++) {
         chance c = chance_of(6, i);
-        switch (i % 8) {
+        switch (i % 9) {
         case 3:
             gen_restarting_rig(&c, &r);
             break;
@@ -42,8 +42,11 @@ static void right_rigs_are_right(void)
         case 7:
             gen_sleepers_rig(&c, &r);
             break;
+        case 8:
+            gen_listeners_rig(&c, &r);
+            break;
         default:
-            gen_rig(&c, (rig_size)(i % 8), &r);
+            gen_rig(&c, (rig_size)(i % 9), &r);
             break;
         }
         CHECK_IS(rig_broken_rule(&r), RULE_KEPT);
@@ -114,6 +117,7 @@ static void rounds_of_inputs(void)
         CHECK_IS(t.call[verb][NOT_SOUND], 0); /* 12 never follows from an accepted start */
     CHECK_IS(t.most_served, SERVED_MAX);
     CHECK(t.panel.off > 0 && t.panel.counts == 0);
+    CHECK_IS(tally_heard_missing(&t.heard, 1, stdout), 0);
 }
 
 /* Every place of a room, and all else, is hit. */
@@ -134,6 +138,7 @@ static void rounds_for_the_panel(void)
     CHECK_IS(t.call['V'][NOT_SOUND] + t.panel.off, 0);
     CHECK(t.panel.counts > 0 && t.panel.nones > 0 && t.panel.nobody_runs > 0 && t.panel.fields > 0);
     CHECK(t.panel.several > 0 && t.panel.overtaken > 0 && t.panel.struck > 0);
+    CHECK(t.heard.asked_next > 0);
 }
 
 static void rounds_of_entries(void)
@@ -143,6 +148,21 @@ static void rounds_of_entries(void)
     CHECK(t.call['W'][ACCEPTED] > 0 && t.call['J'][ACCEPTED] > 0);
     for (unsigned harm = HARM_NONE; harm < HARMS; harm++)
         CHECK(t.panel.harmed[harm] > 0);
+    CHECK_IS(tally_heard_missing_entries(&t.heard, 1, stdout), 0);
+}
+
+/* Where nothing was hit, everything is missed: a comparison that never meets the numbers does not pass. */
+static void unheard_counters_are_missed(void)
+{
+    static const heard_tally none;
+    FILE *said = tmpfile();
+    CHECK(said != NULL);
+    if (said == NULL)
+        return;
+    CHECK_IS(tally_heard_missing(&none, 1, said), 13);
+    CHECK_IS(tally_heard_missing_asked(&none, 1, said), 1);
+    CHECK_IS(tally_heard_missing_entries(&none, 1, said), 2);
+    fclose(said);
 }
 
 static bool is_number(const char *word)
@@ -167,6 +187,7 @@ static void numbers_are_strict(void)
 void gen_tests(void)
 {
     RUN(numbers_are_strict);
+    RUN(unheard_counters_are_missed);
     RUN(rounds_of_streams);
     RUN(rounds_for_the_panel);
     RUN(rounds_of_entries);

@@ -29,7 +29,7 @@ static void wakes_at(uint32_t count)
     answer a = exec_next_waking(&e);
     CHECK_IS(a.refusal, ACCEPTED);
     CHECK_IS(a.value, count);
-    CHECK(a.served == 0 && a.words == 0);
+    CHECK(a.served == 0 && a.words == 0 && a.woken == 0 && a.activated == 0);
     CHECK(memcmp(&e, &before, sizeof e) == 0);
 }
 
@@ -150,11 +150,12 @@ static void panel_lines(void)
     static const char input[] = SLEEPERS
         "RUN\nV\nS 2\nU 9\nV\nS 3\nR 4\nV\nV 1\nV \nVV\nv\n V\nV 0\nX 3\nV\nR 1\nV\nK\nK\nZ 2\nV\nF\nV\nK\nV";
     static const char with_panel[] =
-        "START 0 0 1\nV 0 0 1\nS 0 0 2\nU 0 0 1\nV 0 0 1 9\nS 0 0 3\nR 0 0 1\nV 0 0 1 4\n?\n?\n?\n?\n?\n?\nX 0 0 1\nV 0 0 1 9\n"
-        "R 0 0 0\nV 0 0 0 1\nK 0 1 1\nK 0 2 1\nZ 0 2 1\nV 0 2 1\nF 0 2 0\nV 0 2 0\nK 0 3 0\n?\n";
+        "START 0 0 1 0 0\nV 0 0 1 0 0\nS 0 0 2 0 0\nU 0 0 1 0 0\nV 0 0 1 0 0 9\nS 0 0 3 0 0\nR 0 0 1 0 0\nV 0 0 1 0 0 4\n"
+        "?\n?\n?\n?\n?\n?\nX 0 0 1 0 0\nV 0 0 1 0 0 9\nR 0 0 0 0 0\nV 0 0 0 0 0 1\nK 0 1 1 0 0\nK 0 2 1 0 0\nZ 0 2 1 0 0\n"
+        "V 0 2 1 0 0\nF 0 2 0 0 0\nV 0 2 0 0 0\nK 0 3 0 0 0\n?\n";
     static const char without[] =
-        "START 0 0 1\n?\nS 0 0 2\nU 0 0 1\n?\nS 0 0 3\nR 0 0 1\n?\n?\n?\n?\n?\n?\n?\nX 0 0 1\n?\n"
-        "R 0 0 0\n?\nK 0 1 1\nK 0 2 1\nZ 0 2 1\n?\nF 0 2 0\n?\nK 0 3 0\n?\n";
+        "START 0 0 1 0 0\n?\nS 0 0 2 0 0\nU 0 0 1 0 0\n?\nS 0 0 3 0 0\nR 0 0 1 0 0\n?\n?\n?\n?\n?\n?\n?\nX 0 0 1 0 0\n?\n"
+        "R 0 0 0 0 0\n?\nK 0 1 1 0 0\nK 0 2 1 0 0\nZ 0 2 1 0 0\n?\nF 0 2 0 0 0\n?\nK 0 3 0 0 0\n?\n";
     CHECK_PANEL(input, with_panel);
     CHECK_RUN(input, without);
 }
@@ -163,15 +164,15 @@ static void refused_rigs_on_the_panel(void)
 {
     CHECK_PANEL("", "START 1 1\n");
     CHECK_PANEL("RIG 1 1 1 0\nRUN\nV\n", "START 4 0\n");
-    CHECK_PANEL(SLEEPERS, "START 0 0 1\n");
+    CHECK_PANEL(SLEEPERS, "START 0 0 1 0 0\n");
 }
 
 /* H of entries.h: a value of 0 stands for none; whatever was harmed is refused, and the rest of the copy is as it was. */
 static void harmed_copies(void)
 {
     CHECK_ENTRIES(SLEEPERS "RUN\nH 0\nU 6\nH 0\nH 1\nH 2\nH 3\nH 4\nH 5\nH 6\nH\nV\nK\n",
-                  "START 0 0 1\nH 0 0 0 0 0 0\nU 0 0 0\nH 0 0 0 6 0 6\nH 12 0 0 0 0 6\nH 12 0 0 0 0 6\n"
-                  "H 12 0 0 0 0 6\nH 12 0 0 0 0 6\nH 12 0 0 0 0 6\n?\n?\n?\nK 0 1 0\n");
+                  "START 0 0 1 0 0\nH 0 0 0 0 0 0 0 0\nU 0 0 0 0 0\nH 0 0 0 6 0 0 0 6\nH 12 0 0 0 0 0 0 6\nH 12 0 0 0 0 0 0 6\n"
+                  "H 12 0 0 0 0 0 0 6\nH 12 0 0 0 0 0 0 6\nH 12 0 0 0 0 0 0 6\n?\n?\n?\nK 0 1 0 0 0\n");
 }
 
 void panel_tests(void)

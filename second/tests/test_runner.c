@@ -14,8 +14,8 @@
 static void the_bench_morning(void)
 {
     CHECK_RUN(MORNING_RIG "RUN\nS 2\nS 3\nK\nK\nK\nK\nF\nR 2\nK\nK\n",
-              "START 0 0 1\nS 0 0 1\nS 0 0 1\nK 0 1 1\nK 0 2 1 14400\nK 0 3 1\nK 0 4 2 14400\n"
-              "F 0 4 3\nR 0 4 1\nK 0 5 1\nK 0 6 3 14400\n");
+              "START 0 0 1 0 0\nS 0 0 1 0 0\nS 0 0 1 0 0\nK 0 1 1 0 0\nK 0 2 1 0 0 14400\nK 0 3 1 0 0\nK 0 4 2 0 2 14400\n"
+              "F 0 4 3 0 0\nR 0 4 1 0 0\nK 0 5 1 0 0\nK 0 6 3 0 0 14400\n");
 }
 
 #define SMALL "RIG 1 1 1 0\nT 1 0 0 0 0\n"
@@ -32,28 +32,28 @@ static void refused_rigs(void)
 
 static void where_the_rig_ends(void)
 {
-    CHECK_RUN(SMALL, "START 0 0 1\n"); /* without RUN the whole input is the rig */
-    CHECK_RUN(SMALL "RUN\n", "START 0 0 1\n");
+    CHECK_RUN(SMALL, "START 0 0 1 0 0\n"); /* without RUN the whole input is the rig */
+    CHECK_RUN(SMALL "RUN\n", "START 0 0 1 0 0\n");
     CHECK_RUN(SMALL "RUN", "START 1 3\n"); /* no LF: no RUN line */
     CHECK_RUN(SMALL "RUN\r\nK\n", "START 1 3\n");
     CHECK_RUN(SMALL "run\nRUN\nK\n", "START 1 3\n");
-    CHECK_RUN(SMALL "RUN\nRUN\nK\n", "START 0 0 1\n?\nK 0 1 1\n");
+    CHECK_RUN(SMALL "RUN\nRUN\nK\n", "START 0 0 1 0 0\n?\nK 0 1 1 0 0\n");
     CHECK_RUN("RIG 1 1 1 0\nT 1 0 0 0 0RUN\n", "START 1 2\n");
 }
 
 static void script_lines(void)
 {
     CHECK_RUN(SMALL "RUN\n\nK \nK\n F\nS 4294967295\nS 4294967296\nQ 1\nG 1 1\nQ 1\nG 1 2\nL 1 1\nF\nF\nK",
-              "START 0 0 1\n?\n?\nK 0 1 1\n?\nS 6 1 1\n?\nQ 0 1 1 0\nG 0 1 1\nQ 0 1 1 1\n?\nL 0 1 1\nF 0 1 0\n"
-              "F 5 1 0\n?\n");
+              "START 0 0 1 0 0\n?\n?\nK 0 1 1 0 0\n?\nS 6 1 1 0 0\n?\nQ 0 1 1 0 0 0\nG 0 1 1 0 0\nQ 0 1 1 0 0 1\n?\n"
+              "L 0 1 1 0 0\nF 0 1 0 0 0\nF 5 1 0 0 0\n?\n");
     CHECK_RUN(SMALL "RUN\nU 2147483648\nR 2147483648\nU 00\nR 0\nU 2147483647\nS 0\n",
-              "START 0 0 1\nU 9 0 1\nR 9 0 1\n?\nR 0 0 1\nU 0 0 0\nS 5 0 0\n");
+              "START 0 0 1 0 0\nU 9 0 1 0 0\nR 9 0 1 0 0\n?\nR 0 0 1 0 0\nU 0 0 0 0 0\nS 5 0 0 0 0\n");
 }
 
 /* A 1 is a wrong shape before anything else, also while none runs. */
 static void wrong_lines_first(void)
 {
-    CHECK_RUN(SMALL "RUN\nF\nS\nS 9\n", "START 0 0 1\nF 0 0 0\n?\nS 5 0 0\n");
+    CHECK_RUN(SMALL "RUN\nF\nS\nS 9\n", "START 0 0 1 0 0\nF 0 0 0 0 0\n?\nS 5 0 0 0 0\n");
 }
 
 /* The runner streams: long lines, many lines, any bytes. */
@@ -61,20 +61,20 @@ static void long_inputs(void)
 {
     text in = {NULL, 0, 0}, want = {NULL, 0, 0}, got = {NULL, 0, 0};
     tabbed(SMALL "RUN\n", &in);
-    tabbed("START 0 0 1\n", &want);
+    tabbed("START 0 0 1 0 0\n", &want);
     for (unsigned i = 1; i <= 300; i++) {
         for (unsigned k = 0; k < i * 17; k++) {
             uint8_t byte = (uint8_t)(k * 7 + i);
             text_add(&in, byte == '\n' ? (const uint8_t *)"x" : &byte, 1);
         }
         text_print(&in, "y\nK\n");
-        text_print(&want, "?\nK\t0\t%u\t1\n", i);
+        text_print(&want, "?\nK\t0\t%u\t1\t0\t0\n", i);
     }
     for (size_t length = 65530; length <= 65545; length++) { /* around the buffer's length */
         for (size_t k = 0; k < length; k++)
             text_add(&in, "K", 1);
         text_print(&in, "\nQ\t1\n");
-        text_print(&want, "?\nQ\t0\t300\t1\t0\n");
+        text_print(&want, "?\nQ\t0\t300\t1\t0\t0\t0\n");
     }
     for (unsigned k = 0; k < 300000; k++)
         text_add(&in, "\t", 1);

@@ -44,6 +44,7 @@ helps() {
         expect 0 '^Exit status\|^Every number' "$command" --help
         expect 0 "^usage: $command" "$command" -h
     done
+    expect 0 'running task (0 for none), woken, activated,' ./bench --help
     expect 0 '^Panel:   V ' ./bench --panel --help
     expect 0 '^Panel:   V ' ./bench --help --panel
     expect_in 0 '^0$' './bench --help | grep -c "^Panel:" || true'
@@ -53,20 +54,23 @@ helps() {
 }
 
 runs() {
-    expect 0 "^K${tab}0${tab}6${tab}3${tab}14400$" ./bench rigs/morning.rig
-    expect_in 0 "^K${tab}0${tab}6${tab}3${tab}14400$" './bench < rigs/morning.rig'
-    expect_in 0 "^START${tab}0${tab}0${tab}1$" 'cat rigs/morning.rig | ./bench | cat'
+    expect 0 "^K${tab}0${tab}6${tab}3${tab}0${tab}0${tab}14400$" ./bench rigs/morning.rig
+    expect_in 0 "^K${tab}0${tab}6${tab}3${tab}0${tab}0${tab}14400$" './bench < rigs/morning.rig'
+    expect_in 0 "^START${tab}0${tab}0${tab}1${tab}0${tab}0$" 'cat rigs/morning.rig | ./bench | cat'
     expect_in 0 "^START${tab}0" './bench <(cat rigs/morning.rig)'
     expect_in 0 "^START${tab}0" 'cd rigs && ../bench morning.rig'
-    expect 0 "^K${tab}0${tab}6${tab}3${tab}14400$" "$room/link to bench" "$room/a morning.rig"
-    expect 0 "^S${tab}8${tab}0${tab}1$" ./bench rigs/refusals.rig
+    expect 0 "^K${tab}0${tab}6${tab}3${tab}0${tab}0${tab}14400$" "$room/link to bench" "$room/a morning.rig"
+    expect 0 "^S${tab}8${tab}0${tab}1${tab}0${tab}0$" ./bench rigs/refusals.rig
+    expect 0 "^G${tab}0${tab}0${tab}3${tab}1${tab}3$" ./bench rigs/heard.rig
+    expect 0 "^G${tab}7${tab}0${tab}3${tab}0${tab}0$" ./bench rigs/heard.rig
+    expect 0 'signal 2=1  *accepted  *0  *3  *1  *3$' ./bench --table rigs/heard.rig
     expect 1 "^START${tab}3${tab}6$" ./bench rigs/broken/order.rig
     expect_in 1 "^START${tab}1${tab}1$" './bench < /dev/null'
-    expect 0 "^V${tab}0${tab}0${tab}0${tab}3$" ./bench --panel rigs/panel/waking.rig
-    expect_in 0 "^V${tab}0${tab}5${tab}1$" './bench --panel < rigs/panel/waking.rig'
+    expect 0 "^V${tab}0${tab}0${tab}0${tab}0${tab}0${tab}3$" ./bench --panel rigs/panel/waking.rig
+    expect_in 0 "^V${tab}0${tab}5${tab}1${tab}0${tab}0$" './bench --panel < rigs/panel/waking.rig'
     expect_in 0 '^0$' './bench rigs/panel/waking.rig | grep -c "^V" || true'
     expect_in 0 '^same$' 'cmp <(./bench --panel rigs/morning.rig) rigs/morning.out && echo same'
-    expect 0 'next waking  *accepted  *0  *none  *3$' ./bench --table --panel rigs/panel/waking.rig
+    expect 0 'next waking  *accepted  *0  *none  *0  *0  *3$' ./bench --table --panel rigs/panel/waking.rig
     expect 1 "^START${tab}3${tab}6$" ./bench --panel rigs/broken/order.rig
     expect 0 '^right' ./rigcheck rigs/morning-rig.rig
     expect_in 0 '^right' './rigcheck < rigs/morning-rig.rig'

@@ -24,7 +24,7 @@ import termios
 import time
 
 RIG = b"RIG\t1\t1\t1\t0\nT\t1\t0\t0\t0\t0\nRUN\n"
-STARTED = b"START\t0\t0\t1\n"
+STARTED = b"START\t0\t0\t1\t0\t0\n"
 LATE = 0.3  # seconds that a reader or a writer is late
 STUCK_WORK = 1.0  # seconds of processor time in which a program surely comes to its next write
 STUCK_SLEEP = 1.0  # seconds without any: it sleeps
@@ -51,7 +51,7 @@ class Verbs:
 
 
 def tick(count):
-    return b"K\t0\t%d\t1\n" % count
+    return b"K\t0\t%d\t1\t0\t0\n" % count
 
 
 def ticks(count):
@@ -198,12 +198,12 @@ def answers_come_as_lines_come(command):
         ask(there[1], back[0], RIG, STARTED)
         for count in range(1, 31):
             ask(there[1], back[0], b"K\n", tick(count))
-        ask(there[1], back[0], b"Q\t1\n\nK\nQ", b"Q\t0\t30\t1\t0\n?\n" + tick(31))
+        ask(there[1], back[0], b"Q\t1\n\nK\nQ", b"Q\t0\t30\t1\t0\t0\t0\n?\n" + tick(31))
         must_be_silent(back[0])
-        ask(there[1], back[0], b"\t1\n", b"Q\t0\t31\t1\t0\n")
-        ask_panel(there[1], back[0], b"V\n", b"V\t0\t31\t1\n")
-        ask(there[1], back[0], b"U\t40\n", b"U\t0\t31\t0\n")
-        ask_panel(there[1], back[0], b"V\n", b"V\t0\t31\t0\t40\n")
+        ask(there[1], back[0], b"\t1\n", b"Q\t0\t31\t1\t0\t0\t0\n")
+        ask_panel(there[1], back[0], b"V\n", b"V\t0\t31\t1\t0\t0\n")
+        ask(there[1], back[0], b"U\t40\n", b"U\t0\t31\t0\t0\t0\n")
+        ask_panel(there[1], back[0], b"V\n", b"V\t0\t31\t0\t0\t0\t40\n")
         os.write(there[1], b"K")
         close(there, 1)
         must_be(receive_all(back[0]), b"?\n")
