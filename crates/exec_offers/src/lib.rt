@@ -49,5 +49,8 @@ pub fn offers<'a>(
         }
         i = i + 1;
     }
-    Heeded { queue: q, activated }
+    Heeded {
+        queue: q,
+        activated,
+    }
 }

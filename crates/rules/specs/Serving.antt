@@ -61,17 +61,23 @@ unfoldable pub serveFlag : Rig → Entry → State → List Entry → Work
 serveFlag r e s q =
     offers r (e .flag) mostTasks (record { now = wake (chainOf (e .flag) (e .value)) (takes r e s); queue = q })
 
--- L2: "how many waiting tasks it made dispatchable and how many it activated". Of the tasks' states before a service and after it:
--- how many were a, waiting or inactive, and are dispatchable
+-- ---- L2: "Serving a flag must also answer how many waiting tasks it made dispatchable and how many it activated"
+
+-- by the tasks' states before and after: how many were a, and are dispatchable
 unfoldable pub made : ℕ → List ℕ → List ℕ → ℕ
 made a [] after = 0
 made a (x ∷ before) [] = 0
 made a (x ∷ before) (y ∷ after) = cond (eqb x a && eqb y dispatchable) 1 0 + made a before after
 
-abbrev pub madeBy : ℕ → State → Work → ℕ
-madeBy a s w = made a (s .states) (w .now .states)
+-- "how many waiting tasks it made dispatchable": the service that led from s to w
+abbrev pub wokenBy : State → Work → ℕ
+wokenBy s w = made waiting (s .states) (w .now .states)
 
--- one service more: L2's numbers are "added over all services of a call"
+-- "and how many it activated": an inactive task becomes dispatchable by activation alone
+abbrev pub activatedBy : State → Work → ℕ
+activatedBy s w = made inactive (s .states) (w .now .states)
+
+-- one service more: the numbers are "added over all services of a call"
 abbrev pub another : ℕ → ℕ → Done → Done
 another woken activated d =
     record { now = d .now; served = suc (d .served); woken = woken + d .woken; activated = activated + d .activated }
@@ -87,7 +93,7 @@ serving r zero s q = unserved s
 serving r (suc k) s [] = unserved s
 serving r (suc k) s (e ∷ q) =
     let w = serveFlag r e s q in
-    another (madeBy waiting s w) (madeBy inactive s w) (serving r k (w .now) (w .queue))
+    another (wokenBy s w) (activatedBy s w) (serving r k (w .now) (w .queue))
 
 -- how many tasks are inactive
 abbrev pub isInactive : ℕ → ℕ

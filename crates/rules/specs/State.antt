@@ -82,8 +82,8 @@ pub record Work : Type 0 where
   pub now : State
   pub queue : List Entry
 
--- a state, how many flags were served on the way to it, and what L2 asks for: how many waiting tasks that "made dispatchable and how
--- many it activated"
+-- a state, and of the services on the way to it: how many flags were served, and (L2) how many waiting tasks that "made dispatchable
+-- and how many it activated"
 pub record Done : Type 0 where
   pub now : State
   pub served : ℕ

@@ -336,12 +336,10 @@ module _ (r : Rig) (ok : RigOk r) (s : State) (h : Sound r s) (k : Call) (p : Pr
       go zero e = says e .few
       go (suc n) e = let q = refused-is r s k n e in omega (arith, ap (λ (x : Step). x .answer .report .woken) q, ap (λ (x : Step). x .answer .report .activated) q)
 
--- of a signal the numbers are read off the states before the call and after it
-pub signal-says : (r : Rig) (ok : RigOk r) (s : State) → Sound r s → (f v : ℕ) → Proper (signal f v) → refusal r s (signal f v) ≡ 0
-    → let n = step r s (signal f v) in
-    (n .answer .report .woken ≡ made waiting (s .states) (n .next .states)) × (n .answer .report .activated ≡ made inactive (s .states) (n .next .states))
+-- a signal leaves the state as it is to the serving
+pub signal-leaves : (r : Rig) (s : State) (f v : ℕ) → effect r s (signal f v) .now ≡ s
 unfolding effect
-signal-says r ok s h f v p e = let x = says r ok s h (signal f v) p e in (x .woken, x .activated)
+signal-leaves r s f v = refl
 
 -- ---- the start: nobody waits, and nobody but task 1 is invoked
 

@@ -12,8 +12,8 @@ use lib.ListN.{length, getD, set}
 use Rattle.laws.specs.Laws.Iter.{iter-ind}
 use Rattle.laws.specs.Laws.Tables.{over-set, over-store, in-range}
 use Rattle.rules.specs.Rig.{Rig}
-use Rattle.rules.specs.State.{Chain, chainOf, State, Work, Entry, stateOf, waiting, inactive}
-use Rattle.rules.specs.Serving.{push, isInactive, inactives, activate, offer, offerNext, offers, rouse, wake, takes, serveFlag, madeBy, another, unserved, serving, serve, ready}
+use Rattle.rules.specs.State.{Chain, chainOf, State, Work, Entry, stateOf}
+use Rattle.rules.specs.Serving.{push, isInactive, inactives, activate, offer, offerNext, offers, rouse, wake, takes, serveFlag, wokenBy, activatedBy, another, unserved, serving, serve, ready}
 
 -- what is left to do: the entries queued and the tasks that may yet be activated
 abbrev pub load : Work → ℕ
@@ -73,7 +73,7 @@ room r (suc k) zero s (e ∷ q) h g = absurd (omega arith)
 room r (suc k) (suc j) s [] h g = refl
 room r (suc k) (suc j) s (e ∷ q) h g =
     let g₁ = serveFlag-load r e s q in
-    ap (another (madeBy 2 s (serveFlag r e s q)) (madeBy 1 s (serveFlag r e s q))) (room r k j (serveFlag r e s q .now) (serveFlag r e s q .queue) (omega arith) (omega arith))
+    ap (another (wokenBy s (serveFlag r e s q)) (activatedBy s (serveFlag r e s q))) (room r k j (serveFlag r e s q .now) (serveFlag r e s q .queue) (omega arith) (omega arith))
 
 serving-nil : (r : Rig) (k : ℕ) (s : State) → serving r k s [] ≡ unserved s
 unfolding serving
@@ -86,11 +86,11 @@ unfolding serve
 serve-nil r s = serving-nil r _ s
 
 pub serve-cons : (r : Rig) (s : State) (e : Entry) (q : List Entry)
-    → serve r (record { now = s; queue = e ∷ q }) ≡ another (madeBy waiting s (serveFlag r e s q)) (madeBy inactive s (serveFlag r e s q)) (serve r (serveFlag r e s q))
+    → serve r (record { now = s; queue = e ∷ q }) ≡ another (wokenBy s (serveFlag r e s q)) (activatedBy s (serveFlag r e s q)) (serve r (serveFlag r e s q))
 unfolding serve serving
 serve-cons r s e q =
     ap (λ (n : ℕ). serving r n s (e ∷ q)) (suc-add (length q) (inactives (s .states)))
-    ∙ ap (another (madeBy 2 s (serveFlag r e s q)) (madeBy 1 s (serveFlag r e s q)))
+    ∙ ap (another (wokenBy s (serveFlag r e s q)) (activatedBy s (serveFlag r e s q)))
     (room r (length q + inactives (s .states)) (load (serveFlag r e s q)) (serveFlag r e s q .now) (serveFlag r e s q .queue)
     (serveFlag-load r e s q) (le-refl _))
 

@@ -4,21 +4,25 @@
 -- chains, Read). The chains are those of `IsChain` (rules, Soundness): the time chain, and each flag's for on and for off.
 use mathlib.Core.Path.{_≡_}
 use mathlib.Core.Logic.{_≢_, _⊎_, _↔_}
-use mathlib.Core.List.{List, reverse}
-use Prim.Native.Nat.{ℕ, suc, _≤_, _<_}
+use mathlib.Core.List.{List, _∷_, reverse}
+use Prim.Native.Nat.{ℕ, suc, _+_, _≤_, _<_}
 use lib.ListN.{length}
 use Rattle.laws.specs.Members.{In, Distinct}
 use Rattle.laws.specs.Ordered.{Ordered}
 use Rattle.chains.specs.Held.{at}
 use Rattle.chains.specs.Read.{chainAt, backAt}
 use Rattle.rules.specs.Sizes.{tickWords}
-use Rattle.rules.specs.State.{Chain, timeChain, chainOf, waiting, dispatchable, on}
+use Rattle.rules.specs.State.{Chain, timeChain, chainOf, State, Entry, Work, stateOf, inactive, waiting, dispatchable, on}
+use Rattle.rules.specs.Serving.{made}
 use Rattle.rules.specs.Soundness.{IsChain}
-use Rattle.rules.specs.Calls.{tick, run, start}
+use Rattle.rules.specs.Calls.{tick, signal, effect, run, start}
 use Rattle.rules.specs.History.{Earlier, Sooner}
+use Rattle.rules_laws.specs.WhileServing.{Reached}
+use Rattle.rules_laws.specs.Activation.{ByService}
+use Rattle.rules_laws.specs.Heard.{WaitedOn}
 use Rattle.exec_family.specs.Anchors.{anchorOf}
 use Rattle.exec.specs.Sound.{rigIn, view, SoundRecord}
-use Rattle.runs.specs.Runs.{Made, MadeOn, callsOf, codeOf, servedOf, toldBy, historyIn}
+use Rattle.runs.specs.Runs.{Made, MadeOn, callsOf, codeOf, servedOf, wokenOf, activatedOf, toldBy, historyIn}
 use Rattle.exec.specs.declared.Exec.{Exec}
 
 -- the state of a task, and its waking count; who waits in a chain, read forward and backward
@@ -101,3 +105,35 @@ pub record Told (y : Exec) (m : Made) : Type 0 where
   pub none : (toldBy (m .step) ≡ 0) ↔ ((t : ℕ) → OnTime y t → ⊥)
   pub some : toldBy (m .step) ≢ 0 → (t : ℕ) × OnTime y t × (wakeIn y t ≡ toldBy (m .step))
   pub lowest : (t : ℕ) → OnTime y t → toldBy (m .step) ≤ wakeIn y t
+
+-- ---- L2: WHOM DID IT WAKE? The call m is made on the record y.
+
+-- the state that it leaves to the serving, and what it has queued
+abbrev pub leaves : Exec → Made → Work
+leaves y m = effect (rigIn y) (view y) (m .call)
+
+-- "how many waiting tasks it made dispatchable and how many it activated, added over all services of a call": of an accepted call, from what it
+-- leaves to the serving to the record that it hands back
+pub record Hears (y : Exec) (m : Made) : Type 0 where
+  -- woken is the number of tasks that were waiting and became dispatchable: exactly those who waited on the served flags' chains
+  pub woken : wokenOf (m .step) ≡ made waiting (leaves y m .now .states) (m .step .exec .st .state)
+  pub waited : (t : ℕ) → ((stateOf (leaves y m .now) t ≡ waiting) × (stateIn (m .step .exec) t ≡ dispatchable)) ↔ WaitedOn (rigIn y) (leaves y m) t
+  -- it served a flag on which so many waited with that value: it says at least so many
+  pub least :
+      (s : State) (e : Entry) (q : List Entry) → Reached (rigIn y) (leaves y m) (record { now = s; queue = e ∷ q }) →
+      length (s .chains (chainOf (e .flag) (e .value))) ≤ wokenOf (m .step)
+  -- activated is the number of tasks that were inactive and became dispatchable, each by a service
+  pub activated : activatedOf (m .step) ≡ made inactive (leaves y m .now .states) (m .step .exec .st .state)
+  pub called : (t : ℕ) → stateOf (leaves y m .now) t ≡ inactive → stateIn (m .step .exec) t ≡ dispatchable → ByService (rigIn y) (leaves y m) t
+
+pub record Heard (y : Exec) (m : Made) : Type 0 where
+  pub hears : codeOf (m .step) ≡ 0 → Hears y m
+  -- "A signal should say whom it woke": its numbers are read off the record before it and the record after it
+  pub signals :
+      (f v : ℕ) → m .call ≡ signal f v → codeOf (m .step) ≡ 0 →
+      (wokenOf (m .step) ≡ made waiting (y .st .state) (m .step .exec .st .state))
+      × (activatedOf (m .step) ≡ made inactive (y .st .state) (m .step .exec .st .state))
+  -- "a refusal shows 0 and 0"
+  pub refused : codeOf (m .step) ≢ 0 → (wokenOf (m .step) ≡ 0) × (activatedOf (m .step) ≡ 0)
+  -- no task is counted twice: together they are at most the rig's number of tasks
+  pub few : wokenOf (m .step) + activatedOf (m .step) ≤ y .rig .tasks

@@ -17,6 +17,7 @@ use Rattle.rules.specs.Rig as G
 use Rattle.rules.specs.RigOk.{RigOk}
 use Rattle.rules.specs.State as S
 use Rattle.rules.specs.State.{Chain, timeChain, chainOf, waiting}
+use Rattle.rules.specs.Serving.{made}
 use Rattle.rules.specs.Soundness.{IsChain, Sound}
 use Rattle.rules.specs.Calls as R
 use Rattle.rules.specs.Calls.{tick, waitUntil, waitFor, nextWaking, refusal}
@@ -34,17 +35,19 @@ use Rattle.rules_laws.specs.Waking as W
 use Rattle.rules_laws.specs.WakingLaws as WL
 use Rattle.rules_laws.specs.NextWaking.{in-time, OnlyBegins, run-counts, waking-in-range}
 use Rattle.rules_laws.specs.Activation.{BySchedule, ByService, activated-by}
+use Rattle.rules_laws.specs.Heard.{WaitedOn, says, heard-few, signal-leaves, start-heard}
 use Rattle.exec_family.specs.Anchors.{anchorOf}
 use Rattle.exec_family.specs.Laws.Anchors.{anchor-low, anchor-high}
 use Rattle.exec_state.specs.View.{rigOf}
 use Rattle.exec.specs.Sound.{rigIn, view, SoundRecord}
 use Rattle.exec.specs.Call.{Follows, Meets, Refuses, answerOf}
 use Rattle.exec.specs.Laws.Unique.{record-same}
+use Rattle.exec.specs.Laws.Meeting.{refused-tells-nothing}
 use Rattle.exec_sound.specs.Laws.RightRig.{rig-ok}
 use Rattle.exec.specs.Laws.Promises.{twelve-exactly, Answered, asked}
 use Rattle.exec.specs.Starting.{Started, noExec, brokenRig}
-use Rattle.runs.specs.Runs.{Made, MadeOn, Ran, callsOf, codeOf, servedOf, toldBy, AcceptedStart, noting, historyIn, SparedIn, NoneSoonerIn}
-use Rattle.runs.specs.Demands.{Stands, Chained, Activated, Bounded, Demand, Wakes, forwardIn, stateIn, wakeIn, OnTime, Told}
+use Rattle.runs.specs.Runs.{Made, MadeOn, Ran, callsOf, codeOf, servedOf, wokenOf, activatedOf, toldBy, AcceptedStart, noting, historyIn, SparedIn, NoneSoonerIn}
+use Rattle.runs.specs.Demands.{Stands, Chained, Activated, Bounded, Demand, Wakes, forwardIn, stateIn, wakeIn, OnTime, Told, leaves, Hears, Heard}
 use Rattle.exec.specs.declared.Exec.{Exec}
 use Rattle.exec.specs.declared.Step.{Step}
 
@@ -175,6 +178,60 @@ module _ (y : Exec) (h : SoundRecord y) where
         (λ k. h .state .chains .listed .two t (k .0, subst (In t) (sym (read (k .0) (k .1))) (k .2))),
       )
 
+-- ---- L2: whom a call on a sound record woke
+
+module _ (y : Exec) (h : SoundRecord y) (m : Made) (o : MadeOn y m) where
+  shows-itself : Shows (rigIn y) (view y) y
+  shows-itself = record { sound = h; rig = refl; state = refl }
+
+  given : Gives (rigIn y) (view y) y m
+  given = gives (rigIn y) (view y) y shows-itself m o
+
+  -- the record that is handed back has the states of the rules' step
+  handed : R.step (rigIn y) (view y) (m .call) .next ≡ view (m .step .exec)
+  handed = sym (given .next .state)
+
+  -- the number of the rules' answer is the number of the code's
+  same-woken : wokenOf (m .step) ≡ R.step (rigIn y) (view y) (m .call) .answer .report .woken
+  same-woken = ap (λ (a : R.Answer). a .report .woken) (given .answer)
+
+  same-activated : activatedOf (m .step) ≡ R.step (rigIn y) (view y) (m .call) .answer .report .activated
+  same-activated = ap (λ (a : R.Answer). a .report .activated) (given .answer)
+
+  call-hears : codeOf (m .step) ≡ 0 → Hears y m
+  call-hears e =
+      let w = leaves y m in
+      let k = says (rigIn y) (ok y h) (view y) (h .state) (m .call) (o .proper) (sym (code-same (rigIn y) (view y) y shows-itself m o) ∙ e) in
+      record {
+        woken = same-woken ∙ k .woken ∙ ap (λ (u : S.State). made 2 (w .now .states) (u .states)) handed;
+        waited = λ t. subst (λ (u : S.State). ((S.stateOf (w .now) t ≡ 2) × (S.stateOf u t ≡ 3)) ↔ WaitedOn (rigIn y) w t) handed (k .waited t);
+        least = λ s e q p. omega (arith, k .least s e q p, same-woken);
+        activated = same-activated ∙ k .activated ∙ ap (λ (u : S.State). made 1 (w .now .states) (u .states)) handed;
+        called = λ t i n. k .called t i (ap (λ (u : S.State). S.stateOf u t) handed ∙ n);
+      }
+
+  signal-heard : (f v : ℕ) → m .call ≡ R.signal f v → Hears y m
+      → (wokenOf (m .step) ≡ made 2 (y .st .state) (m .step .exec .st .state)) × (activatedOf (m .step) ≡ made 1 (y .st .state) (m .step .exec .st .state))
+  signal-heard f v q k =
+      let same : leaves y m .now ≡ view y = ap (λ (c : R.Call). R.effect (rigIn y) (view y) c .now) q ∙ signal-leaves (rigIn y) (view y) f v in (
+        k .woken ∙ ap (λ (u : S.State). made 2 (u .states) (m .step .exec .st .state)) same,
+        k .activated ∙ ap (λ (u : S.State). made 1 (u .states) (m .step .exec .st .state)) same,
+      )
+
+  refusal-heard : codeOf (m .step) ≢ 0 → (wokenOf (m .step) ≡ 0) × (activatedOf (m .step) ≡ 0)
+  refusal-heard n =
+      let e = refused-tells-nothing (rigIn y) (view y) (m .call) (λ z. n (ap (λ (b : R.Answer). b .code) (given .answer) ∙ z)) in
+      (same-woken ∙ ap (λ (p : R.Report). p .woken) e, same-activated ∙ ap (λ (p : R.Report). p .activated) e)
+
+  sound-heard : Heard y m
+  sound-heard =
+      record {
+        hears = call-hears;
+        signals = λ f v q e. signal-heard f v q (call-hears e);
+        refused = refusal-heard;
+        few = omega (arith, same-woken, same-activated, heard-few (rigIn y) (ok y h) (view y) (h .state) (m .call) (o .proper));
+      }
+
 -- ---- the waking clause of the rules, said of the record to which the calls ks led
 
 wakes-shown : (r : G.Rig) (s : S.State) (ks : List R.Call) (z : Exec) → Shows r (R.run r s ks) z → (t c : ℕ) → W.WakesByRules r t c s ks → Wakes t c z
@@ -210,6 +267,13 @@ module _ (g : Rig) (table : List (List ℕ)) (x : Exec) (s : AcceptedStart g tab
   -- the start serves one flag at most
   pub started-served : servedOf (s .begun) ≤ 1
   started-served = omega (arith, ap (λ (a : R.Answer). a .report .served) (begun .1 .answer), start-served (rigOf g (cyclesOf table)))
+
+  -- L2: an accepted start shows 0 and 0
+  pub started-heard : (wokenOf (s .begun) ≡ 0) × (activatedOf (s .begun) ≡ 0)
+  started-heard =
+      let a = begun .1 .answer in
+      let n = start-heard (rigOf g (cyclesOf table)) in
+      (ap (λ (b : R.Answer). b .report .woken) a ∙ n .0, ap (λ (b : R.Answer). b .report .activated) a ∙ n .1)
 
   shown : Shows (rigIn x) (R.start (rigIn x)) x
   shown =
@@ -282,6 +346,10 @@ module _ (g : Rig) (table : List (List ℕ)) (x : Exec) (s : AcceptedStart g tab
           activated = sound-activated y (there .sound);
           bounded = sound-79 y (there .sound);
         }
+
+    -- L2: WHOM DID IT WAKE?
+    pub heard : (m : Made) → MadeOn y m → Heard y m
+    heard m o = sound-heard y (there .sound) m o
 
   -- the calls fix the record to which a run leads
   pub ran-same : (ms ns : List Made) (y z : Exec) → Ran x ms y → Ran x ns z → callsOf ms ≡ callsOf ns → y ≡ z

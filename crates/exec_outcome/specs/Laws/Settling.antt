@@ -25,6 +25,7 @@ use Rattle.rules_laws.specs.Serve.{load}
 use Rattle.rules_laws.specs.Good.{serve-running}
 use Rattle.rules_laws.specs.Bound.{effect-load}
 use Rattle.rules_laws.specs.Steps.{effect-ready}
+use Rattle.rules_laws.specs.Heard.{ChainsIn}
 use Rattle.exec_state.specs.View.{rigOf, viewOf, workOf}
 use Rattle.exec_state.specs.Post.{Dispatched}
 use Rattle.exec_state.specs.declared.State.{State}
@@ -122,16 +123,17 @@ module _ (g : Rig) (cycles : List Cycle) (s : State) (h : SoundParts g cycles s)
     (q : workOf (w .st) (w .queue) ≡ R.effect (rigOf g cycles) (viewOf s) k) where
   pub settles : L.HoldsChains (w .st .links) → Settles g w
   settles l =
+      let c = effect-ready (rigOf g cycles) (rig-ok g cycles (h .rig)) (viewOf s) (h .state) k p (sym e) .good in
       record {
         begins =
             record {
               fits = fits g cycles (h .rig);
               room = subst (λ (y : S.Work). load y ≤ 79) (sym q) (effect-load (rigOf g cycles) (viewOf s) (h .state .tasks .sized) k);
               sound = l;
+              chains = subst (λ (y : S.Work). ChainsIn (y .now)) (sym q) (c .chains);
               entries =
                   subst (λ (y : S.Work). Servable (y .queue)) (sym q)
-                  (servable (rigOf g cycles) (h .rig .flag-count .1) (R.effect (rigOf g cycles) (viewOf s) k .queue)
-                  (effect-ready (rigOf g cycles) (rig-ok g cycles (h .rig)) (viewOf s) (h .state) k p (sym e) .good .fine));
+                  (servable (rigOf g cycles) (h .rig .flag-count .1) (R.effect (rigOf g cycles) (viewOf s) k .queue) (c .fine));
             };
         low = subst (λ (y : S.Work). y .now .running ≤ 64) (sym q) (effect-low (rigOf g cycles) (viewOf s) (running-low g cycles s h) k);
       }

@@ -17,7 +17,7 @@ use Rattle.rules.specs.Rig as G
 use Rattle.rules.specs.State as S
 use Rattle.rules.specs.State.{Chain, chainOf, Entry, stateOf}
 use Rattle.rules.specs.Conditions.{drive}
-use Rattle.rules.specs.Serving.{push, activate, ready, takes, wake, offer, offerNext, offers, serveFlag, made, madeBy, another, serve, inactives}
+use Rattle.rules.specs.Serving.{push, activate, ready, takes, wake, offer, offerNext, offers, serveFlag, made, wokenBy, activatedBy, another, serve, inactives}
 use Rattle.rules_laws.specs.Serve.{load, wake-load, serveFlag-load, serve-nil, serve-cons}
 use Rattle.rules_laws.specs.Heard.{ChainsIn, service-woken, service-activated, service-chains}
 use Rattle.exec_queue.specs.View.{entriesOf, entries}
@@ -200,7 +200,7 @@ module _ (g : Rig) (s₀ : State) (q₀ : Queue) where
             h .is cycles
             ∙ ap (λ (l : List Entry). more k m n (serve (rigOf g cycles) (record { now = viewOf s; queue = l }))) split
             ∙ ap (more k m n) (serve-cons (rigOf g cycles) (viewOf s) (record { flag = f; value = v }) (entriesOf popped))
-            ∙ ap (λ (w : S.Work). more k m n (another (madeBy 2 (viewOf s) w) (madeBy 1 (viewOf s) w) (serve (rigOf g cycles) w))) (sym (z .is cycles))
+            ∙ ap (λ (w : S.Work). more k m n (another (wokenBy (viewOf s) w) (activatedBy (viewOf s) w) (serve (rigOf g cycles) w))) (sym (z .is cycles))
             ∙ (λ i. record {
               now = d .now;
               served = shift k (d .served) i;

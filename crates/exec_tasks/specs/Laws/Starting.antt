@@ -17,6 +17,7 @@ use Rattle.rules.specs.Soundness as Rules
 use Rattle.rules_laws.specs.Serve.{load}
 use Rattle.rules_laws.specs.Bound.{scheduled-load}
 use Rattle.rules_laws.specs.Steps.{started-ready, start-sound}
+use Rattle.rules_laws.specs.Heard.{ChainsIn}
 use Rattle.exec_state.specs.View.{rigOf, viewOf, workOf}
 use Rattle.exec_state.specs.Post.{Blank, Scheduled}
 use Rattle.exec_serving.specs.Post.{Servable}
@@ -52,15 +53,17 @@ module _ (g : Rig) (cycles : List Cycle) (h : Right g cycles) (s : State) (b : B
 
   pub start-settles : Settles g w
   start-settles =
+      let c = started-ready (rigOf g cycles) (rig-ok g cycles h) .good in
       record {
         begins =
             record {
               fits = fits g cycles h;
               room = subst (λ (y : S.Work). load y ≤ 79) (sym start-work) blank-load;
               sound = subst L.HoldsChains (sym (m .links)) (b .sound);
+              chains = subst (λ (y : S.Work). ChainsIn (y .now)) (sym start-work) (c .chains);
               entries =
                   subst (λ (y : S.Work). Servable (y .queue)) (sym start-work)
-                  (servable (rigOf g cycles) (h .flag-count .1) (R.scheduled (rigOf g cycles) S.blank 1 .queue) (started-ready (rigOf g cycles) (rig-ok g cycles h) .good .fine));
+                  (servable (rigOf g cycles) (h .flag-count .1) (R.scheduled (rigOf g cycles) S.blank 1 .queue) (c .fine));
             };
         low = subst (λ (y : S.Work). y .now .running ≤ 64) (sym start-work) blank-low;
       }
