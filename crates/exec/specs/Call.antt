@@ -16,7 +16,7 @@ use Rattle.exec.specs.declared.Answer.{Answer}
 use Rattle.exec.specs.declared.Answer.the-variants.{Accepted, Refused}
 
 abbrev pub reportOf : Report → R.Report
-reportOf p = record { served = p .served; words = p .words; value = p .value }
+reportOf p = record { served = p .served; woken = p .woken; activated = p .activated; words = p .words; value = p .value }
 
 -- the paper's number and values for each case of an answer
 abbrev pub answerOf : Answer → R.Answer

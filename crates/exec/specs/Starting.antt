@@ -38,15 +38,11 @@ noExec = record { rig = noRig; cycles = noCycles; st = noState }
 abbrev pub brokenRig : ℕ
 brokenRig = 4
 
--- only flags were served
-abbrev pub servedOnly : ℕ → R.Report
-servedOnly n = record { served = n; words = 0; value = 0 }
-
--- the rules' start: the state that the record shows, the flags served; the rig and its cycles are those given, and the
--- record is sound
+-- the rules' start: the state that the record shows, what the serving came to; the rig and its cycles are those given, and
+-- the record is sound
 pub record Started (g : Rig) (rows : List Cycle) (r : Step) : Type 0 where
   pub next : view (r .exec) ≡ R.start (rigOf g rows)
-  pub answer : answerOf (r .answer) ≡ record { code = 0; report = servedOnly (R.started (rigOf g rows) .served) }
+  pub answer : answerOf (r .answer) ≡ record { code = 0; report = R.reported (R.started (rigOf g rows)) 0 0 }
   pub proper : ProperAnswer (r .answer)
   pub rig : r .exec .rig ≡ g
   pub cycles : r .exec .cycles ≡ rows

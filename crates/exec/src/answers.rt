@@ -21,20 +21,29 @@ impl Exec {
         self.st = st;
         Step {
             exec: self,
-            answer: answer_of(o.refusal, o.served, o.words, o.value),
+            answer: answer_of(o.refusal, o.served, o.woken, o.activated, o.words, o.value),
         }
     }
 }
 
 // A refusal's number, or what an accepted call tells.
-pub(crate) fn answer_of(refusal: u8, served: u32, words: u32, value: u32) -> Answer
-    ensures { λ r. ⌜ r ≡ answerFrom refusal (record { served = served; words = words; value = value }) ⌝ }
+pub(crate) fn answer_of(
+    refusal: u8,
+    served: u32,
+    woken: u32,
+    activated: u32,
+    words: u32,
+    value: u32,
+) -> Answer
+    ensures { λ r. ⌜ r ≡ answerFrom refusal (record { served = served; woken = woken; activated = activated; words = words; value = value }) ⌝ }
 {
     if refusal != 0 {
         return Answer::Refused(refusal);
     }
     Answer::Accepted(Report {
         served,
+        woken,
+        activated,
         words,
         value,
     })

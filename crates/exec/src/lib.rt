@@ -26,9 +26,12 @@ pub struct Exec {
     pub st: State,
 }
 
-// What an accepted call tells: the flags it served, the bus words it wrote, the value of the flag it read or a question's answer.
+// What an accepted call tells: the flags it served, how many waiting tasks that made dispatchable and how many it activated, the bus
+// words it wrote, the value of the flag it read or a question's answer.
 pub struct Report {
     pub served: u32,
+    pub woken: u32,
+    pub activated: u32,
     pub words: u32,
     pub value: u32,
 }
@@ -72,7 +75,14 @@ pub fn start(rig: Rig, cycles: [[u8; CYCLE_FLAGS]; CYCLES]) -> Step
 {
     let rows = rig::cycles_of(cycles);
     let o = exec_tasks::start(rig, rows);
-    let answer = answers::answer_of(o.refusal, o.served, o.words, o.value);
+    let answer = answers::answer_of(
+        o.refusal,
+        o.served,
+        o.woken,
+        o.activated,
+        o.words,
+        o.value,
+    );
     if o.refusal != 0 {
         return Step {
             exec: none(),

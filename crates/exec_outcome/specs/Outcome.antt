@@ -14,18 +14,18 @@ use Rattle.exec_outcome.specs.declared.Outcome.{Outcome}
 
 -- the paper's number and values
 abbrev pub tellingOf : Outcome → R.Report
-tellingOf o = record { served = o .served; words = o .words; value = o .value }
+tellingOf o = record { served = o .served; woken = o .woken; activated = o .activated; words = o .words; value = o .value }
 
 abbrev pub answerIn : Outcome → R.Answer
 answerIn o = record { code = o .refusal; report = tellingOf o }
 
 -- the state as it was, and a refusal's number
 abbrev pub refusedBy : State → ℕ → Outcome
-refusedBy s n = record { st = s; refusal = n; served = 0; words = 0; value = 0 }
+refusedBy s n = record { st = s; refusal = n; served = 0; woken = 0; activated = 0; words = 0; value = 0 }
 
 -- the state as it was, and the value that was asked for
 abbrev pub keptWith : State → ℕ → Outcome
-keptWith s v = record { st = s; refusal = 0; served = 0; words = 0; value = v }
+keptWith s v = record { st = s; refusal = 0; served = 0; woken = 0; activated = 0; words = 0; value = v }
 
 -- the rules' step, of the state that the record shows; the record is sound
 pub record Obeys (g : Rig) (cycles : List Cycle) (s : State) (k : R.Call) (o : Outcome) (after : List ℕ) : Type 0 where

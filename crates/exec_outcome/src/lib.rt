@@ -6,11 +6,14 @@ ghost use mathlib.Core.Path.{_≡_};
 ghost use Rattle.exec_outcome.specs.Outcome.{refusedBy, keptWith};
 ghost use Rattle.exec_outcome.specs.Laws.Settling.{Settles, Settled};
 
-// The refusal's number is 0 for an accepted call. What a refused call tells is 0, and its state is as it was.
+// The refusal's number is 0 for an accepted call. Told are the flags served, how many waiting tasks that made dispatchable and how
+// many it activated, the bus words and a value. What a refused call tells is 0, and its state is as it was.
 pub struct Outcome {
     pub st: State,
     pub refusal: u8,
     pub served: u32,
+    pub woken: u32,
+    pub activated: u32,
     pub words: u32,
     pub value: u32,
 }
@@ -23,6 +26,8 @@ pub fn refused(st: State, refusal: u8) -> Outcome
         st,
         refusal,
         served: 0,
+        woken: 0,
+        activated: 0,
         words: 0,
         value: 0,
     }
@@ -36,6 +41,8 @@ pub fn kept(st: State, value: u32) -> Outcome
         st,
         refusal: 0,
         served: 0,
+        woken: 0,
+        activated: 0,
         words: 0,
         value,
     }
@@ -61,11 +68,15 @@ pub fn settle(rig: Rig, w: Work) -> Outcome
         &rig.activation,
     );
     let served = d.served;
+    let woken = d.woken;
+    let activated = d.activated;
     let st = d.st.dispatched(&rig.privileged, &rig.priority);
     Outcome {
         st,
         refusal: 0,
         served,
+        woken,
+        activated,
         words: 0,
         value: 0,
     }

@@ -14,7 +14,7 @@ answerFrom zero p = Accepted p
 answerFrom (suc n) p = Refused (suc n)
 
 abbrev pub reportFrom : Outcome → Report
-reportFrom o = record { served = o .served; words = o .words; value = o .value }
+reportFrom o = record { served = o .served; woken = o .woken; activated = o .activated; words = o .words; value = o .value }
 
 abbrev pub stepFrom : Exec → Outcome → Step
 stepFrom x o = record { exec = withState x (o .st); answer = answerFrom (o .refusal) (reportFrom o) }

@@ -10,7 +10,7 @@ use Rattle.rules.specs.Calls as R
 use Rattle.exec_outcome.specs.Outcome.{Tells}
 use Rattle.exec_outcome.specs.declared.Outcome.{Outcome}
 use Rattle.exec.specs.Sound.{rigIn, view, SoundRecord}
-use Rattle.exec.specs.Call.{Meets, ProperAnswer, answerOf, withState, refuse}
+use Rattle.exec.specs.Call.{Meets, ProperAnswer, reportOf, answerOf, withState, refuse}
 use Rattle.exec.specs.Laws.Made.{answerFrom, reportFrom, stepFrom}
 use Rattle.exec.specs.declared.Exec.{Exec}
 use Rattle.exec.specs.declared.Report.{Report}
@@ -27,7 +27,7 @@ refused-tells-nothing r s k = go (R.refusal r s k)
     go (suc n) z = refl
 
 -- the answer gives the number and what is told, where a number other than 0 tells nothing
-pub same-answer : (n : ℕ) (p : Report) (a : R.Answer) → record { code = n; report = record { served = p .served; words = p .words; value = p .value } } ≡ a
+pub same-answer : (n : ℕ) (p : Report) (a : R.Answer) → record { code = n; report = reportOf p } ≡ a
     → (a .code ≢ 0 → a .report ≡ R.nothing) → answerOf (answerFrom n p) ≡ a
 same-answer zero p a e f = e
 same-answer (suc n) p a e f =

@@ -84,7 +84,7 @@ module _ (x : Exec) (k : R.Call) (r : Step) (after : List ℕ) (m : Meets x k r 
 -- is "the lowest waking count among tasks waiting on time; none exactly when no task so waits"
 pub record Answered (x : Exec) (r : Step) : Type 0 where
   pub same : r .exec ≡ x
-  pub answer : answerOf (r .answer) ≡ record { code = 0; report = record { served = 0; words = 0; value = lowestWaking (view x) } }
+  pub answer : answerOf (r .answer) ≡ record { code = 0; report = R.valueOnly (lowestWaking (view x)) }
   pub lowest : LowestWaking (view x) (answerOf (r .answer) .report .value)
 
 pub asked : (x : Exec) (r : Step) (after : List ℕ) → Meets x R.nextWaking r after → SoundRecord x → Answered x r

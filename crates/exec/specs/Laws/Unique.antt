@@ -50,7 +50,13 @@ record-same x y a b g c e =
 
 pub report-same : (p q : Report) → answerOf (Accepted p) ≡ answerOf (Accepted q) → p ≡ q
 report-same p q e =
-    λ i. record { served = e i .report .served; words = e i .report .words; value = e i .report .value }
+    λ i. record {
+      served = e i .report .served;
+      woken = e i .report .woken;
+      activated = e i .report .activated;
+      words = e i .report .words;
+      value = e i .report .value;
+    }
 
 -- an answer's number and values fix it
 pub answer-same : (a b : Answer) → ProperAnswer a → ProperAnswer b → answerOf a ≡ answerOf b → a ≡ b

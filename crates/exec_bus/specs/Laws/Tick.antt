@@ -29,7 +29,7 @@ use Rattle.exec_sound.specs.Sound.{SoundParts}
 use Rattle.exec_refusals.specs.Rows.{tickRows}
 use Rattle.exec_outcome.specs.Outcome.{Tells}
 use Rattle.exec_outcome.specs.Laws.Meeting.{accepted-tells}
-use Rattle.exec_outcome.specs.Laws.Settling.{Settled, next-is, served-is}
+use Rattle.exec_outcome.specs.Laws.Settling.{Settled, next-is, told-is}
 use Rattle.exec_outcome.specs.declared.Outcome.{Outcome}
 
 -- the rows are as the bus words ask
@@ -81,18 +81,18 @@ module _ (g : Rig) (cycles : List Cycle) (s : State) (h : SoundParts g cycles s)
     unfolding R.effect
     ticked-work = m .is g
 
-    -- the bus words of the count that the tick made, their number told beside the flags served
+    -- the bus words of the count that the tick made, their number told beside what the serving came to
     pub tick-tells : 0 ≡ R.refusal (rigOf g cycles) (viewOf s) (R.tick buffer) → (o : Outcome) → Settled g w o → (n : ℕ) (after : List ℕ)
         → n ≡ length (busWords (g .rows) (g .master) (rowsOf (g .row)) (o .st .count))
         → after ≡ put buffer 0 (busWords (g .rows) (g .master) (rowsOf (g .row)) (o .st .count))
-        → Tells g cycles s (R.tick buffer) (record { st = o .st; refusal = o .refusal; served = o .served; words = n; value = o .value }) after
+        → Tells g cycles s (R.tick buffer) (record { st = o .st; refusal = o .refusal; served = o .served; woken = o .woken; activated = o .activated; words = n; value = o .value }) after
     unfolding R.accepted R.output R.wordsAt
     tick-tells e o k n after f b =
         let q = next-is g cycles s h (R.tick buffer) tt e w ticked-work o k in
         let c : o .st .count ≡ R.accepted (rigOf g cycles) (viewOf s) (R.tick buffer) .next .count = ap (λ (v : S.State). v .count) q in
         let ws : ℕ → List ℕ = busWords (g .rows) (g .master) (rowsOf (g .row)) in
         let u : n ≡ length (ws (R.accepted (rigOf g cycles) (viewOf s) (R.tick buffer) .next .count)) = f ∙ ap (λ (a : ℕ). length (ws a)) c in
-        let v = served-is g cycles s h (R.tick buffer) tt e w ticked-work o k in
-        accepted-tells g cycles s (R.tick buffer) h tt e (record { st = o .st; refusal = o .refusal; served = o .served; words = n; value = o .value }) after (k .accepted) q
-        (λ i. record { served = v i; words = u i; value = k .value i })
+        let t = told-is g cycles s h (R.tick buffer) tt e w ticked-work o k in
+        accepted-tells g cycles s (R.tick buffer) h tt e (record { st = o .st; refusal = o .refusal; served = o .served; woken = o .woken; activated = o .activated; words = n; value = o .value }) after (k .accepted) q
+        (λ i. record { served = t i .served; woken = t i .woken; activated = t i .activated; words = u i; value = t i .value })
         (b ∙ ap (λ (a : ℕ). put buffer 0 (ws a)) c) (k .sound) (k .sized)

@@ -16,7 +16,7 @@ use Rattle.rules.specs.Proper as P
 use Rattle.rules.specs.Soundness as Rules
 use Rattle.rules_laws.specs.Acceptance.{passed}
 use Rattle.rules_laws.specs.Refusals.{decide-here, decide-next}
-use Rattle.rules.specs.Serving.{serve}
+use Rattle.rules.specs.Serving.{unserved, serve}
 use Rattle.rules_laws.specs.Serve.{serve-nil}
 use Rattle.rules.specs.Running.{dispatch}
 use Rattle.rules_laws.specs.Steps.{accepted-sound, dispatch-same}
@@ -100,16 +100,12 @@ module _ (g : Rig) (cycles : List Cycle) (s : State) (sound : Bool) (is : (sound
 -- ---- calls that leave the state as it is
 
 module _ (g : Rig) (cycles : List Cycle) (s : State) (k : R.Call) (h : SoundParts g cycles s) (q : R.effect (rigOf g cycles) (viewOf s) k ≡ R.quiet (viewOf s)) where
-  quiet-served : serve (rigOf g cycles) (R.effect (rigOf g cycles) (viewOf s) k) ≡ record { now = viewOf s; served = 0 }
+  quiet-served : serve (rigOf g cycles) (R.effect (rigOf g cycles) (viewOf s) k) ≡ unserved (viewOf s)
   quiet-served = ap (serve (rigOf g cycles)) q ∙ serve-nil (rigOf g cycles) (viewOf s)
 
   stays : viewOf s ≡ R.accepted (rigOf g cycles) (viewOf s) k .next
   unfolding R.accepted
   stays = sym (ap (λ (d : S.Done). dispatch (rigOf g cycles) (d .now)) quiet-served ∙ dispatch-same (rigOf g cycles) (viewOf s) (h .state))
-
-  none-served : 0 ≡ R.accepted (rigOf g cycles) (viewOf s) k .answer .report .served
-  unfolding R.accepted
-  none-served = sym (ap (λ (d : S.Done). d .served) quiet-served)
 
   -- the state as it was, and what the call puts out
   pub kept-tells : P.Proper k → 0 ≡ R.refusal (rigOf g cycles) (viewOf s) k → (v : ℕ) (o : Outcome) → o ≡ keptWith s v → (after : List ℕ)
@@ -121,10 +117,10 @@ module _ (g : Rig) (cycles : List Cycle) (s : State) (k : R.Call) (h : SoundPart
       ap (λ (w : S.State). R.output (rigOf g cycles) w k) (sym stays) ∙ e in
       rw f
       (accepted-tells g cycles s k h p z (keptWith s v) after refl stays
-      (λ i. record { served = none-served i; words = sym u i .words; value = sym u i .value })
+      (λ i. R.reported (sym quiet-served i) (sym u i .words) (sym u i .value))
       (λ i. sym u i .lent) (h .links) (h .sized))
 
--- ---- calls that answer only the number of flags served, and lend nothing
+-- ---- calls that answer only what the serving came to, and lend nothing
 
 abbrev pub Silent : R.Call → Type 0
 Silent (R.schedule t) = Unit {0}

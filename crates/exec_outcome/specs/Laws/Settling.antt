@@ -34,7 +34,7 @@ use Rattle.exec_serving.specs.declared.Done.{Done}
 use Rattle.exec_sound.specs.Sound.{SoundParts}
 use Rattle.exec_sound.specs.Laws.RightRig.{rig-ok}
 use Rattle.exec_sound.specs.Laws.Check.{running-low}
-use Rattle.exec_outcome.specs.Outcome.{Tells}
+use Rattle.exec_outcome.specs.Outcome.{tellingOf, Tells}
 use Rattle.exec_outcome.specs.Laws.Meeting.{accepted-tells, Silent, silent-output}
 use Rattle.exec_outcome.specs.declared.Outcome.{Outcome}
 
@@ -43,13 +43,11 @@ pub record Settles (g : Rig) (w : Work) : Type 0 where
   pub begins : Begins (g .lines) (g .lineTask) (g .linePos) (g .activation) (w .st) (w .queue)
   pub low : w .st .running ≤ 64
 
--- what is given, with whatever cycles stand beside the rig: an accepted call that told nothing but the flags it served
+-- what is given, with whatever cycles stand beside the rig: an accepted call that told nothing but what the serving came to
 pub record Settled (g : Rig) (w : Work) (o : Outcome) : Type 0 where
   pub now : (cycles : List Cycle) → viewOf (o .st) ≡ dispatch (rigOf g cycles) (serve (rigOf g cycles) (workOf (w .st) (w .queue)) .now)
-  pub served : (cycles : List Cycle) → o .served ≡ serve (rigOf g cycles) (workOf (w .st) (w .queue)) .served
+  pub told : (cycles : List Cycle) → tellingOf o ≡ R.reported (serve (rigOf g cycles) (workOf (w .st) (w .queue))) 0 0
   pub accepted : o .refusal ≡ 0
-  pub words : o .words ≡ 0
-  pub value : o .value ≡ 0
   pub sound : L.HoldsChains (o .st .links)
   pub sized : Sized (o .st .links)
 
@@ -59,14 +57,12 @@ settled-low g w h d e =
     omega (arith, ap (λ (y : S.Done). y .now .running) (e .is []), serve-running (rigOf g []) (workOf (w .st) (w .queue)), h .low)
 
 pub settled-is : (g : Rig) (w : Work) (d : Done) → Emptied g (w .st) (w .queue) d → (s : State) → Dispatched (d .st) g s
-    → Settled g w (record { st = s; refusal = 0; served = d .served; words = 0; value = 0 })
+    → Settled g w (record { st = s; refusal = 0; served = d .served; woken = d .woken; activated = d .activated; words = 0; value = 0 })
 settled-is g w d e s f =
     record {
       now = λ cycles. f .is cycles ∙ ap (λ (y : S.Done). dispatch (rigOf g cycles) (y .now)) (e .is cycles);
-      served = λ cycles. ap (λ (y : S.Done). y .served) (e .is cycles);
+      told = λ cycles. ap (λ (y : S.Done). R.reported y 0 0) (e .is cycles);
       accepted = refl;
-      words = refl;
-      value = refl;
       sound = subst L.HoldsChains (sym (f .links)) (e .sound);
       sized = f .sized;
     }
@@ -146,15 +142,14 @@ module _ (g : Rig) (cycles : List Cycle) (s : State) (h : SoundParts g cycles s)
     unfolding R.accepted
     next-is = m .now cycles ∙ ap (λ (y : S.Work). dispatch (rigOf g cycles) (serve (rigOf g cycles) y .now)) q
 
-    pub served-is : o .served ≡ R.accepted (rigOf g cycles) (viewOf s) k .answer .report .served
-    unfolding R.accepted
-    served-is = m .served cycles ∙ ap (λ (y : S.Work). serve (rigOf g cycles) y .served) q
+    pub told-is : tellingOf o ≡ R.reported (serve (rigOf g cycles) (R.effect (rigOf g cycles) (viewOf s) k)) 0 0
+    told-is = m .told cycles ∙ ap (λ (y : S.Work). R.reported (serve (rigOf g cycles) y) 0 0) q
 
-    -- a call that answers only the number of flags served, and writes nothing
+    -- a call that answers only what the serving came to, and writes nothing
     pub settled-tells : Silent k → Tells g cycles s k o []
     unfolding R.accepted
     settled-tells z =
         let n = silent-output (rigOf g cycles) (R.accepted (rigOf g cycles) (viewOf s) k .next) k z in
         accepted-tells g cycles s k h p e o [] (m .accepted) next-is
-        (λ i. record { served = served-is i; words = (m .words ∙ ap (λ (y : R.Output). y .words) (sym n)) i; value = (m .value ∙ ap (λ (y : R.Output). y .value) (sym n)) i })
+        (told-is ∙ ap (λ (y : R.Output). R.reported (serve (rigOf g cycles) (R.effect (rigOf g cycles) (viewOf s) k)) (y .words) (y .value)) (sym n))
         (λ i. sym n i .lent) (m .sound) (m .sized)

@@ -24,14 +24,14 @@ use Rattle.exec_state.specs.declared.State.{State}
 use Rattle.exec_state.specs.declared.Work.{Work}
 use Rattle.exec_sound.specs.Sound.{SoundParts}
 use Rattle.exec_sound.specs.Laws.RightRig.{rig-ok}
-use Rattle.exec_outcome.specs.Outcome.{answerIn}
+use Rattle.exec_outcome.specs.Outcome.{tellingOf, answerIn}
 use Rattle.exec_outcome.specs.Laws.Settling.{Settles, Settled, fits, servable, effect-low}
 use Rattle.exec_outcome.specs.declared.Outcome.{Outcome}
 
--- the rules' start: the state that the record shows, the flags served; the record is sound
+-- the rules' start: the state that the record shows, what the serving came to; the record is sound
 pub record Began (g : Rig) (cycles : List Cycle) (o : Outcome) : Type 0 where
   pub next : viewOf (o .st) ≡ R.start (rigOf g cycles)
-  pub answer : answerIn o ≡ record { code = 0; report = record { served = R.started (rigOf g cycles) .served; words = 0; value = 0 } }
+  pub answer : answerIn o ≡ record { code = 0; report = R.reported (R.started (rigOf g cycles)) 0 0 }
   pub sound : SoundParts g cycles (o .st)
 
 -- or 4 where the rig breaks a rule
@@ -70,10 +70,10 @@ module _ (g : Rig) (cycles : List Cycle) (h : Right g cycles) (s : State) (b : B
   began-is o k =
       let e : viewOf (o .st) ≡ R.start (rigOf g cycles) =
       k .now cycles ∙ ap (λ (y : S.Work). dispatch (rigOf g cycles) (serve (rigOf g cycles) y .now)) start-work in
-      let n : o .served ≡ R.started (rigOf g cycles) .served = k .served cycles ∙ ap (λ (y : S.Work). serve (rigOf g cycles) y .served) start-work in
+      let t : tellingOf o ≡ R.reported (R.started (rigOf g cycles)) 0 0 = k .told cycles ∙ ap (λ (y : S.Work). R.reported (serve (rigOf g cycles) y) 0 0) start-work in
       record {
         next = e;
-        answer = λ i. record { code = k .accepted i; report = record { served = n i; words = k .words i; value = k .value i } };
+        answer = λ i. record { code = k .accepted i; report = t i };
         sound =
             record {
               rig = h;
