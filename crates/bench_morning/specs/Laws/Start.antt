@@ -12,7 +12,6 @@ use Rattle.rig.specs.Rules.{Right}
 use Rattle.rig.specs.Forms.{cyclesOf, tableOf}
 use Rattle.rig.specs.Laws.Forms.{cycles-of-table}
 use Rattle.rig.specs.declared.Cycle.{Cycle}
-use Rattle.rules.specs.State as S
 use Rattle.rules.specs.Calls as R
 use Rattle.exec_state.specs.View.{rigOf}
 use Rattle.exec.specs.Call.{reportOf, answerOf, ProperAnswer}
