@@ -29,18 +29,19 @@ morningScript = map bytes ("S\t2" ∷ "S\t3" ∷ "K" ∷ "K" ∷ "K" ∷ "K" ∷
 unfoldable pub morningInput : List ℕ
 morningInput = bytes (rigText ++ "RUN\n" ++ "S\t2\n" ++ "S\t3\n" ++ "K\n" ++ "K\n" ++ "K\n" ++ "K\n" ++ "F\n" ++ "R\t2\n" ++ "K\n" ++ "K\n")
 
--- "Whole output"
+-- "Whole output", with woken and activated behind the running task (L2). The flag 1 of cycle 4 activates task 2, and task 2's activation flag 3
+-- activates task 3; nobody waits on a flag.
 unfoldable pub morningOutput : List ℕ
 morningOutput =
     bytes
-    ("START\t0\t0\t1\n"
-    ++ "S\t0\t0\t1\n"
-    ++ "S\t0\t0\t1\n"
-    ++ "K\t0\t1\t1\n"
-    ++ "K\t0\t2\t1\t14400\n"
-    ++ "K\t0\t3\t1\n"
-    ++ "K\t0\t4\t2\t14400\n"
-    ++ "F\t0\t4\t3\n"
-    ++ "R\t0\t4\t1\n"
-    ++ "K\t0\t5\t1\n"
-    ++ "K\t0\t6\t3\t14400\n")
+    ("START\t0\t0\t1\t0\t0\n"
+    ++ "S\t0\t0\t1\t0\t0\n"
+    ++ "S\t0\t0\t1\t0\t0\n"
+    ++ "K\t0\t1\t1\t0\t0\n"
+    ++ "K\t0\t2\t1\t0\t0\t14400\n"
+    ++ "K\t0\t3\t1\t0\t0\n"
+    ++ "K\t0\t4\t2\t0\t2\t14400\n"
+    ++ "F\t0\t4\t3\t0\t0\n"
+    ++ "R\t0\t4\t1\t0\t0\n"
+    ++ "K\t0\t5\t1\t0\t0\n"
+    ++ "K\t0\t6\t3\t0\t0\t14400\n")
