@@ -75,14 +75,7 @@ pub fn start(rig: Rig, cycles: [[u8; CYCLE_FLAGS]; CYCLES]) -> Step
 {
     let rows = rig::cycles_of(cycles);
     let o = exec_tasks::start(rig, rows);
-    let answer = answers::answer_of(
-        o.refusal,
-        o.served,
-        o.woken,
-        o.activated,
-        o.words,
-        o.value,
-    );
+    let answer = answers::answer_of(o.refusal, o.served, o.woken, o.activated, o.words, o.value);
     if o.refusal != 0 {
         return Step {
             exec: none(),

@@ -26,7 +26,7 @@ pub fn refused(st: State, refusal: u8) -> Outcome
         st,
         refusal,
         served: 0,
-        woken: 0,
+        woken: 0, // "a refusal shows 0 and 0"
         activated: 0,
         words: 0,
         value: 0,

@@ -14,11 +14,11 @@ record-size = refl
 pub record-align : align record-laws.mir ≡ recordAlign
 record-align = refl
 
-pub reply-size : size reply-laws.mir ≡ 28
+pub reply-size : size reply-laws.mir ≡ 36
 reply-size = refl
 
 pub reply-align : align reply-laws.mir ≡ 4
 reply-align = refl
 
-pub reply-fields : offsets reply-laws.mir 0 7 ≡ 0 ∷ 4 ∷ 8 ∷ 12 ∷ 16 ∷ 20 ∷ 24 ∷ []
+pub reply-fields : offsets reply-laws.mir 0 9 ≡ 0 ∷ 4 ∷ 8 ∷ 12 ∷ 16 ∷ 20 ∷ 24 ∷ 28 ∷ 32 ∷ []
 reply-fields = refl

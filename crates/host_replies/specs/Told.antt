@@ -26,6 +26,8 @@ replyOf a count running =
       value = answerOf a .report .value;
       count = count;
       running = running;
+      woken = answerOf a .report .woken;
+      activated = answerOf a .report .activated;
     }
 
 -- a step as a host has it: the record, and the reply with the count and the running task of that record
@@ -53,7 +55,7 @@ abbrev pub refusedFile : ℕ → ℕ → Coded
 refusedFile number place =
     record {
       exec = noExec;
-      reply = record { refusal = number; line = place; served = 0; words = 0; value = 0; count = 0; running = 0 };
+      reply = record { refusal = number; line = place; served = 0; words = 0; value = 0; count = 0; running = 0; woken = 0; activated = 0 };
     }
 
 -- a start from a rig file: what reading the file answers decides

@@ -18,6 +18,8 @@ fn reply_of(a: Answer, count: u32, running: u32) -> Reply
             value: p.value,
             count,
             running,
+            woken: p.woken,
+            activated: p.activated,
         },
         Answer::Refused(n) => Reply {
             refusal: n as u32,
@@ -27,6 +29,8 @@ fn reply_of(a: Answer, count: u32, running: u32) -> Reply
             value: 0,
             count,
             running,
+            woken: 0,
+            activated: 0,
         },
     }
 }

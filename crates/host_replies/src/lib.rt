@@ -8,7 +8,8 @@ use exec::Exec;
 pub use starting::start;
 
 // An answer in numbers, which C has by value: the refusal (0 accepted), the rig file's line, flags served, bus words, a
-// flag's value, and the count and the running task of the record after the call.
+// flag's value, the count and the running task of the record after the call, and how many waiting tasks the services made
+// dispatchable and how many they activated.
 #[repr(C)]
 pub struct Reply {
     pub refusal: u32,
@@ -18,6 +19,8 @@ pub struct Reply {
     pub value: u32,
     pub count: u32,
     pub running: u32,
+    pub woken: u32,
+    pub activated: u32,
 }
 
 // The record after a call, and the reply.

@@ -16,6 +16,8 @@ fn refused(number: u32, line: u32) -> Coded
         value: 0,
         count: 0,
         running: 0,
+        woken: 0,
+        activated: 0,
     };
     Coded { exec, reply }
 }

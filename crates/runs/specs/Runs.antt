@@ -14,12 +14,19 @@ use Rattle.exec.specs.Starting.{Starts}
 use Rattle.exec.specs.declared.Exec.{Exec}
 use Rattle.exec.specs.declared.Step.{Step}
 
--- what a step answers: 0 accepted, else the refusal's number; "the number of flags it served"
+-- what a step answers: 0 accepted, else the refusal's number; "the number of flags it served"; L2: "how many waiting tasks it made
+-- dispatchable and how many it activated"
 abbrev pub codeOf : Step → ℕ
 codeOf r = answerOf (r .answer) .code
 
 abbrev pub servedOf : Step → ℕ
 servedOf r = answerOf (r .answer) .report .served
+
+abbrev pub wokenOf : Step → ℕ
+wokenOf r = answerOf (r .answer) .report .woken
+
+abbrev pub activatedOf : Step → ℕ
+activatedOf r = answerOf (r .answer) .report .activated
 
 -- the number that a question is answered by
 abbrev pub toldBy : Step → ℕ

@@ -28,6 +28,8 @@ numbersOf s =
       value = s .answer .report .value;
       count = s .next .count;
       running = s .next .running;
+      woken = s .answer .report .woken;
+      activated = s .answer .report .activated;
     }
 
 module _ (x : Exec) (k : R.Call) (r : Coded) (after : List ℕ) (p : Replies x k r after) where
