@@ -29,8 +29,8 @@ morningScript = map bytes ("S\t2" ∷ "S\t3" ∷ "K" ∷ "K" ∷ "K" ∷ "K" ∷
 unfoldable pub morningInput : List ℕ
 morningInput = bytes (rigText ++ "RUN\n" ++ "S\t2\n" ++ "S\t3\n" ++ "K\n" ++ "K\n" ++ "K\n" ++ "K\n" ++ "F\n" ++ "R\t2\n" ++ "K\n" ++ "K\n")
 
--- "Whole output", with woken and activated behind the running task (L2). The flag 1 of cycle 4 activates task 2, and task 2's activation flag 3
--- activates task 3; nobody waits on a flag.
+-- "Whole output", and behind the running task woken and activated (L2): the tick that makes the count 4 serves flag 1, which activates task 2,
+-- and then task 2's activation flag, which activates task 3. No other call serves a flag that wakes or activates anybody.
 unfoldable pub morningOutput : List ℕ
 morningOutput =
     bytes
