@@ -23,12 +23,13 @@ use Rattle.bench_turn.specs.Turn.{turnText, turnNext}
 abbrev pub fileRig : Answer → G.Rig
 fileRig a = rigOf (a .rig) (a .cycles)
 
+-- the columns of every answer, of a start: 0, the count, the running task, and L2's numbers "after the running task wherever it prints that"
+abbrev pub startColumns : G.Rig → List ℕ
+startColumns r = 0 ∷ R.start r .count ∷ R.start r .running ∷ R.started r .woken ∷ R.started r .activated ∷ []
+
 -- "A refused rig prints START, number, line"; an accepted one START with the columns of every answer
 unfoldable pub startText : Answer → List ℕ
-startText a =
-    cond (eqb (a .no) 0)
-    (lineText startName (0 ∷ R.start (fileRig a) .count ∷ R.start (fileRig a) .running ∷ []))
-    (lineText startName (a .no ∷ a .line ∷ []))
+startText a = cond (eqb (a .no) 0) (lineText startName (startColumns (fileRig a))) (lineText startName (a .no ∷ a .line ∷ []))
 
 -- "then script lines": each piece that an LF ends has its turn, one after the other; the last piece has none behind it
 unfoldable pub talkText : Bool → G.Rig → S.State → List (List ℕ) → List ℕ

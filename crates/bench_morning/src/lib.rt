@@ -106,7 +106,8 @@ pub fn start(panel: bool, text: &[u8], out: &mut [u8]) -> Started
         return refused(BROKEN_RULE, 0, out);
     };
     let exec = s.exec;
-    let n = bench_script::put_started(out, exec.st.count, exec.st.running as u32);
+    let running = exec.st.running as u32;
+    let n = bench_script::put_started(out, exec.st.count, running, report.woken, report.activated);
     Started {
         stream: behind(panel, Phase::Talking, exec),
         wrote: n,

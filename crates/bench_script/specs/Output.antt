@@ -1,5 +1,5 @@
 -- AN OUTPUT LINE: "prints verb, answer (0 accepted), count, running task (0 none), then, if accepted, bus words or the
--- flag's value, tab-parted".
+-- flag's value, tab-parted". L2, of woken and activated: "The runner prints both after the running task wherever it prints that".
 use Prim.Native.Nat.{ℕ}
 use mathlib.Core.Bool.{cond}
 use mathlib.Core.List.{List, [], _∷_, _++_, map}

@@ -17,10 +17,10 @@ pub const TAB: u8 = b'\t';
 // The letters of START.
 const NAME: usize = 5;
 
-// The line START has at most 5 letters, three fields of 11 bytes and LF.
+// The line START has at most 5 letters, five fields of 11 bytes and LF.
 pub const START_ROOM: usize = 64;
 
-// A turn's line has at most a letter, 131 fields of 11 bytes (a tick's 128 words among them) and LF.
+// A turn's line has at most a letter, 133 fields of 11 bytes (a tick's 128 words among them) and LF.
 pub const TURN_ROOM: usize = 2048;
 
 // What a script line says: a call with its numbers, a question of the panel, or nothing that a script line may say.
@@ -83,14 +83,24 @@ pub fn put_words(out: &mut [u8], at: usize, words: &[u16]) -> usize
     p
 }
 
-// The numbers that every answer has: the answer's own, the count, the running task.
-pub fn put_answer(out: &mut [u8], at: usize, code: u32, count: u32, running: u32) -> usize
-    requires { ⌜ at + 3 * fieldRoom ≤ length (now out) ⌝ }
-    ensures { λ r. ⌜ Wrote (now (out .entry)) at (fieldsText (code ∷ count ∷ running ∷ [])) (now (out .exit)) r ⌝ }
+// The numbers that every answer has: the answer's own, the count, the running task, and behind it how many tasks the call woke and activated.
+pub fn put_answer(
+    out: &mut [u8],
+    at: usize,
+    code: u32,
+    count: u32,
+    running: u32,
+    woken: u32,
+    activated: u32,
+) -> usize
+    requires { ⌜ at + 5 * fieldRoom ≤ length (now out) ⌝ }
+    ensures { λ r. ⌜ Wrote (now (out .entry)) at (fieldsText (code ∷ count ∷ running ∷ woken ∷ activated ∷ [])) (now (out .exit)) r ⌝ }
 {
     let b = put_field(&mut *out, at, code);
     let c = put_field(&mut *out, b, count);
-    put_field(out, c, running)
+    let d = put_field(&mut *out, c, running);
+    let e = put_field(&mut *out, d, woken);
+    put_field(out, e, activated)
 }
 
 // A turn may be taken only where there is room for any turn's line.
@@ -119,15 +129,16 @@ fn put_name(out: &mut [u8])
     put_text::put_text(out, 0, b"START");
 }
 
-// The first output line of an accepted rig: 0, the count, the running task. It needs 64 bytes; with fewer nothing is written.
-pub fn put_started(out: &mut [u8], count: u32, running: u32) -> usize
-    ensures { λ r. ⌜ Begun (now (out .entry)) (0 ∷ count ∷ running ∷ []) (now (out .exit)) r ⌝ }
+// The first output line of an accepted rig: 0, the count, the running task, the tasks woken and activated. It needs 64 bytes; with fewer nothing is
+// written.
+pub fn put_started(out: &mut [u8], count: u32, running: u32, woken: u32, activated: u32) -> usize
+    ensures { λ r. ⌜ Begun (now (out .entry)) (0 ∷ count ∷ running ∷ woken ∷ activated ∷ []) (now (out .exit)) r ⌝ }
 {
     if out.len() < START_ROOM {
         return 0;
     }
     put_name(&mut *out);
-    let p = put_answer(&mut *out, NAME, 0, count, running);
+    let p = put_answer(&mut *out, NAME, 0, count, running, woken, activated);
     out[p] = LF;
     p + 1
 }

@@ -1,7 +1,8 @@
 -- AN ANSWER'S LINE: "prints verb, answer (0 accepted), count, running task (0 none), then, if accepted, bus words or the flag's value,
--- tab-parted"; and what the panel's verbs print behind the usual columns.
+-- tab-parted"; L2: "The runner prints both", woken and activated, "after the running task wherever it prints that"; and what the panel's
+-- verbs print behind the usual columns.
 use mathlib.Core.Bool.{cond}
-use mathlib.Core.List.{List, [], _∷_}
+use mathlib.Core.List.{List, [], _∷_, _++_}
 use Prim.Native.Nat.{ℕ}
 use lib.Dec.{eqb}
 use lib.ListN.{take}
@@ -25,9 +26,14 @@ extra verb report words =
     (cond (eqb verb askVerb) (report .value ∷ [])
     (cond (eqb verb nextWakingVerb) (ifAny (report .value)) []))
 
--- "answer (0 accepted), count, running task (0 none), then, if accepted", what the call put out
+-- the numbers that every answer has: "answer (0 accepted), count, running task (0 none)", woken and activated. A refused answer's report is
+-- `nothing`: "a refusal shows 0 and 0".
+abbrev pub columns : R.Answer → ℕ → ℕ → List ℕ
+columns a count running = a .code ∷ count ∷ running ∷ a .report .woken ∷ a .report .activated ∷ []
+
+-- "then, if accepted", what the call put out
 unfoldable pub numbersOf : ℕ → R.Answer → ℕ → ℕ → List ℕ → List ℕ
-numbersOf verb a count running words = a .code ∷ count ∷ running ∷ cond (eqb (a .code) 0) (extra verb (a .report) words) []
+numbersOf verb a count running words = columns a count running ++ cond (eqb (a .code) 0) (extra verb (a .report) words) []
 
 unfoldable pub textOf : ℕ → R.Answer → ℕ → ℕ → List ℕ → List ℕ
 textOf verb a count running words = lineText (verb ∷ []) (numbersOf verb a count running words)

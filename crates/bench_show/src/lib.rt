@@ -43,7 +43,23 @@ fn number_of(a: Answer) -> u32
     }
 }
 
-// An accepted answer's line goes on with what the call put out; a refused one ends behind the running task.
+// What an answer tells: "a refusal shows 0 and 0".
+fn report_of(a: Answer) -> Report
+    ensures { λ r. ⌜ reportOf r ≡ answerOf a .report ⌝ }
+{
+    match a {
+        Answer::Accepted(report) => report,
+        Answer::Refused(n) => Report {
+            served: 0,
+            woken: 0,
+            activated: 0,
+            words: 0,
+            value: 0,
+        },
+    }
+}
+
+// An accepted answer's line goes on with what the call put out; a refused one ends behind the tasks woken and activated.
 pub fn show(
     verb: u8,
     answer: Answer,
@@ -57,9 +73,10 @@ pub fn show(
     ensures { λ r. ⌜ Wrote (now (out .entry)) at (textOf verb (answerOf answer) count running (now (words .entry))) (now (out .exit)) r ⌝ }
 {
     let n = number_of(answer);
+    let told = report_of(answer);
     let a = at + 1;
     out[at] = verb;
-    let p = bench_script::put_answer(&mut *out, a, n, count, running);
+    let p = bench_script::put_answer(&mut *out, a, n, count, running, told.woken, told.activated);
     let Answer::Accepted(report) = answer else {
         out[p] = bench_script::LF;
         return p + 1;

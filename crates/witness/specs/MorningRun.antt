@@ -2,6 +2,7 @@
 -- what is printed of it is the paper's whole output, byte for byte. Task 3 waits by `R 2` and wakes as the waking clause says.
 use mathlib.Core.Path.{_≡_, refl, sym, _∙_, ap, subst}
 use mathlib.Core.Bool.{false}
+use mathlib.Core.Logic.{inl}
 use mathlib.Core.List.{List, [], _∷_, _++_, map}
 use Prim.Native.Nat.{ℕ, _+_}
 use lib.ListN.{length, take, drop}
@@ -19,7 +20,7 @@ use Rattle.rules.specs.Rig as G
 use Rattle.rules.specs.State as S
 use Rattle.rules.specs.State.{blank}
 use Rattle.rules.specs.Conditions.{relax, met, drive, names}
-use Rattle.rules.specs.Serving.{activate, takes, rouse, wake, ready, offer, offers, serveFlag, serving, serve}
+use Rattle.rules.specs.Serving.{activate, takes, rouse, wake, ready, offer, offers, serveFlag, made, serving, serve}
 use Rattle.rules.specs.Waiting.{waitOn, waitUntilCount, leave, wakeDue}
 use Rattle.rules.specs.Family.{family, cleared, deserted, offs}
 use Rattle.rules.specs.Running.{best, chosen, dispatch}
@@ -33,6 +34,7 @@ use Rattle.exec_state.specs.View.{rigOf}
 use Rattle.exec.specs.Call.{answerOf}
 use Rattle.exec.specs.Sound.{view}
 use Rattle.exec_sound.specs.Laws.RightRig.{rig-ok}
+use Rattle.exec.specs.Starting.{Starts}
 use Rattle.exec.specs.Laws.Starting.{starts-same}
 use Rattle.exec.specs.declared.Exec.{Exec}
 use Rattle.exec.specs.declared.Step.{Step}
@@ -44,12 +46,13 @@ use Rattle.bench_script.specs.Script as C
 use Rattle.bench_script.specs.Script.{saidOf}
 use Rattle.bench_script.specs.Output.{fieldsText, lineText}
 use Rattle.bench_script.specs.Letters.{startName}
-use Rattle.bench_show.specs.Shown.{extra, numbersOf, textOf}
+use Rattle.bench_show.specs.Shown.{extra, columns, numbersOf, textOf}
 use Rattle.bench_turn.specs.Turn as U
 use Rattle.bench_turn.specs.Turn.{letterOf, askedBy, answerText}
+use Rattle.bench_morning.specs.Morning.{startColumns}
 use Rattle.witness.specs.Text.{bytes, lf}
 use Rattle.witness.specs.CodeRig.{codeTable, codeCycles}
-use Rattle.witness.specs.Records.{recordOf, answerBy, runOf, calls-of, record-shows, ran, start-exists, run-same}
+use Rattle.witness.specs.Records.{recordOf, answerBy, begunOf, runOf, calls-of, record-shows, started, ran, start-exists, run-same}
 use Rattle.witness.specs.MorningText.{morningFile, morningScript, morningInput, morningOutput}
 use Rattle.witness.specs.RightRigs.{morningRig, morning-right}
 use Rattle.witness.specs.Morning.{morning-rig}
@@ -79,9 +82,9 @@ printed [] ms = []
 printed (l ∷ ls) [] = []
 printed (l ∷ ls) (m ∷ ms) = answerText (letterOf (saidOf false l)) (m .step) (m .after) ++ printed ls ms
 
--- "START", 0 accepted, count and running task of the record that the start gave
-abbrev pub startText : Exec → List ℕ
-startText x = lineText startName (0 ∷ x .st .count ∷ x .st .running ∷ [])
+-- "START", 0 accepted, count and running task of the record that the start gave, and what its answer tells
+abbrev pub startText : Step → List ℕ
+startText b = lineText startName (columns (answerOf (b .answer)) (b .exec .st .count) (b .exec .st .running))
 
 -- the same, by the rules alone
 abbrev ruled : List (List ℕ) → G.Rig → S.State → List R.Call → List ℕ
@@ -102,10 +105,10 @@ printed-ruled g cycles (l ∷ ls) s (k ∷ ks) =
     (printed-ruled g cycles ls (p .next) ks)
 
 abbrev startRuled : G.Rig → List ℕ
-startRuled r = lineText startName (0 ∷ R.start r .count ∷ R.start r .running ∷ [])
+startRuled r = lineText startName (startColumns r)
 
 output-ruled : startRuled bench ++ ruled morningScript bench (R.start bench) morningCalls ≡ morningOutput
-unfolding bytes morningScript morningOutput bench morningCalls rig ofTask ofCondition numbers ofLine ofCycle tick₀ iter all any total over put commandWord blank relax met drive names activate takes rouse wake ready offer offers serveFlag serving serve waitOn waitUntilCount leave wakeDue family cleared deserted offs best chosen dispatch written copied rowWords busWords R.scheduled R.finished R.terminated R.cancelled R.cycleQueue R.ticked R.effect R.decide R.noSuch R.inCycle R.isMinor R.isActivation R.lastCount R.wrongBlock R.refusals R.refusal R.wordsAt R.lent R.output R.accepted R.after R.step R.run R.started R.start saidOf C.fieldsSay C.verbOf C.alone C.withNumber C.withValue split onHead led D.readByte D.readOn D.decBy D.dec fieldsText lineText extra numbersOf textOf
+unfolding bytes morningScript morningOutput bench morningCalls rig ofTask ofCondition numbers ofLine ofCycle tick₀ iter all any total over put commandWord blank relax met drive names activate takes rouse wake ready offer offers serveFlag made serving serve waitOn waitUntilCount leave wakeDue family cleared deserted offs best chosen dispatch written copied rowWords busWords R.scheduled R.finished R.terminated R.cancelled R.cycleQueue R.ticked R.effect R.decide R.noSuch R.inCycle R.isMinor R.isActivation R.lastCount R.wrongBlock R.refusals R.refusal R.wordsAt R.lent R.output R.accepted R.after R.step R.run R.started R.start saidOf C.fieldsSay C.verbOf C.alone C.withNumber C.withValue split onHead led D.readByte D.readOn D.decBy D.dec fieldsText lineText extra numbersOf textOf
 output-ruled = refl
 
 -- ---- THE RUN: there is one, and it prints the paper's output
@@ -117,6 +120,9 @@ seen = rigOf morningRig (codeCycles bench)
 -- the record that shows a state of it
 abbrev pub shownBy : S.State → Exec
 shownBy s = recordOf morningRig (codeCycles bench) s
+
+unfoldable pub morningBegun : Step
+morningBegun = begunOf morningRig (codeCycles bench)
 
 unfoldable pub morningStart : Exec
 morningStart = shownBy (R.start (rigOf morningRig (codeCycles bench)))
@@ -134,6 +140,10 @@ proper = (tt, (tt, (tt, (tt, (tt, (tt, (tt, (tt, (tt, (tt, tt))))))))))
 start-is : Rules.Sound seen (R.start seen)
 start-is = start-sound seen (rig-ok morningRig (codeCycles bench) morning-right)
 
+morning-begins : Starts morningRig (codeTable bench) morningBegun
+unfolding morningBegun
+morning-begins = record { is = inl (morning-right, started morningRig (codeCycles bench) morning-right) }
+
 pub morning-starts : AcceptedStart morningRig (codeTable bench) morningStart
 unfolding morningStart
 morning-starts = start-exists morningRig (codeTable bench) morning-right
@@ -146,8 +156,8 @@ pub morning-calls : callsOf morningRun ≡ morningCalls
 unfolding morningRun
 morning-calls = calls-of morningRig (codeCycles bench) (R.start seen) morningCalls
 
-pub morning-prints : startText morningStart ++ printed morningScript morningRun ≡ morningOutput
-unfolding morningStart morningRun
+pub morning-prints : startText morningBegun ++ printed morningScript morningRun ≡ morningOutput
+unfolding morningBegun morningRun
 morning-prints =
     ap (λ (l : List ℕ). startRuled seen ++ l) (printed-ruled morningRig (codeCycles bench) morningScript (R.start seen) morningCalls)
     ∙ ap (λ (r : G.Rig). startRuled r ++ ruled morningScript r (R.start r) morningCalls) morning-rig
@@ -166,11 +176,12 @@ pub morning-demand : Demand morningStart morningRun morningEnd
 morning-demand = demand morningRig (codeTable bench) morningStart morning-starts morningRun morningEnd morning-ran
 
 -- whatever accepted start of that rig, and whatever run of those calls: they are these, and so they print the same
-pub morning-always : (x y : Exec) (ms : List Made) → AcceptedStart morningRig (codeTable bench) x → Ran x ms y → callsOf ms ≡ morningCalls
-    → startText x ++ printed morningScript ms ≡ morningOutput
+pub morning-always : (x y : Exec) (ms : List Made) (s : AcceptedStart morningRig (codeTable bench) x) → Ran x ms y → callsOf ms ≡ morningCalls
+    → startText (s .begun) ++ printed morningScript ms ≡ morningOutput
+unfolding morningBegun morningStart
 morning-always x y ms s p e =
-    let b = starts-same morningRig (codeTable bench) (s .begun) (morning-starts .begun) (s .starts) (morning-starts .starts) in
-    let f : x ≡ morningStart = sym (s .gave) ∙ ap (λ (t : Step). t .exec) b ∙ morning-starts .gave in
+    let b : s .begun ≡ morningBegun = starts-same morningRig (codeTable bench) (s .begun) morningBegun (s .starts) morning-begins in
+    let f : x ≡ morningStart = sym (s .gave) ∙ ap (λ (t : Step). t .exec) b in
     let q = subst (λ (z : Exec). Ran z ms y) f p in
     let g = run-same morningStart ms morningRun y morningEnd q morning-ran (e ∙ sym morning-calls) in
-    (λ i. startText (f i) ++ printed morningScript (g i)) ∙ morning-prints
+    (λ i. startText (b i) ++ printed morningScript (g i)) ∙ morning-prints

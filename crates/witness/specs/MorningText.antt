@@ -29,18 +29,19 @@ morningScript = map bytes ("S\t2" ∷ "S\t3" ∷ "K" ∷ "K" ∷ "K" ∷ "K" ∷
 unfoldable pub morningInput : List ℕ
 morningInput = bytes (rigText ++ "RUN\n" ++ "S\t2\n" ++ "S\t3\n" ++ "K\n" ++ "K\n" ++ "K\n" ++ "K\n" ++ "F\n" ++ "R\t2\n" ++ "K\n" ++ "K\n")
 
--- "Whole output"
+-- "Whole output", and behind the running task woken and activated (L2): the tick that makes the count 4 serves flag 1, which activates task 2,
+-- and then task 2's activation flag, which activates task 3. No other call serves a flag that wakes or activates anybody.
 unfoldable pub morningOutput : List ℕ
 morningOutput =
     bytes
-    ("START\t0\t0\t1\n"
-    ++ "S\t0\t0\t1\n"
-    ++ "S\t0\t0\t1\n"
-    ++ "K\t0\t1\t1\n"
-    ++ "K\t0\t2\t1\t14400\n"
-    ++ "K\t0\t3\t1\n"
-    ++ "K\t0\t4\t2\t14400\n"
-    ++ "F\t0\t4\t3\n"
-    ++ "R\t0\t4\t1\n"
-    ++ "K\t0\t5\t1\n"
-    ++ "K\t0\t6\t3\t14400\n")
+    ("START\t0\t0\t1\t0\t0\n"
+    ++ "S\t0\t0\t1\t0\t0\n"
+    ++ "S\t0\t0\t1\t0\t0\n"
+    ++ "K\t0\t1\t1\t0\t0\n"
+    ++ "K\t0\t2\t1\t0\t0\t14400\n"
+    ++ "K\t0\t3\t1\t0\t0\n"
+    ++ "K\t0\t4\t2\t0\t2\t14400\n"
+    ++ "F\t0\t4\t3\t0\t0\n"
+    ++ "R\t0\t4\t1\t0\t0\n"
+    ++ "K\t0\t5\t1\t0\t0\n"
+    ++ "K\t0\t6\t3\t0\t0\t14400\n")

@@ -33,7 +33,7 @@ use Rattle.exec.specs.Sound.{rigIn, view, SoundRecord}
 use Rattle.exec.specs.Call.{Follows, Meets, answerOf, refuse}
 use Rattle.exec.specs.Call as C
 use Rattle.exec_sound.specs.Laws.RightRig.{rig-ok}
-use Rattle.exec.specs.Starting.{Started, Starts, noExec, servedOnly, brokenRig}
+use Rattle.exec.specs.Starting.{Started, Starts, noExec, brokenRig}
 use Rattle.exec.specs.Laws.Unique.{record-same, meets-same}
 use Rattle.exec.specs.declared.Exec.{Exec}
 use Rattle.exec.specs.declared.Step.{Step}
@@ -64,7 +64,7 @@ abbrev pub recordOf : Rig → List Cycle → S.State → Exec
 recordOf g cycles s = record { rig = g; cycles = cycles; st = stateOf s }
 
 abbrev pub answerBy : ℕ → R.Report → Answer
-answerBy zero p = Accepted (record { served = p .served; words = p .words; value = p .value })
+answerBy zero p = Accepted (record { served = p .served; woken = p .woken; activated = p .activated; words = p .words; value = p .value })
 answerBy (suc n) p = Refused (suc n)
 
 abbrev pub stepOf : Rig → List Cycle → R.Step → Step
@@ -75,7 +75,7 @@ abbrev pub begunOf : Rig → List Cycle → Step
 begunOf g cycles =
     record {
       exec = recordOf g cycles (R.start (rigOf g cycles));
-      answer = answerBy 0 (servedOnly (R.started (rigOf g cycles) .served));
+      answer = answerBy 0 (R.reported (R.started (rigOf g cycles)) 0 0);
     }
 
 abbrev pub madeOf : Rig → List Cycle → S.State → R.Call → Made

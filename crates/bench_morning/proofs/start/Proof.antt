@@ -56,8 +56,8 @@ returns-2 c =
     let r = c .before .before .before .before .before .before .before .before .before .before .before .before .read in
     absurd (never-refused (s .panel) (s .text .now) (s .out .now) (s .out .now) (r .result) (r .ensures) (c .before .before .before .before .before .before .before .before .before .before .if1 .left) (c .before .before .before .before .before .before .before .table-of .result) (c .before .before .before .before .before .before .before .table-of .ensures) (c .before .before .before .before .before .before .start .result) (c .before .before .before .before .before .before .start .ensures) _ (c .before .before .before .before .enum-told .given .1))
 
-cast-put-started : tie.Need-cast-put-started
-cast-put-started c = search needs
+cast-running : tie.Need-cast-running
+cast-running c = search needs
 
 put-started-requires : tie.Need-put-started-requires
 put-started-requires c κs = search needs
@@ -73,7 +73,7 @@ returns-3 c =
     let s = c .before .before .before .before .before .before .before .before .before .before .before .before .before .before .before .before .before .before .before in
     let r = c .before .before .before .before .before .before .before .before .before .before .before .before .before .before .before .before .read in
     let w = c .before .before .before .put-started in
-    begins-accepted (s .args .panel) (s .args .text .now) (s .args .out .now) (w .last .0) (r .result) (r .ensures) (c .before .before .before .before .before .before .before .before .before .before .before .before .before .before .if1 .left) (c .before .before .before .before .before .before .before .before .before .before .before .table-of .result) (c .before .before .before .before .before .before .before .before .before .before .before .table-of .ensures) (c .before .before .before .before .before .before .before .before .before .before .start .result) (c .before .before .before .before .before .before .before .before .before .before .start .ensures) (record { stream = c .behind .result; wrote = w .result }) (s .pre) (c .behind .ensures) (w .ensures)
+    begins-accepted (s .args .panel) (s .args .text .now) (s .args .out .now) (w .last .0) (r .result) (r .ensures) (c .before .before .before .before .before .before .before .before .before .before .before .before .before .before .if1 .left) (c .before .before .before .before .before .before .before .before .before .before .before .table-of .result) (c .before .before .before .before .before .before .before .before .before .before .before .table-of .ensures) (c .before .before .before .before .before .before .before .before .before .before .start .result) (c .before .before .before .before .before .before .before .before .before .before .start .ensures) _ (c .before .before .before .before .before .before .before .before .answer .given .1) (record { stream = c .behind .result; wrote = w .result }) (s .pre) (c .behind .ensures) (w .ensures)
 
 pub start-spec : {M : Type 1} → statement M
 start-spec =
@@ -92,7 +92,7 @@ start-spec =
     refused-requires-2
     same-length-2
     returns-2
-    cast-put-started
+    cast-running
     put-started-requires
     behind-requires
     same-length-3

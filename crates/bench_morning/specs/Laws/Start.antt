@@ -12,14 +12,14 @@ use Rattle.rig.specs.Rules.{Right}
 use Rattle.rig.specs.Forms.{cyclesOf, tableOf}
 use Rattle.rig.specs.Laws.Forms.{cycles-of-table}
 use Rattle.rig.specs.declared.Cycle.{Cycle}
-use Rattle.rules.specs.State as S
 use Rattle.rules.specs.Calls as R
 use Rattle.exec_state.specs.View.{rigOf}
-use Rattle.exec.specs.Call.{answerOf, ProperAnswer}
+use Rattle.exec.specs.Call.{reportOf, answerOf, ProperAnswer}
 use Rattle.exec.specs.Sound.{rigIn, view}
 use Rattle.exec.specs.Starting.{Starts, Started}
+use Rattle.exec.specs.declared.Report.{Report}
 use Rattle.exec.specs.declared.Step.{Step}
-use Rattle.exec.specs.declared.Answer.the-variants.{Refused}
+use Rattle.exec.specs.declared.Answer.the-variants.{Accepted, Refused}
 use Rattle.rig_build.specs.declared.Answer.{Answer}
 use Rattle.rig_meaning.specs.Reading.{readOf}
 use Rattle.bench_script.specs.Letters.{startName}
@@ -28,7 +28,7 @@ use Rattle.put_text.specs.Wrote.{Wrote}
 use Rattle.put_text.specs.Laws.Wrote.{wrote-as}
 use Rattle.bench_script.specs.Laws.Written.{Begun}
 use Rattle.bench_input.specs.Line.{lineNumber}
-use Rattle.bench_morning.specs.Morning.{fileRig, startText}
+use Rattle.bench_morning.specs.Morning.{fileRig, startColumns, startText}
 use Rattle.bench_morning.specs.Desk.{talking, over, deskStarted}
 use Rattle.bench_morning.specs.Stream.{deskOf, HoldsIn, fresh, nothingMore}
 use Rattle.bench_morning.specs.Laws.Steps.{Begins}
@@ -47,7 +47,7 @@ module _ (panel : Bool) (text out written : List ℕ) (a : Answer) (e : a ≡ re
   refused-text : a .no ≢ 0 → lineText startName (a .no ∷ a .line ∷ []) ≡ startText (readOf text)
   unfolding startText
   refused-text n =
-      sym (if-no (lineText startName (0 ∷ R.start (fileRig a) .count ∷ R.start (fileRig a) .running ∷ [])) (ne-eqb (a .no) 0 n) refl) ∙ ap startText e
+      sym (if-no (lineText startName (startColumns (fileRig a))) (ne-eqb (a .no) 0 n) refl) ∙ ap startText e
 
   over-opening : Over ≡ Opening → ⊥
   over-opening q = let z : _≡_ {A = ℕ} 0 1 = cc in omega (arith, z)
@@ -103,21 +103,31 @@ module _ (panel : Bool) (text out written : List ℕ) (a : Answer) (e : a ≡ re
     accepted-started =
         (λ i. talking panel (its-rig i) (its-view i) []) ∙ sym (if-yes over (eq-eqb (a .no) 0 z) refl) ∙ ap (deskStarted panel) e
 
-    accepted-text : lineText startName (0 ∷ st .exec .st .count ∷ st .exec .st .running ∷ []) ≡ startText (readOf text)
-    unfolding startText
-    accepted-text =
-        ap (λ (v : S.State). lineText startName (0 ∷ v .count ∷ v .running ∷ [])) its-view
-        ∙ sym (if-yes (lineText startName (a .no ∷ a .line ∷ [])) (eq-eqb (a .no) 0 z) refl) ∙ ap startText e
+    -- what the answer tells is printed
+    module _ (report : Report) (accepted : st .answer ≡ Accepted report) where
+      its-report : reportOf report ≡ R.reported (R.started (fileRig a)) 0 0
+      its-report =
+          sym (ap (λ x. answerOf x .report) accepted) ∙ ap (λ (x : R.Answer). x .report) (its-start .answer)
+          ∙ ap (λ (c : List Cycle). R.reported (R.started (rigOf (a .rig) c)) 0 0) rows
 
-    pub begins-accepted : (r : Line.Started) → startRoom ≤ length out → r .stream ≡ fresh panel Talking (st .exec)
-        → Begun out (0 ∷ st .exec .st .count ∷ st .exec .st .running ∷ []) written (r .wrote) → Begins panel text out r written
-    begins-accepted r h q b =
-        record {
-          wrote =
-              ⊎-elim
-              (λ p. wrote-as out written (lineText startName (0 ∷ st .exec .st .count ∷ st .exec .st .running ∷ [])) (startText (readOf text)) 0 (r .wrote) accepted-text (p .1))
-              (λ p. absurd (omega (arith, p .0))) (b .is);
-          desk = λ keep. ap (λ (s : Stream). deskOf s keep) q ∙ accepted-started;
-          holds = λ kept. subst (λ (s : Stream). HoldsIn s kept) (sym q) (omega arith, its-start .sound);
-          later = λ f. talking-opening (sym (ap (λ (s : Stream). s .phase) q) ∙ f);
-        }
+      abbrev pub printedOf : List ℕ
+      printedOf = 0 ∷ st .exec .st .count ∷ st .exec .st .running ∷ report .woken ∷ report .activated ∷ []
+
+      accepted-text : lineText startName printedOf ≡ startText (readOf text)
+      unfolding startText
+      accepted-text =
+          (λ i. lineText startName (0 ∷ its-view i .count ∷ its-view i .running ∷ its-report i .woken ∷ its-report i .activated ∷ []))
+          ∙ sym (if-yes (lineText startName (a .no ∷ a .line ∷ [])) (eq-eqb (a .no) 0 z) refl) ∙ ap startText e
+
+      pub begins-accepted : (r : Line.Started) → startRoom ≤ length out → r .stream ≡ fresh panel Talking (st .exec)
+          → Begun out printedOf written (r .wrote) → Begins panel text out r written
+      begins-accepted r h q b =
+          record {
+            wrote =
+                ⊎-elim
+                (λ p. wrote-as out written (lineText startName printedOf) (startText (readOf text)) 0 (r .wrote) accepted-text (p .1))
+                (λ p. absurd (omega (arith, p .0))) (b .is);
+            desk = λ keep. ap (λ (s : Stream). deskOf s keep) q ∙ accepted-started;
+            holds = λ kept. subst (λ (s : Stream). HoldsIn s kept) (sym q) (omega arith, its-start .sound);
+            later = λ f. talking-opening (sym (ap (λ (s : Stream). s .phase) q) ∙ f);
+          }

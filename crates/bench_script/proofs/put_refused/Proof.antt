@@ -6,6 +6,7 @@ use native.Mathlib.Omega.{arith}
 use lib.ListN.{length, length-set}
 use Rattle.bench_script.specs.Output.{fieldsText}
 use Rattle.put_text.specs.Wrote.{Wrote}
+use Rattle.put_text.specs.Laws.Wrote.{room-left}
 use Rattle.bench_script.specs.Laws.Written.{begun-room, begun-done, two-fields-wrote, fields-length}
 use borrow.Author.Needs.{needs}
 use Rattle.bench_script.proofs.put_refused.Statement.{statement}
@@ -41,13 +42,11 @@ put-field-requires c κs = search needs
 put-field-requires-2 : tie.Need-put-field-requires-2
 put-field-requires-2 c κs =
     let s = c .before .before .before .before .before .before .before .before .before .before .before in
-    let n = c .before .before .before .before .before .before .before .put-name .ensures .size in
-    let u = c .before .before .before .put-field .ensures in
-    let f = fields-length (s .args .number ∷ []) in
-    let a = u .place in
-    let b = u .size in
+    let n = c .before .before .before .before .before .before .before .put-name in
+    let u = c .before .before .before .put-field in
+    let z = n .ensures .size in
     let h = c .before .before .before .before .before .before .before .before .before .if1 .left in
-    omega arith
+    room-left (n .last .0) (u .last .0) (fieldsText (s .args .number ∷ [])) 5 (u .result) 11 11 (u .ensures) (fields-length (s .args .number ∷ [])) (omega arith)
 
 slice-write-out : tie.Need-slice-write-out
 slice-write-out c = behind (c .before .before)

@@ -10,7 +10,9 @@ use Rattle.bench_script.proofs.put_started.Statement.{statement}
 use Rattle.bench_script.proofs.put_started.Tie as tie
 
 abbrev numbers : (c : tie.After-put-answer) → List ℕ
-numbers c = 0 ∷ c .before .before .before .before .before .before .before .before .args .count ∷ c .before .before .before .before .before .before .before .before .args .running ∷ []
+numbers c =
+    let s = c .before .before .before .before .before .before .before .before .args in
+    0 ∷ s .count ∷ s .running ∷ s .woken ∷ s .activated ∷ []
 
 behind : (c : tie.After-put-answer) → c .put-answer .result < length (c .put-answer .last .0)
 behind c =

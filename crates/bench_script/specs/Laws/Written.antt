@@ -11,7 +11,7 @@ use lib.Seq.{take-suc, take-all}
 use borrow.Author.Tests.{eq-eqb, ne-eqb}
 use Rattle.laws.specs.Cases.{by, if-yes, if-no}
 use Rattle.put_text.specs.Wrote.{Wrote}
-use Rattle.put_text.specs.Laws.Wrote.{wrote-same, wrote-then, wrote-as, wrote-none, byte-then, then-byte, room-left}
+use Rattle.put_text.specs.Laws.Wrote.{wrote-same, wrote-then, wrote-as, wrote-none, byte-then, then-byte}
 use Rattle.decimal.specs.Decimal.{decBy, dec}
 use Rattle.text.specs.Split.{led}
 use Rattle.text.specs.Laws.Split.{led-append}
@@ -106,7 +106,7 @@ module _ (l : List ℕ) (at : ℕ) (ws : List ℕ) where
   pub listing-end : (m : List ℕ) (p i : ℕ) → Listing l at ws m p i → length ws ≤ i → Wrote l at (fieldsText ws) m p
   listing-end m p i w h = wrote-as l m (fieldsText (take i ws)) (fieldsText ws) at p (ap fieldsText (take-all i ws h)) (w .wrote)
 
--- ---- two and three fields
+-- ---- two fields
 
 pub two-fields-wrote : (l m o : List ℕ) (at a b p q : ℕ) → at + 22 ≤ length l → Wrote l at (fieldsText (a ∷ [])) m p → Wrote m p (fieldsText (b ∷ [])) o q
     → Wrote l at (fieldsText (a ∷ b ∷ [])) o q
@@ -115,24 +115,6 @@ two-fields-wrote l m o at a b p q h u v =
     let g = fields-length (b ∷ []) in
     wrote-as l o (fieldsText (a ∷ []) ++ fieldsText (b ∷ [])) (fieldsText (a ∷ b ∷ [])) at q (sym (fields-append (a ∷ []) (b ∷ [])))
     (wrote-then l m o (fieldsText (a ∷ [])) (fieldsText (b ∷ [])) at p q (omega arith) u v)
-
-module _ (l : List ℕ) (at a : ℕ) (h : at + 33 ≤ length l) (m : List ℕ) (p : ℕ) (u : Wrote l at (fieldsText (a ∷ [])) m p) where
-  pub second-room : p + 11 ≤ length m
-  second-room = room-left l m (fieldsText (a ∷ [])) at p 11 11 u (fields-length (a ∷ [])) (omega arith)
-
-  module _ (b : ℕ) (n : List ℕ) (q : ℕ) (v : Wrote m p (fieldsText (b ∷ [])) n q) where
-    two-wrote : Wrote l at (fieldsText (a ∷ b ∷ [])) n q
-    two-wrote = two-fields-wrote l m n at a b p q (omega arith) u v
-
-    pub third-room : q + 11 ≤ length n
-    third-room = room-left l n (fieldsText (a ∷ b ∷ [])) at q 22 11 two-wrote (fields-length (a ∷ b ∷ [])) (omega arith)
-
-    pub three-wrote : (c : ℕ) (o : List ℕ) (r : ℕ) → Wrote n q (fieldsText (c ∷ [])) o r → Wrote l at (fieldsText (a ∷ b ∷ c ∷ [])) o r
-    three-wrote c o r w =
-        let f = fields-length (a ∷ b ∷ []) in
-        let g = fields-length (c ∷ []) in
-        wrote-as l o (fieldsText (a ∷ b ∷ []) ++ fieldsText (c ∷ [])) (fieldsText (a ∷ b ∷ c ∷ [])) at r (sym (fields-append (a ∷ b ∷ []) (c ∷ [])))
-        (wrote-then l n o (fieldsText (a ∷ b ∷ [])) (fieldsText (c ∷ [])) at q r (omega arith) two-wrote w)
 
 -- ---- the first output line
 
@@ -147,7 +129,7 @@ begun-same out numbers m n p q a b =
     (λ x. ⊎-elim (λ y. absurd (omega (arith, x .0, y .0))) (λ y. (x .1 ∙ sym (y .1), x .2 ∙ sym (y .2))) (b .is))
     (a .is)
 
-module _ (out numbers m o : List ℕ) (p : ℕ) (h : 64 ≤ length out) (few : length numbers ≤ 3) (n : Wrote out 0 startName m 5) (w : Wrote m 5 (fieldsText numbers) o p) where
+module _ (out numbers m o : List ℕ) (p : ℕ) (h : 64 ≤ length out) (few : length numbers ≤ 5) (n : Wrote out 0 startName m 5) (w : Wrote m 5 (fieldsText numbers) o p) where
   named : Wrote out 0 (startName ++ fieldsText numbers) o p
   named =
       let f = fields-length numbers in

@@ -19,7 +19,7 @@ use Rattle.bench_script.specs.Output.{fieldsText, ifAny, lineText, turnRoom}
 use Rattle.put_text.specs.Wrote.{Wrote}
 use Rattle.put_text.specs.Laws.Wrote.{wrote-then, wrote-as, wrote-none, byte-wrote}
 use Rattle.bench_script.specs.Laws.Written.{fields-none, fields-append, fields-length}
-use Rattle.bench_show.specs.Shown.{wordsLent, extraRoom, extra, numbersOf, textOf}
+use Rattle.bench_show.specs.Shown.{wordsLent, extraRoom, extra, columns, numbersOf, textOf}
 use Rattle.rules.specs.Calls as R
 
 -- no other verb prints words
@@ -31,7 +31,7 @@ numbers-other : (verb : ℕ) (a : R.Answer) (count running : ℕ) (ws vs : List 
     → numbersOf verb a count running ws ≡ numbersOf verb a count running vs
 unfolding numbersOf
 numbers-other verb a count running ws vs n =
-    ap (λ (l : List ℕ). a .code ∷ count ∷ running ∷ cond (eqb (a .code) 0) l []) (extra-other verb (a .report) ws vs n)
+    ap (λ (l : List ℕ). columns a count running ++ cond (eqb (a .code) 0) l []) (extra-other verb (a .report) ws vs n)
 
 pub text-other : (verb : ℕ) (a : R.Answer) (count running : ℕ) (ws vs : List ℕ) → verb ≢ tickVerb
     → textOf verb a count running ws ≡ textOf verb a count running vs
@@ -102,10 +102,15 @@ refused-code : (a : Answer) (k : ℕ) → a ≡ Refused k → ProperAnswer a →
 refused-code (Accepted p) k e z q = let y : _≡_ {A = ℕ} 0 1 = cc in absurd (omega (arith, y))
 refused-code (Refused n) k e z q = z q
 
--- ---- an answer's line: the verb, three numbers, the extra, LF
+-- ---- an answer's line: the verb, five numbers, the extra, LF
 
 abbrev pub headOf : Answer → ℕ → ℕ → List ℕ
-headOf a count running = answerOf a .code ∷ count ∷ running ∷ []
+headOf a count running = columns (answerOf a) count running
+
+-- the five numbers as they are taken from an answer
+pub head-is : (a : Answer) (n count running : ℕ) (told : Report) → n ≡ answerOf a .code → reportOf told ≡ answerOf a .report
+    → n ∷ count ∷ running ∷ told .woken ∷ told .activated ∷ [] ≡ headOf a count running
+head-is a n count running told e f i = columns (record { code = e i; report = f i }) count running
 
 module _ (verb : ℕ) (a : Answer) (count running : ℕ) (ws out : List ℕ) (at : ℕ) (h : length ws ≤ wordsLent) (room-left : at + turnRoom ≤ length out) where
   head : List ℕ
@@ -135,7 +140,7 @@ module _ (verb : ℕ) (a : Answer) (count running : ℕ) (ws out : List ℕ) (at
         ∙ ap (λ (l : List ℕ). (verb ∷ []) ++ l)
         (sym (append-assoc (fieldsText (headOf a count running)) (fieldsText x) (lf ∷ []))
         ∙ ap (λ (l : List ℕ). l ++ (lf ∷ [])) (sym (fields-append (headOf a count running) x)))
-        ∙ sym (ap (λ (y : List ℕ). lineText (verb ∷ []) (answerOf a .code ∷ count ∷ running ∷ y)) e)
+        ∙ sym (ap (λ (y : List ℕ). lineText (verb ∷ []) (headOf a count running ++ y)) e)
 
     -- refused
     pub shown-refused : (k : ℕ) → a ≡ Refused k → ProperAnswer a → Wrote out at (textOf verb (answerOf a) count running ws) (set m p lf) (p + 1)
