@@ -14,7 +14,7 @@ use Rattle.word_parts.specs.Packed.{commandWord}
 use Rattle.rules.specs.Rig.{Rig}
 use Rattle.rules.specs.State.{State, blank}
 use Rattle.rules.specs.Conditions.{relax, met, drive, names}
-use Rattle.rules.specs.Serving.{activate, takes, rouse, wake, ready, offer, offers, serveFlag, serving, serve}
+use Rattle.rules.specs.Serving.{activate, takes, rouse, wake, ready, offer, offers, serveFlag, made, serving, serve}
 use Rattle.rules.specs.Waiting.{waitOn, waitUntilCount, leave, wakeDue}
 use Rattle.rules.specs.Family.{family, cleared, deserted, offs}
 use Rattle.rules.specs.Running.{best, chosen, dispatch}
@@ -24,6 +24,7 @@ use Rattle.rules.specs.Calls.{scheduled, finished, terminated, cancelled
 use Rattle.rules.specs.Scripts.{ofTask, ofCondition, numbers, ofLine, ofCycle, rig, tick₀, bench, morningCalls}
 
 -- ---- "prints verb, answer (0 accepted), count, running task (0 none), then, if accepted, bus words or the flag's value"
+-- L2: "The runner prints both", woken and activated, "after the running task wherever it prints that, also in document 01's outputs"
 
 -- a printed line: the verb and the numbers behind it; the runner has no verb for a block
 pub data Line : Type 0 where
@@ -63,7 +64,9 @@ told (writeBlock k area buffer) p = []
 told nextWaking p = cond (eqb (p .answer .report .value) 0) [] (p .answer .report .value ∷ [])
 
 line : Call → Step → Line
-line k p = verb k (p .answer .code ∷ p .next .count ∷ p .next .running ∷ cond (eqb (p .answer .code) 0) (told k p) [])
+line k p =
+    let report = p .answer .report in
+    verb k (p .answer .code ∷ p .next .count ∷ p .next .running ∷ report .woken ∷ report .activated ∷ cond (eqb (p .answer .code) 0) (told k p) [])
 
 lines : Rig → State → List Call → List Line
 lines r s [] = []
@@ -73,21 +76,21 @@ lines r s (k ∷ ks) =
 
 -- the START line, and a line for each call
 pub printed : Rig → List Call → List Line
-printed r ks = START (0 ∷ start r .count ∷ start r .running ∷ []) ∷ lines r (start r) ks
+printed r ks = START (0 ∷ start r .count ∷ start r .running ∷ started r .woken ∷ started r .activated ∷ []) ∷ lines r (start r) ks
 
 -- "Whole output"
 pub morning : printed bench morningCalls ≡
-    START (0 ∷ 0 ∷ 1 ∷ [])
-    ∷ S (0 ∷ 0 ∷ 1 ∷ [])
-    ∷ S (0 ∷ 0 ∷ 1 ∷ [])
-    ∷ K (0 ∷ 1 ∷ 1 ∷ [])
-    ∷ K (0 ∷ 2 ∷ 1 ∷ 14400 ∷ [])
-    ∷ K (0 ∷ 3 ∷ 1 ∷ [])
-    ∷ K (0 ∷ 4 ∷ 2 ∷ 14400 ∷ [])
-    ∷ F (0 ∷ 4 ∷ 3 ∷ [])
-    ∷ R (0 ∷ 4 ∷ 1 ∷ [])
-    ∷ K (0 ∷ 5 ∷ 1 ∷ [])
-    ∷ K (0 ∷ 6 ∷ 3 ∷ 14400 ∷ [])
+    START (0 ∷ 0 ∷ 1 ∷ 0 ∷ 0 ∷ [])
+    ∷ S (0 ∷ 0 ∷ 1 ∷ 0 ∷ 0 ∷ [])
+    ∷ S (0 ∷ 0 ∷ 1 ∷ 0 ∷ 0 ∷ [])
+    ∷ K (0 ∷ 1 ∷ 1 ∷ 0 ∷ 0 ∷ [])
+    ∷ K (0 ∷ 2 ∷ 1 ∷ 0 ∷ 0 ∷ 14400 ∷ [])
+    ∷ K (0 ∷ 3 ∷ 1 ∷ 0 ∷ 0 ∷ [])
+    ∷ K (0 ∷ 4 ∷ 2 ∷ 0 ∷ 2 ∷ 14400 ∷ [])
+    ∷ F (0 ∷ 4 ∷ 3 ∷ 0 ∷ 0 ∷ [])
+    ∷ R (0 ∷ 4 ∷ 1 ∷ 0 ∷ 0 ∷ [])
+    ∷ K (0 ∷ 5 ∷ 1 ∷ 0 ∷ 0 ∷ [])
+    ∷ K (0 ∷ 6 ∷ 3 ∷ 0 ∷ 0 ∷ 14400 ∷ [])
     ∷ []
-unfolding bench morningCalls verb told line lines printed ofTask ofCondition numbers ofLine ofCycle rig tick₀ iter all any total over put commandWord blank relax met drive names activate takes rouse wake ready offer offers serveFlag serving serve waitOn waitUntilCount leave wakeDue family cleared deserted offs best chosen dispatch written copied rowWords busWords scheduled finished terminated cancelled cycleQueue ticked effect decide noSuch inCycle isMinor isActivation lastCount wrongBlock refusals refusal wordsAt lent output accepted after step run started start
+unfolding bench morningCalls verb told line lines printed ofTask ofCondition numbers ofLine ofCycle rig tick₀ iter all any total over put commandWord blank relax met drive names activate takes rouse wake ready offer offers serveFlag made serving serve waitOn waitUntilCount leave wakeDue family cleared deserted offs best chosen dispatch written copied rowWords busWords scheduled finished terminated cancelled cycleQueue ticked effect decide noSuch inCycle isMinor isActivation lastCount wrongBlock refusals refusal wordsAt lent output accepted after step run started start
 morning = refl
