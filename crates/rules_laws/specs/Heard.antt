@@ -66,15 +66,15 @@ rouse-from (t ∷ ts) l m h =
 
 module _ (r : Rig) (l : List ℕ) where
   -- who is inactive was so in l, and nobody who was waiting there is counted by an offer
-  record Offering (n : ℕ) (w : Work) : Type 0 where
+  record Counted (n : ℕ) (w : Work) : Type 0 where
     ones : (t : ℕ) → getD (w .now .states) t 0 ≡ 1 → getD l t 0 ≡ 1
     many : made 2 l (w .now .states) ≡ n
 
-  offer-made : (f t n : ℕ) (w : Work) → Offering n w → Offering n (offer r f t w)
+  offer-made : (f t n : ℕ) (w : Work) → Counted n w → Counted n (offer r f t w)
   unfolding offer activate
   offer-made f t n w h = go (eqb (stateOf (w .now) t) 1) refl (ready r f t (w .now))
     where
-      go : (a : Bool) → eqb (stateOf (w .now) t) 1 ≡ a → (b : Bool) → Offering n (cond (a && b) (activate r t w) w)
+      go : (a : Bool) → eqb (stateOf (w .now) t) 1 ≡ a → (b : Bool) → Counted n (cond (a && b) (activate r t w) w)
       go true e true =
           let was : getD l t 0 ≡ 1 = h .ones t (eqb-true _ 1 e) in
           record {
@@ -84,9 +84,9 @@ module _ (r : Rig) (l : List ℕ) where
       go true e false = h
       go false e b = h
 
-  offers-made : (f k n : ℕ) (w : Work) → Offering n w → Offering n (offers r f k w)
+  offers-made : (f k n : ℕ) (w : Work) → Counted n w → Counted n (offers r f k w)
   unfolding offers
-  offers-made f k n w h = iter-ind (λ i x. Offering n x) (offerNext r f) w h (λ i x g. offer-made f (i + 1) n x g) k
+  offers-made f k n w h = iter-ind (λ i x. Counted n x) (offerNext r f) w h (λ i x g. offer-made f (i + 1) n x g) k
 
 -- the chains of a state, as soundness has them
 abbrev pub ChainsIn : State → Type 0

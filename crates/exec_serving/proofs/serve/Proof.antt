@@ -18,7 +18,7 @@ use Rattle.exec_state.specs.Post.{FlagOk}
 use Rattle.exec_serving.specs.Post.{Served}
 use Rattle.exec_offers.specs.Post.{workIn}
 use Rattle.exec_waking.specs.Laws.Waking.{waking-none}
-use Rattle.exec_serving.specs.Laws.Serving.{Roused, roused-is, Turned, turned-start, short, last-ok, rest-room, turned-falls, turned-step, turned-done, served-room, served-is}
+use Rattle.exec_serving.specs.Laws.Serving.{MoreWoken, more-woken, Turned, turned-start, short, last-ok, rest-room, turned-falls, turned-step, turned-done, served-room, served-is}
 use Rattle.exec_state.specs.declared.State.{State}
 use Rattle.exec_state.specs.declared.Work.{Work}
 use Rattle.exec_queue.specs.declared.Queue.{Queue}
@@ -85,11 +85,11 @@ taken j =
 abbrev woken : tie.Joined1 Inv-loop μ-loop → State
 woken j = putState (j .if1 .st) (j .if1 .state)
 
-roused-so : (s : State) (c : Chain) (x y : State) (a b : List ℕ) (m n p : ℕ) → x ≡ y → a ≡ b → n ≡ p → Roused s c (putState y b) m p → Roused s c (putState x a) m n
-roused-so s c x y a b m n p e f g h = rw (e, f, g) h
+woken-so : (s : State) (c : Chain) (x y : State) (a b : List ℕ) (m n p : ℕ) → x ≡ y → a ≡ b → n ≡ p → MoreWoken s c (putState y b) m p → MoreWoken s c (putState x a) m n
+woken-so s c x y a b m n p e f g h = rw (e, f, g) h
 
 -- who waited is woken, or nobody waited
-awoken : (j : tie.Joined1 Inv-loop μ-loop) → let e = turn j in Roused (taken j) (chainOf (flag e) (value e)) (woken j) (e .before .loop .woken) (j .if1 .woken)
+awoken : (j : tie.Joined1 Inv-loop μ-loop) → let e = turn j in MoreWoken (taken j) (chainOf (flag e) (value e)) (woken j) (e .before .loop .woken) (j .if1 .woken)
 awoken j =
     let e = turn j in
     let d = e .before in
@@ -98,10 +98,10 @@ awoken j =
     let a = anchor-flag (flag e) (value e) (o .some, o .flag, o .value) in
     let p : 64 + 2 * flag e + value e < 322 = omega (arith, o .flag, o .value) in
     ⊎-elim
-    (λ w. roused-so (taken j) c _ _ _ _ _ _ _ (w .6) (w .7) (w .8)
-    (roused-is _ _ _ _ _ _ (w .3 .ensures) (taken j) c a (d .loop .woken) _ refl))
-    (λ w. roused-so (taken j) c _ _ _ _ _ _ _ (w .1) (w .2) (w .3)
-    (roused-is _ _ _ _ _ _
+    (λ w. woken-so (taken j) c _ _ _ _ _ _ _ (w .6) (w .7) (w .8)
+    (more-woken _ _ _ _ _ _ (w .3 .ensures) (taken j) c a (d .loop .woken) _ refl))
+    (λ w. woken-so (taken j) c _ _ _ _ _ _ _ (w .1) (w .2) (w .3)
+    (more-woken _ _ _ _ _ _
     (waking-none (64 + 2 * flag e + value e) (omega (arith, o .some)) p (d .loop .st .links) (d .loop .state) (d .loop .inv noRig .sound)
     (eqb-true _ _ (not-false _ (sym (j .before .waited .ensures) ∙ w .0 .left)))) (taken j) c a (d .loop .woken) _ (none (d .loop .woken))))
     (j .if1 .came)

@@ -79,14 +79,14 @@ module _ (s : State) (q : Queue) (g : Rig) (f v : ℕ) (c : List ℕ)
         }
 
 -- all who waited in a chain are woken, where m were before: then they are n
-pub record Roused (s : State) (c : Chain) (r : State) (m n : ℕ) : Type 0 where
+pub record MoreWoken (s : State) (c : Chain) (r : State) (m n : ℕ) : Type 0 where
   pub woken : Woken s c r
   pub few : length (viewOf s .chains c) ≤ 64
   pub sum : n ≡ m + length (viewOf s .chains c)
 
-pub roused-is : (l : Links) (states : List ℕ) (a : ℕ) (k : Links) (w : ℕ) (after : List ℕ) → Rouses l states a (record { links = k; woken = w }) after
-    → (s : State) (c : Chain) → anchorOf c ≡ a → (m n : ℕ) → n ≡ m + w → Roused (putLinks (putState s states) l) c (putLinks (putState s after) k) m n
-roused-is l states a k w after h s c e m n q =
+pub more-woken : (l : Links) (states : List ℕ) (a : ℕ) (k : Links) (w : ℕ) (after : List ℕ) → Rouses l states a (record { links = k; woken = w }) after
+    → (s : State) (c : Chain) → anchorOf c ≡ a → (m n : ℕ) → n ≡ m + w → MoreWoken (putLinks (putState s states) l) c (putLinks (putState s after) k) m n
+more-woken l states a k w after h s c e m n q =
     let many = h .many ∙ ap (λ (b : ℕ). length (chainsOf l b)) (sym e) in
     record { woken = h .awoken s c e; few = omega (arith, many, h .few); sum = omega (arith, many, q) }
 
