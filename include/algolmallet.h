@@ -40,8 +40,8 @@ extern "C" {
 #endif
 
 /* The version of this header: first, second and third number, and all three as one, which rises. */
-#define ALGOLMALLET_VERSION "0.4.0"
-#define ALGOLMALLET_VERSION_NUMBER 4000 /* 1,000,000 times the first, 1,000 times the second, and the third */
+#define ALGOLMALLET_VERSION "0.5.0"
+#define ALGOLMALLET_VERSION_NUMBER 5000 /* 1,000,000 times the first, 1,000 times the second, and the third */
 
 /* The version of the archive: ALGOLMALLET_VERSION_NUMBER, if this header belongs to it. */
 uint32_t algolmallet_version(void);
@@ -97,7 +97,8 @@ size_t algolmallet_refusal_text(uint32_t number, char *out, size_t room);
 
 /* What a call answers. After a refusal `served`, `words`, `value`, `woken` and `activated` are 0. `woken` and `activated` are what request
  * L2 asked for: "Serving a flag must also answer how many waiting tasks it made dispatchable and how many it activated, added over all services
- * of a call." Tasks that a tick wakes by its count, and the task that a schedule or a start activates itself, are in neither. */
+ * of a call." Tasks that a tick wakes by its count, and the task that a schedule or a start activates itself, or that the test after finish and
+ * terminate activates, are in neither. */
 typedef struct {
     uint32_t refusal;   /* enum algolmallet_refusal */
     uint32_t line;      /* of a start refused by 1 to 4: the rig file's line, 0 for the whole file; else 0 */
@@ -140,10 +141,12 @@ algolmallet_reply algolmallet_schedule(algolmallet_record *r, uint32_t task);
  * active are queued off, by rising task number". Refused by 12, 5, 6, 7, 8. */
 algolmallet_reply algolmallet_cancel(algolmallet_record *r, uint32_t task);
 
-/* As finish, "for the named active task, taken out of any chain". Refused by 12, 5, 6, 7, 8. */
+/* As finish, "for the named active task, taken out of any chain"; that task is tested again too. Refused by 12, 5, 6, 7, 8. */
 algolmallet_reply algolmallet_terminate(algolmallet_record *r, uint32_t task);
 
-/* "(the running task): inactive, activation flag queued off". Refused by 12, 5. */
+/* "(the running task): inactive, activation flag queued off". Then, as request L3 asked, "once the queue is empty, that task is tested again and
+ * activated if it is still inactive with all conditions as desired; its flag is then served on": a task with no conditions is always active
+ * again. It "has not stayed dispatchable, even if it is active again", so who runs is chosen anew. Refused by 12, 5. */
 algolmallet_reply algolmallet_finish(algolmallet_record *r);
 
 /* "the count rises by one; tasks due at it become dispatchable; the M list of cycle (count modulo 64) is queued, each flag

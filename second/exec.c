@@ -59,10 +59,7 @@ static enum refusal judge_named_flag(const exec *e, uint32_t flag, enum flag_kin
 /* Serves what is queued, dispatches and answers. */
 static answer settle(exec *e, serving *s, bool stayed)
 {
-    unsigned caller = e->running;
     serve_all(e, s);
-    if (MUTATED(RESTART_STAYED) && caller != 0 && e->state[caller] == DISPATCHABLE)
-        stayed = true;
     dispatch(e, stayed);
     return (answer){.refusal = ACCEPTED,
                     .served = (uint8_t)s->served,
@@ -187,8 +184,14 @@ answer exec_cancel(exec *e, uint32_t task)
         if (was_active[t] && !MUTATED(CANCEL_SERVES_EARLY))
             queue_activation(&s, e, t, 0);
     }
+    if (MUTATED(CANCELLED_TESTED) && exec_as_desired(e, task)) {
+        serve_all(e, &s);
+        activate(e, &s, task);
+    }
     return settle(e, &s, true);
 }
+
+/* ---- Finish and terminate ---- */
 
 static void deactivate(exec *e, serving *s, unsigned task)
 {
@@ -196,6 +199,106 @@ static void deactivate(exec *e, serving *s, unsigned task)
         leave_line(e, task);
     e->state[task] = INACTIVE;
     queue_activation(s, e, task, 0);
+}
+
+/* For mutants alone: what they make of the activation by the test; `conditions` are the task's before it. */
+static void spoil_again(exec *e, serving *s, unsigned task, uint16_t conditions)
+{
+    unsigned flag = e->rig.task[task].activation;
+    if (MUTATED(AGAIN_KEEPS))
+        e->condition[task] = conditions;
+    if ((MUTATED(AGAIN_FLAG_LEFT) || MUTATED(AGAIN_FLAG_UNSERVED)) && flag != 0)
+        s->waiting--;
+    if (MUTATED(AGAIN_FLAG_UNSERVED))
+        e->value[flag] = 1;
+    s->activated += MUTATED(AGAIN_COUNTED);
+}
+
+/*
+ * "that task is tested again and activated if it is still inactive with all
+ * conditions as desired".  No service activates it here, so it is not among
+ * the activated.
+ */
+static enum test_outcome test_again(exec *e, serving *s, unsigned task)
+{
+    bool inactive = e->state[task] == INACTIVE || (MUTATED(ACTIVE_TESTED) && e->state[task] == DISPATCHABLE);
+    if (!inactive)
+        return TEST_ACTIVE;
+    if (MUTATED(RESET_BEFORE_TEST))
+        reset_unlatched(e, task);
+    if (!exec_as_desired(e, task) && !MUTATED(CONDITIONS_UNTESTED))
+        return TEST_UNDESIRED;
+    uint16_t conditions = e->condition[task];
+    activate(e, s, task);
+    if (WITH_MUTANTS)
+        spoil_again(e, s, task, conditions);
+    return TEST_AGAIN;
+}
+
+static unsigned untested; /* for TESTED_BY_TICK alone: the task that ended last */
+
+/* For mutants alone: whether the fault leaves out the test of this task. */
+static bool goes_untested(const exec *e, unsigned task)
+{
+    bool finished = task == e->running;
+    if (MUTATED(TESTED_BY_TICK))
+        untested = task;
+    return MUTATED(NEVER_TESTED) || MUTATED(TESTED_BY_TICK) || (MUTATED(TERMINATED_UNTESTED) && !finished) ||
+           (MUTATED(FINISHED_UNTESTED) && finished) ||
+           (MUTATED(CONDITIONED_UNTESTED) && e->rig.conditions[task].present != 0);
+}
+
+/* Serves until the queue is empty, which is when the task that ended is tested. */
+static void serve_up_to_test(exec *e, serving *s, unsigned task)
+{
+    if (MUTATED(TESTED_AFTER_ONE) && s->waiting > 0)
+        serve_one(e, s);
+    if (!MUTATED(TESTED_AT_ONCE) && !MUTATED(TESTED_AFTER_ONE))
+        serve_all(e, s);
+    if (MUTATED(FIRST_SERVING_UNTOLD))
+        s->woken = s->activated = 0;
+    if (MUTATED(CHOSEN_BEFORE_TEST))
+        dispatch(e, task != e->running);
+}
+
+/* For mutants alone: who runs by the fault, where `task` finished and the test made it active again. */
+static unsigned spoilt_choice(exec *e, unsigned task)
+{
+    if (MUTATED(AGAIN_RUNS_AHEAD))
+        return task;
+    if (MUTATED(AGAIN_UNCHOSEN) && e->running == task) {
+        e->state[task] = INACTIVE;
+        dispatch(e, false);
+        e->state[task] = DISPATCHABLE;
+    }
+    return e->running;
+}
+
+/*
+ * "After finish and terminate, once the queue is empty", the task that ended
+ * is tested again; what that queues is then served.  Who terminates another
+ * stays dispatchable; who finished "has not stayed dispatchable, even if it is
+ * active again".
+ */
+static answer settle_ended(exec *e, serving *s, unsigned task)
+{
+    bool finished = task == e->running, stayed = !finished;
+    serve_up_to_test(e, s, task);
+    exec_test test = {.woken = (uint8_t)s->woken, .activated = (uint8_t)s->activated};
+    if (!goes_untested(e, task))
+        test.outcome = test_again(e, s, task);
+    if ((MUTATED(RESTART_STAYED) && test.outcome == TEST_ACTIVE) ||
+        (MUTATED(AGAIN_STAYED) && test.outcome == TEST_AGAIN) || (MUTATED(CHOSEN_BEFORE_TEST) && e->running != 0))
+        stayed = true;
+    answer a = settle(e, s, stayed);
+    a.test = test;
+    if (WITH_MUTANTS && finished && test.outcome == TEST_AGAIN)
+        e->running = (uint8_t)spoilt_choice(e, task);
+    if (MUTATED(SECOND_SERVING_UNTOLD)) {
+        a.woken = test.woken;
+        a.activated = test.activated;
+    }
+    return a;
 }
 
 answer exec_terminate(exec *e, uint32_t task)
@@ -213,7 +316,7 @@ answer exec_terminate(exec *e, uint32_t task)
         for (unsigned t = task + 1; t < family_end(e, task); t++)
             if (e->state[t] >= WAITING)
                 deactivate(e, &s, t);
-    return settle(e, &s, true);
+    return settle_ended(e, &s, task);
 }
 
 answer exec_finish(exec *e)
@@ -223,7 +326,7 @@ answer exec_finish(exec *e)
     if (refusal != ACCEPTED)
         return refused(refusal);
     deactivate(e, &s, e->running);
-    return settle(e, &s, false);
+    return settle_ended(e, &s, e->running);
 }
 
 /* ---- Waits ---- */
@@ -421,6 +524,8 @@ answer exec_tick(exec *e, uint16_t *words, size_t room)
     if (MUTATED(DUE_COUNTED))
         s.woken = due_tasks(e);
     wake_due(e); /* by the count, not by a flag: not among the woken */
+    if (MUTATED(TESTED_BY_TICK))
+        (void)test_again(e, &s, untested);
     queue_cycle(e, &s);
     answer a = settle(e, &s, true);
     a.words = (uint16_t)write_due_rows(e, words);

@@ -54,6 +54,15 @@ typedef struct {
     exec_line flagged; /* waiting on a flag, in order of beginning */
 } exec;
 
+/* What finish or terminate found when it tested its task again (request L3); none for other calls. */
+enum test_outcome { TEST_NONE = 0, TEST_ACTIVE = 1, TEST_UNDESIRED = 2, TEST_AGAIN = 3 };
+
+/* The test, and the two numbers of the services before it; not printed, the comparison counts by it. */
+typedef struct {
+    enum test_outcome outcome;
+    uint8_t woken, activated;
+} exec_test;
+
 /* A refused call answers the refusal alone; all else is then 0. */
 typedef struct {
     enum refusal refusal;
@@ -61,8 +70,9 @@ typedef struct {
     uint16_t words;    /* exec_tick: bus words written */
     uint32_t value;    /* exec_read_flag: the flag's; exec_next_waking: the waking count, 0 for none */
     uint8_t woken;     /* "how many waiting tasks" the services of this call "made dispatchable" (request L2) */
-    uint8_t activated; /* "and how many" they "activated"; a schedule's own activation is no service's */
+    uint8_t activated; /* "and how many" they "activated"; a schedule's own activation is no service's, nor is a test's */
     uint8_t heard;     /* services that added to either; not printed, the comparison counts sums by it */
+    exec_test test;
 } answer;
 
 /* A refused start (4) leaves a record of all zeros. */

@@ -10,6 +10,7 @@ enum input_kind {
     RACES,
     SLEEPERS,
     LISTENERS,
+    RUNS_AGAIN,
     SERVES_79,
     SCRIPT_DAMAGED,
     LINE_SHAPE,
@@ -23,7 +24,7 @@ enum input_kind {
 
 /* One round of kinds; a run of 2,500 inputs has 50 rounds. */
 static const uint8_t kinds[] = {
-    SMALL, SMALL, SMALL, SMALL, SMALL, MEDIUM, MEDIUM, FULL, FULL, LONG_SCRIPT,
+    SMALL, SMALL, SMALL, RUNS_AGAIN, RUNS_AGAIN, MEDIUM, MEDIUM, FULL, FULL, LONG_SCRIPT,
     RESTARTS, RESTARTS, FAMILIES, FAMILIES, RACES, RACES, RACES, SERVES_79, SCRIPT_DAMAGED,
     LINE_SHAPE, LINE_SHAPE, LINE_SIZE, LINE_SIZE, LINE_ORDER, LINE_ORDER,
     FUZZED, FUZZED, FUZZED, FUZZED, FILE_LENGTH, NO_RUN,
@@ -38,7 +39,7 @@ static const uint8_t kinds[] = {
 /* One round of kinds for the panel: right rigs, most of them with many tasks that wait on time, and two that are refused. */
 static const uint8_t panel_kinds[] = {
     SLEEPERS, SMALL, SLEEPERS, FAMILIES, SLEEPERS, SLEEPERS, MEDIUM, SLEEPERS, RESTARTS, SLEEPERS,
-    SLEEPERS, LISTENERS, SLEEPERS, RACES, SLEEPERS, SLEEPERS, SCRIPT_DAMAGED, SLEEPERS, FUZZED, LINE_ORDER};
+    SLEEPERS, LISTENERS, SLEEPERS, RACES, RUNS_AGAIN, SLEEPERS, SCRIPT_DAMAGED, SLEEPERS, FUZZED, LINE_ORDER};
 
 enum { ROUND = sizeof kinds, PANEL_ROUND = sizeof panel_kinds };
 
@@ -129,31 +130,40 @@ static void damaged_script_input(chance *c, text *out)
     right_input(c, &r, &form, out);
 }
 
-static void race_input(chance *c, text *out)
+/* A rig made for one purpose, and a script of so many lines that is played on it. */
+typedef struct {
+    void (*make)(chance *c, rig *out);
+    void (*play)(chance *c, const rig *r, unsigned lines, text *out);
+    unsigned least, most;
+} purpose;
+
+static void played_input(chance *c, const purpose *p, text *out)
 {
     static rig r;
-    gen_race_rig(c, &r);
+    p->make(c, &r);
     gen_print_rig(&r, out);
     gen_add_run(out);
-    gen_race_script(c, &r, pick(c, 150, 350), out);
+    p->play(c, &r, pick(c, p->least, p->most), out);
+}
+
+static void race_input(chance *c, text *out)
+{
+    played_input(c, &(purpose){gen_race_rig, gen_race_script, 150, 350}, out);
 }
 
 static void sleepers_input(chance *c, text *out)
 {
-    static rig r;
-    gen_sleepers_rig(c, &r);
-    gen_print_rig(&r, out);
-    gen_add_run(out);
-    gen_sleepers_script(c, &r, pick(c, 40, 140), out);
+    played_input(c, &(purpose){gen_sleepers_rig, gen_sleepers_script, 40, 140}, out);
 }
 
 static void listeners_input(chance *c, text *out)
 {
-    static rig r;
-    gen_listeners_rig(c, &r);
-    gen_print_rig(&r, out);
-    gen_add_run(out);
-    gen_listeners_script(c, &r, pick(c, 100, 250), out);
+    played_input(c, &(purpose){gen_listeners_rig, gen_listeners_script, 100, 250}, out);
+}
+
+static void again_input(chance *c, text *out)
+{
+    played_input(c, &(purpose){gen_again_rig, gen_again_script, 100, 250}, out);
 }
 
 static void full_serving_input(chance *c, text *out)
@@ -232,6 +242,7 @@ static const struct {
     [RACES] = {"races", race_input},
     [SLEEPERS] = {"sleepers", sleepers_input},
     [LISTENERS] = {"listeners", listeners_input},
+    [RUNS_AGAIN] = {"tasks that run again", again_input},
     [SERVES_79] = {"79 served", full_serving_input},
     [SCRIPT_DAMAGED] = {"damaged script", damaged_script_input},
     [LINE_SHAPE] = {"line of wrong shape", shape_input},

@@ -73,7 +73,7 @@ typedef enum { SIZE_SMALL, SIZE_MEDIUM, SIZE_FULL } rig_size;
 
 void gen_rig(chance *c, rig_size size, rig *out);
 
-/* Tasks that are activated again by their own finish. */
+/* Tasks that their own flag's off activates again. */
 void gen_restarting_rig(chance *c, rig *out);
 
 /* Families whose cancelled flags start watchers outside, in an order that shows. */
@@ -87,6 +87,9 @@ void gen_sleepers_rig(chance *c, rig *out);
 
 /* Tasks that wait for flags, and tasks that flags start in chains, so that one signal is heard by several in several ways. */
 void gen_listeners_rig(chance *c, rig *out);
+
+/* Tasks that run again when they finish or are terminated, or wait for what another's end undoes. */
+void gen_again_rig(chance *c, rig *out);
 
 /* 64 tasks and a cycle of 15 flags, whose tick can serve 79. */
 void gen_full_serving_rig(chance *c, rig *out);
@@ -128,6 +131,9 @@ void gen_sleepers_script(chance *c, const rig *r, unsigned lines, text *out);
 
 /* Plays a listeners rig: its tasks wait for flags or finish, and whoever runs signals. */
 void gen_listeners_script(chance *c, const rig *r, unsigned lines, text *out);
+
+/* Plays such a rig: its tasks finish, or wait for each other's activation flags to go off or on; task 1 terminates. */
+void gen_again_script(chance *c, const rig *r, unsigned lines, text *out);
 
 /* Plays a growth rig: puts its tasks to waits of both kinds, then ticks, signals and reads by turns. */
 void gen_growth_script(chance *c, const rig *r, unsigned lines, text *out);

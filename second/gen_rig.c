@@ -408,6 +408,17 @@ void gen_sleepers_rig(chance *c, rig *out)
 
 /* ---- Listeners ---- */
 
+/* Task 1 controls all others and rests below them. */
+static void put_first_below(rig *r)
+{
+    for (unsigned t = 2; t <= r->tasks; t++) {
+        r->task[t].controller = 1;
+        r->task[t].priority |= 1;
+    }
+    r->task[1].privileged = 0;
+    r->task[1].priority = 0;
+}
+
 /* One condition on one flag: a minor-cycle flag, a plain one, or the activation flag of one of the tasks from `first` to this. */
 static void make_started(chance *c, rig *r, const makings *m, unsigned task, unsigned first)
 {
@@ -422,6 +433,19 @@ static void make_started(chance *c, rig *r, const makings *m, unsigned task, uns
     add_one_flag(r, task, 0, chained ? r->task[pick(c, first, task - 1)].activation : plain);
 }
 
+/* Its numbers, ranks and activation flags, one for each task; there are few plain flags. */
+static void begin_below_first(chance *c, rig *out, makings *m, unsigned minors)
+{
+    memset(out, 0, sizeof *out);
+    m->flags = m->tasks + minors + pick(c, 1, 3);
+    divide_flags(c, m, minors, m->tasks);
+    out->tasks = (uint8_t)m->tasks;
+    out->flags = (uint8_t)m->flags;
+    make_ranks(c, out);
+    give_activation_flags(c, out, m);
+    put_first_below(out);
+}
+
 /*
  * Under task 1, which rests below all others, first those that start when they
  * are scheduled, to wait for flags, then those that flags start.  There are few
@@ -431,23 +455,84 @@ void gen_listeners_rig(chance *c, rig *out)
 {
     unsigned last_waiting = 1 + pick(c, 2, 7), minors = pick(c, 0, 2);
     makings m = {.tasks = last_waiting + pick(c, 2, 6)};
-    memset(out, 0, sizeof *out);
-    m.flags = m.tasks + minors + pick(c, 1, 3);
-    divide_flags(c, &m, minors, m.tasks);
-    out->tasks = (uint8_t)m.tasks;
-    out->flags = (uint8_t)m.flags;
-    make_ranks(c, out);
-    give_activation_flags(c, out, &m);
-    for (unsigned t = 2; t <= m.tasks; t++) {
-        out->task[t].controller = 1;
-        out->task[t].priority |= 1;
-    }
-    out->task[1].privileged = 0;
-    out->task[1].priority = 0;
+    begin_below_first(c, out, &m, minors);
     for (unsigned t = last_waiting + 1; t <= m.tasks; t++)
         make_started(c, out, &m, t, last_waiting + 1);
     make_cycles(c, out, &m);
     make_rows(c, out, SIZE_SMALL);
+}
+
+/* ---- Tasks that run again ---- */
+
+/* The task has one condition, on the activation flag of another. */
+static void make_follower(rig *r, unsigned task, unsigned other, bool latched, bool desired)
+{
+    add_condition(r, task, 0, latched, desired);
+    add_one_flag(r, task, 0, r->task[other].activation);
+}
+
+/* Each starts by the other's end, and keeps the other from starting while it is active. */
+static void make_rivals(rig *r, unsigned task)
+{
+    make_follower(r, task, task + 1, true, false);
+    make_follower(r, task + 1, task, true, false);
+}
+
+/*
+ * The first task's end starts the second, which starts the first again before
+ * it is tested, with all conditions as desired; the third starts by that.
+ */
+static void make_relay(rig *r, unsigned task)
+{
+    make_follower(r, task, task + 1, true, true);
+    make_follower(r, task + 1, task, true, false);
+    make_follower(r, task + 2, task, false, true);
+}
+
+/* One condition on one flag: a minor-cycle flag, a plain one, or an activation flag, the task's own among them. */
+static void make_started_again(chance *c, rig *r, const makings *m, unsigned task)
+{
+    if (m->minors > 0 && likely(c, 40)) {
+        add_condition(r, task, 0, false, true);
+        add_one_flag(r, task, 0, m->minor[pick(c, 0, m->minors - 1)]);
+        return;
+    }
+    unsigned plain = m->other[pick(c, m->activations, m->others - 1)];
+    add_condition(r, task, 0, likely(c, 60), likely(c, 60));
+    add_one_flag(r, task, 0, likely(c, 40) ? plain : r->task[pick(c, 2, r->tasks)].activation);
+}
+
+/* Conditions for the task, or for it and those behind it; answers the last of them. */
+static unsigned make_again(chance *c, rig *r, const makings *m, unsigned task)
+{
+    unsigned way = pick(c, 0, 99);
+    if (way < 35)
+        return task; /* none */
+    if (way < 55 && task + 1 <= r->tasks) {
+        make_rivals(r, task);
+        return task + 1;
+    }
+    if (way < 75 && task + 2 <= r->tasks) {
+        make_relay(r, task);
+        return task + 2;
+    }
+    make_started_again(c, r, m, task);
+    return task;
+}
+
+/*
+ * Under task 1, which rests below all others, tasks without conditions, tasks
+ * that start each other, and tasks that a flag starts.  Each has an activation
+ * flag, so that its end and its running again are served.
+ */
+void gen_again_rig(chance *c, rig *out)
+{
+    unsigned minors = pick(c, 0, 2);
+    makings m = {.tasks = pick(c, 4, 10)};
+    begin_below_first(c, out, &m, minors);
+    for (unsigned done = 1; done < m.tasks;)
+        done = make_again(c, out, &m, done + 1);
+    make_cycles(c, out, &m);
 }
 
 enum { TRIGGER_CYCLE = 1, FULL_CYCLE = 3 };

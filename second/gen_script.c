@@ -143,7 +143,7 @@ static bool do_barred(player *p)
     return false;
 }
 
-/* Task 1 controls the most, so it seldom ends or sleeps where nothing may start it again. */
+/* Task 1 controls the most, so it seldom waits for a flag that may never come. */
 static bool spared(player *p)
 {
     bool comes_again = p->e.rig.conditions[1].present != 0;
@@ -152,7 +152,7 @@ static bool spared(player *p)
 
 static bool do_finish(player *p)
 {
-    if (spared(p))
+    if (p->e.running == 1 && likely(p->c, 60))
         return false;
     call(p, 'F', 0, 0);
     return true;
@@ -557,6 +557,78 @@ void gen_listeners_script(chance *c, const rig *r, unsigned lines, text *out)
     }
 }
 
+/* A task with an activation flag, other than the running one, that is active; 0 if there is none. */
+static unsigned other_active(player *p)
+{
+    unsigned found = 0, seen = 0;
+    for (unsigned t = 2; t <= p->e.rig.tasks; t++) {
+        if (t == p->e.running || p->e.state[t] < WAITING || p->e.rig.task[t].activation == 0)
+            continue;
+        if (pick(p->c, 0, seen++) == 0)
+            found = t;
+    }
+    return found;
+}
+
+/* Waits for the flag of an active task; where somebody waits for it already, mostly for the other value. */
+static bool await_another(player *p)
+{
+    unsigned task = other_active(p), waiting = awaited_task(p);
+    unsigned flag = p->e.rig.task[task].activation, value = pick(p->c, 0, 1);
+    if (waiting != 0 && likely(p->c, 60)) {
+        flag = p->e.wait[waiting].flag;
+        value = 1u - p->e.wait[waiting].value;
+    }
+    if (flag != 0)
+        call(p, 'N', flag, value);
+    return flag != 0;
+}
+
+/* Task 1 of a rig of tasks that run again acts when all others rest: it has them ready, then strikes one. */
+static void again_first(player *p)
+{
+    unsigned way = pick(p->c, 0, 99);
+    if (way < 50 && do_schedule(p))
+        return;
+    if (way < 70 && do_terminate(p))
+        return;
+    if (way < 80 && do_signal(p))
+        return;
+    if (way < 84)
+        call(p, 'F', 0, 0);
+    else
+        call(p, 'K', 0, 0);
+}
+
+static void again_other(player *p)
+{
+    unsigned way = pick(p->c, 0, 99);
+    if (way < 40)
+        call(p, 'F', 0, 0);
+    else if (way < 65 && await_another(p))
+        return;
+    else if (way < 75 && do_signal(p))
+        return;
+    else if (way < 85)
+        call(p, 'K', 0, 0);
+    else
+        sleep_a_while(p);
+}
+
+void gen_again_script(chance *c, const rig *r, unsigned lines, text *out)
+{
+    static player p;
+    play(&p, c, r, out);
+    for (unsigned i = 0; i < lines; i++) {
+        if (p.e.running != 0 && likely(c, 8))
+            (void)do_read(&p);
+        else if (p.e.running == 1)
+            again_first(&p);
+        else
+            again_other(&p);
+    }
+}
+
 void gen_growth_script(chance *c, const rig *r, unsigned lines, text *out)
 {
     static player p;
@@ -588,7 +660,7 @@ static void entries_line(player *p)
     chance *c = p->c;
     char ignored[OUTPUT_LINE_MAX];
     answer a;
-    entries_call line = {.verb = "WDJ"[pick(c, 0, 2)]};
+    entries_call line = {.verb = "WDJJ"[pick(c, 0, 3)]};
     line.row = likely(c, 85) && r->rows > 0 ? pick(c, 1, r->rows) : pick(c, 0, r->rows + 2u);
     line.area = BLOCK_WORDS * r->rows;
     line.words = line.row >= 1 && line.row <= r->rows ? r->row[line.row - 1].words : 1;

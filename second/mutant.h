@@ -24,7 +24,7 @@
     M(8, ACTIVATION_FALLING, "tasks are activated by falling number") \
     M(9, LATCHES_SWAPPED, "latched and unlatched conditions are mixed up") \
     M(10, LATCHED_WAITS_ALWAYS, "a latched wait ignores the value already there") \
-    M(11, RESTART_STAYED, "a task that finished and was activated again goes on running") \
+    M(11, RESTART_STAYED, "a task that finished and that a service activated again goes on running") \
     M(12, HIGHEST_NUMBER_FIRST, "among equals the highest number runs") \
     M(13, PRIVILEGE_IGNORED, "privileged tasks do not rank above the others") \
     M(14, ACTIVATION_KEEPS, "activation leaves the unlatched conditions as they are") \
@@ -109,7 +109,28 @@
     M(93, NUMBERS_UNPRINTED, "neither number is printed, as before the request") \
     M(94, NUMBERS_BEHIND, "both numbers are printed behind words and values") \
     V(95, QUESTION_TELLS_LAST, "a V line tells the numbers of the call before it") \
-    E(96, BLOCKS_TELL_LAST, "block reads and writes tell the numbers of the call before them")
+    E(96, BLOCKS_TELL_LAST, "block reads and writes tell the numbers of the call before them") \
+    M(97, NEVER_TESTED, "a task that finished or was terminated is not tested again, as before the request") \
+    M(98, TESTED_AT_ONCE, "it is tested before its flag is served off") \
+    M(99, TESTED_AFTER_ONE, "it is tested after the first service, though more is queued") \
+    M(100, ACTIVE_TESTED, "it is tested although it is active already, and activated once more") \
+    M(101, CONDITIONS_UNTESTED, "it is activated again whatever its conditions") \
+    M(102, CONDITIONED_UNTESTED, "a task with conditions is not tested again") \
+    M(103, TERMINATED_UNTESTED, "a task is tested again after finish alone") \
+    M(104, FINISHED_UNTESTED, "a task is tested again after terminate alone") \
+    M(105, CANCELLED_TESTED, "a cancelled task is tested again too") \
+    M(106, TESTED_BY_TICK, "the next tick tests the task, not the call itself") \
+    M(107, RESET_BEFORE_TEST, "its unlatched conditions take the undesired value before the test, as by schedule") \
+    M(108, AGAIN_KEEPS, "the test's activation leaves the unlatched conditions as they are") \
+    M(109, AGAIN_FLAG_LEFT, "the test's activation leaves its flag off") \
+    M(110, AGAIN_FLAG_UNSERVED, "the test's activation puts its flag on and does not serve it") \
+    M(111, AGAIN_COUNTED, "the test's activation is counted as activated") \
+    M(112, FIRST_SERVING_UNTOLD, "the numbers of the services behind the test alone are told") \
+    M(113, SECOND_SERVING_UNTOLD, "the numbers of the services before the test alone are told") \
+    M(114, AGAIN_STAYED, "a task that the test made active again goes on running among its equals") \
+    M(115, AGAIN_RUNS_AHEAD, "a task that the test made active again goes on running whatever the others' rank") \
+    M(116, AGAIN_UNCHOSEN, "a task that the test made active again is not chosen to run") \
+    M(117, CHOSEN_BEFORE_TEST, "who runs is chosen before the test, and goes on unless the task ranks higher")
 
 #define MUTANT_NAME(number, name, text) MUTANT_##name = number,
 enum { MUTANT_LIST(MUTANT_NAME, MUTANT_NAME, MUTANT_NAME, MUTANT_NAME, MUTANT_NAME, MUTANT_NAME) MUTANT_END };

@@ -255,15 +255,19 @@ static void count_heard(const exec *e, serving *s, const task_states *before, un
     s->heard += woken + activated > 0;
 }
 
+void serve_one(exec *e, serving *s)
+{
+    unsigned flag, value;
+    take_from_queue(s, &flag, &value);
+    task_states before = states_now(e);
+    serve_flag(e, s, flag, value);
+    count_heard(e, s, &before, flag, value);
+}
+
 void serve_all(exec *e, serving *s)
 {
-    while (s->waiting > 0) {
-        unsigned flag, value;
-        take_from_queue(s, &flag, &value);
-        task_states before = states_now(e);
-        serve_flag(e, s, flag, value);
-        count_heard(e, s, &before, flag, value);
-    }
+    while (s->waiting > 0)
+        serve_one(e, s);
 }
 
 /* ---- Dispatch ---- */

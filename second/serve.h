@@ -35,7 +35,8 @@ void wake_due(exec *e);
 void queue_flag(serving *s, unsigned flag, unsigned value);
 void queue_activation(serving *s, const exec *e, unsigned task, unsigned value);
 
-/* Serves until the queue is empty. */
+/* Serves what is next in the queue, which is not empty; serves until it is. */
+void serve_one(exec *e, serving *s);
 void serve_all(exec *e, serving *s);
 
 /* Unlatched conditions take the undesired value. */

@@ -59,10 +59,6 @@ static void count_serving(run *r, const script_call *call, const answer *a)
     if (a->served > t->most_served)
         t->most_served = a->served;
     t->served_most += a->served == SERVED_MAX;
-    if (call->verb == 'F' && is_active(&r->e, r->before.running))
-        t->restarts++;
-    if (call->verb == 'Z' && is_active(&r->e, call->number))
-        t->terminated_restarts++;
 }
 
 /* Which waits began and how others ended. */
@@ -89,6 +85,12 @@ static void count_waits(run *r, const script_call *call)
     }
 }
 
+/* The task that the call ended, 0 for none. */
+static unsigned ended_by(const run *r, const script_call *call)
+{
+    return call->verb == 'F' ? r->before.running : call->verb == 'Z' ? call->number : 0;
+}
+
 static void count_call(run *r, const script_call *call, const answer *a)
 {
     r->t->call[(unsigned char)call->verb][a->refusal]++;
@@ -98,6 +100,7 @@ static void count_call(run *r, const script_call *call, const answer *a)
     count_serving(r, call, a);
     count_waits(r, call);
     tally_heard_call(&r->t->heard, call, &r->before, &r->e, a);
+    tally_again_call(&r->t->again, ended_by(r, call), &r->before, &r->e, a);
     tally_panel_waits(&r->waits, &r->before, &r->e, r->before.running, strchr("XZ", call->verb) != NULL);
 }
 
@@ -265,14 +268,13 @@ void tally_print(const tally *t, FILE *to)
     print_verbs(t, to);
     print_waits(t, to);
     fprintf(to,
-            "restarts within one call: by finish %llu, by terminate %llu\n"
             "cascades %llu, most activations in one call %llu, most served %llu, calls that served 79: %llu\n",
-            (unsigned long long)t->restarts, (unsigned long long)t->terminated_restarts,
             (unsigned long long)t->cascades, (unsigned long long)t->deepest,
             (unsigned long long)t->most_served, (unsigned long long)t->served_most);
     tally_stream_print(&t->stream, to);
     tally_panel_print(&t->panel, to);
     tally_heard_print(&t->heard, to);
+    tally_again_print(&t->again, to);
 }
 
 /* ---- What was hit too seldom ---- */
@@ -316,10 +318,9 @@ unsigned tally_missing(const tally *t, uint64_t least, FILE *to)
         n += tally_seldom(t->cancelled[(unsigned char)*v], least, to, "cancelled wait", verb);
         n += tally_seldom(t->terminated[(unsigned char)*v], least, to, "terminated wait", verb);
     }
-    n += tally_seldom(t->restarts, least, to, "restart within one call", "by finish");
-    n += tally_seldom(t->terminated_restarts, least, to, "restart within one call", "by terminate");
     n += tally_seldom(t->cascades, least, to, "cascade", "");
     n += tally_seldom(t->served_most, least, to, "call", "that served 79");
     n += tally_heard_missing(&t->heard, least, to);
+    n += tally_again_missing(&t->again, least, to);
     return n;
 }

@@ -12,6 +12,7 @@
 #include "chance.h"
 #include "paper.h"
 #include "rig.h"
+#include "tally_again.h"
 #include "tally_heard.h"
 #include "tally_panel.h"
 #include "tally_stream.h"
@@ -24,8 +25,6 @@ typedef struct {
     uint64_t call[128][REFUSALS];  /* by verb and answer; ? is refused by 1 */
     uint64_t start[REFUSALS];
     uint64_t rule[RIG_RULE_COUNT];
-    uint64_t restarts;             /* a task that finished and is active again in one call */
-    uint64_t terminated_restarts;  /* the same after terminate */
     uint64_t cascades;             /* calls that served more than they queued themselves */
     uint64_t deepest;              /* most activations in one call */
     uint64_t most_served;
@@ -37,6 +36,7 @@ typedef struct {
     stream_tally stream;
     panel_tally panel;
     heard_tally heard;
+    again_tally again;
 } tally;
 
 /* Which lines a program takes: the runner's alone, or those of entries.h or panel.h besides. */

@@ -49,6 +49,7 @@ void rig_tests(void);
 void exec_tests(void);
 void serving_tests(void);
 void heard_tests(void);
+void again_tests(void);
 void sound_tests(void);
 void panel_tests(void);
 void runner_tests(void);

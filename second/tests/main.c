@@ -138,6 +138,7 @@ int main(int argc, char **argv)
     exec_tests();
     serving_tests();
     heard_tests();
+    again_tests();
     sound_tests();
     panel_tests();
     runner_tests();

@@ -53,7 +53,7 @@ static void refused_by_5(void)
 {
     uint16_t area[99], data[32];
     start_house();
-    ACCEPTS(exec_finish(&e));
+    ACCEPTS(exec_wait_cycles(&e, 1));
     CHECK_IS(e.running, 0);
     REFUSED(exec_schedule(&e, 2), NONE_RUNNING);
     REFUSED(exec_schedule(&e, 99), NONE_RUNNING);
@@ -294,11 +294,12 @@ static void terminate_takes_the_named_alone(void)
     ACCEPTS(exec_wait_cycles(&e, 9));
     ACCEPTS(exec_wait_unlatched(&e, 4, false)); /* task 3 */
     ticks(1);
-    CHECK_IS(exec_terminate(&e, 2).served, 1);
-    CHECK_IS(e.state[2], INACTIVE);
+    ACCEPTS(exec_schedule(&e, 4));
+    CHECK_IS(exec_terminate(&e, 2).served, 2); /* off, and on again: it has no conditions */
+    CHECK_IS(e.state[2], DISPATCHABLE);
     CHECK_IS(e.timed.tasks, 0);
     CHECK_IS(e.state[3], WAITING);
-    REFUSED(exec_terminate(&e, 2), WRONG_STATE);
+    REFUSED(exec_terminate(&e, 4), WRONG_STATE); /* inactive: its cycle has not come */
     ACCEPTS(exec_signal(&e, 4, false));
     CHECK_IS(e.state[3], DISPATCHABLE);
     CHECK_IS(e.running, 1);
@@ -315,7 +316,7 @@ static void privileged_rank_highest(void)
     CHECK_IS(e.running, 3);
     ticks(1);
     CHECK_IS(e.running, 3);
-    ACCEPTS(exec_finish(&e));
+    ACCEPTS(exec_wait_cycles(&e, 1));
     CHECK_IS(e.running, 2);
 }
 
@@ -325,9 +326,9 @@ static void lowest_number_of_the_highest(void)
     ACCEPTS(exec_schedule(&e, 4));
     ACCEPTS(exec_schedule(&e, 3));
     ACCEPTS(exec_schedule(&e, 2));
-    ACCEPTS(exec_finish(&e));
+    ACCEPTS(exec_wait_cycles(&e, 1));
     CHECK_IS(e.running, 2);
-    ACCEPTS(exec_finish(&e));
+    ACCEPTS(exec_wait_cycles(&e, 1));
     CHECK_IS(e.running, 3);
 }
 

@@ -26,7 +26,7 @@ static void right_rigs_are_right(void)
     static rig r;
     for (unsigned i = 0; i < 600; i++) {
         chance c = chance_of(6, i);
-        switch (i % 9) {
+        switch (i % 10) {
         case 3:
             gen_restarting_rig(&c, &r);
             break;
@@ -45,8 +45,11 @@ static void right_rigs_are_right(void)
         case 8:
             gen_listeners_rig(&c, &r);
             break;
+        case 9:
+            gen_again_rig(&c, &r);
+            break;
         default:
-            gen_rig(&c, (rig_size)(i % 9), &r);
+            gen_rig(&c, (rig_size)(i % 10), &r);
             break;
         }
         CHECK_IS(rig_broken_rule(&r), RULE_KEPT);
@@ -118,6 +121,7 @@ static void rounds_of_inputs(void)
     CHECK_IS(t.most_served, SERVED_MAX);
     CHECK(t.panel.off > 0 && t.panel.counts == 0);
     CHECK_IS(tally_heard_missing(&t.heard, 1, stdout), 0);
+    CHECK_IS(tally_again_missing(&t.again, 1, stdout), 0);
 }
 
 /* Every place of a room, and all else, is hit. */
@@ -151,10 +155,11 @@ static void rounds_of_entries(void)
     CHECK_IS(tally_heard_missing_entries(&t.heard, 1, stdout), 0);
 }
 
-/* Where nothing was hit, everything is missed: a comparison that never meets the numbers does not pass. */
-static void unheard_counters_are_missed(void)
+/* Where nothing was hit, everything is missed: a comparison that never meets it does not pass. */
+static void unhit_counters_are_missed(void)
 {
     static const heard_tally none;
+    static const again_tally never, left = {.left = 1};
     FILE *said = tmpfile();
     CHECK(said != NULL);
     if (said == NULL)
@@ -162,6 +167,8 @@ static void unheard_counters_are_missed(void)
     CHECK_IS(tally_heard_missing(&none, 1, said), 13);
     CHECK_IS(tally_heard_missing_asked(&none, 1, said), 1);
     CHECK_IS(tally_heard_missing_entries(&none, 1, said), 2);
+    CHECK_IS(tally_again_missing(&never, 1, said), 18);
+    CHECK_IS(tally_again_missing(&left, 0, said), 1);
     fclose(said);
 }
 
@@ -187,7 +194,7 @@ static void numbers_are_strict(void)
 void gen_tests(void)
 {
     RUN(numbers_are_strict);
-    RUN(unheard_counters_are_missed);
+    RUN(unhit_counters_are_missed);
     RUN(rounds_of_streams);
     RUN(rounds_for_the_panel);
     RUN(rounds_of_entries);

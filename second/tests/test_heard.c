@@ -82,7 +82,7 @@ static void the_other_value_is_not_counted(void)
     put_to_wait(4, 4, false);
     heard_by(exec_signal(&e, 4, true), 1, 0);
     CHECK(e.state[3] == WAITING && e.state[4] == WAITING);
-    ACCEPTS(exec_finish(&e)); /* task 2, of higher rank */
+    ACCEPTS(exec_wait_cycles(&e, 1)); /* task 2, of higher rank */
     heard_by(exec_signal(&e, 4, true), 0, 0);
     heard_by(exec_signal(&e, 4, false), 2, 0);
 }

@@ -58,7 +58,7 @@ static void none_waits(void)
     ACCEPTS(exec_wait_unlatched(&e, 2, true)); /* a wait, but not on time */
     CHECK_IS(e.state[2], WAITING);
     wakes_at(0);
-    ACCEPTS(exec_finish(&e));
+    ACCEPTS(exec_wait_unlatched(&e, 2, true));
     CHECK_IS(e.running, 0); /* and nobody runs */
     wakes_at(0);
 }
@@ -119,6 +119,8 @@ static void earliest_terminated(void)
     put_three_to_sleep();
     ACCEPTS(exec_terminate(&e, 3));
     wakes_at(7); /* its descendant goes on waiting */
+    CHECK_IS(e.running, 3); /* it has no conditions, so it is active again; it does not wait again */
+    ACCEPTS(exec_wait_unlatched(&e, 2, true));
     ACCEPTS(exec_terminate(&e, 2));
     wakes_at(7);
 }
@@ -148,14 +150,14 @@ static void the_last_count(void)
 static void panel_lines(void)
 {
     static const char input[] = SLEEPERS
-        "RUN\nV\nS 2\nU 9\nV\nS 3\nR 4\nV\nV 1\nV \nVV\nv\n V\nV 0\nX 3\nV\nR 1\nV\nK\nK\nZ 2\nV\nF\nV\nK\nV";
+        "RUN\nV\nS 2\nU 9\nV\nS 3\nR 4\nV\nV 1\nV \nVV\nv\n V\nV 0\nX 3\nV\nR 1\nV\nK\nK\nZ 2\nV\nF\nV\nN 2 1\nN 2 1\nV\nK\nV";
     static const char with_panel[] =
         "START 0 0 1 0 0\nV 0 0 1 0 0\nS 0 0 2 0 0\nU 0 0 1 0 0\nV 0 0 1 0 0 9\nS 0 0 3 0 0\nR 0 0 1 0 0\nV 0 0 1 0 0 4\n"
-        "?\n?\n?\n?\n?\n?\nX 0 0 1 0 0\nV 0 0 1 0 0 9\nR 0 0 0 0 0\nV 0 0 0 0 0 1\nK 0 1 1 0 0\nK 0 2 1 0 0\nZ 0 2 1 0 0\n"
-        "V 0 2 1 0 0\nF 0 2 0 0 0\nV 0 2 0 0 0\nK 0 3 0 0 0\n?\n";
+        "?\n?\n?\n?\n?\n?\nX 0 0 1 0 0\nV 0 0 1 0 0 9\nR 0 0 0 0 0\nV 0 0 0 0 0 1\nK 0 1 1 0 0\nK 0 2 1 0 0\nZ 0 2 2 0 0\n"
+        "V 0 2 2 0 0\nF 0 2 2 0 0\nV 0 2 2 0 0\nN 0 2 1 0 0\nN 0 2 0 0 0\nV 0 2 0 0 0\nK 0 3 0 0 0\n?\n";
     static const char without[] =
         "START 0 0 1 0 0\n?\nS 0 0 2 0 0\nU 0 0 1 0 0\n?\nS 0 0 3 0 0\nR 0 0 1 0 0\n?\n?\n?\n?\n?\n?\n?\nX 0 0 1 0 0\n?\n"
-        "R 0 0 0 0 0\n?\nK 0 1 1 0 0\nK 0 2 1 0 0\nZ 0 2 1 0 0\n?\nF 0 2 0 0 0\n?\nK 0 3 0 0 0\n?\n";
+        "R 0 0 0 0 0\n?\nK 0 1 1 0 0\nK 0 2 1 0 0\nZ 0 2 2 0 0\n?\nF 0 2 2 0 0\n?\nN 0 2 1 0 0\nN 0 2 0 0 0\n?\nK 0 3 0 0 0\n?\n";
     CHECK_PANEL(input, with_panel);
     CHECK_RUN(input, without);
 }

@@ -43,9 +43,9 @@ static void where_the_rig_ends(void)
 
 static void script_lines(void)
 {
-    CHECK_RUN(SMALL "RUN\n\nK \nK\n F\nS 4294967295\nS 4294967296\nQ 1\nG 1 1\nQ 1\nG 1 2\nL 1 1\nF\nF\nK",
+    CHECK_RUN(SMALL "RUN\n\nK \nK\n F\nS 4294967295\nS 4294967296\nQ 1\nG 1 1\nQ 1\nG 1 2\nL 1 1\nF\nN 1 0\nF\nK",
               "START 0 0 1 0 0\n?\n?\nK 0 1 1 0 0\n?\nS 6 1 1 0 0\n?\nQ 0 1 1 0 0 0\nG 0 1 1 0 0\nQ 0 1 1 0 0 1\n?\n"
-              "L 0 1 1 0 0\nF 0 1 0 0 0\nF 5 1 0 0 0\n?\n");
+              "L 0 1 1 0 0\nF 0 1 1 0 0\nN 0 1 0 0 0\nF 5 1 0 0 0\n?\n");
     CHECK_RUN(SMALL "RUN\nU 2147483648\nR 2147483648\nU 00\nR 0\nU 2147483647\nS 0\n",
               "START 0 0 1 0 0\nU 9 0 1 0 0\nR 9 0 1 0 0\n?\nR 0 0 1 0 0\nU 0 0 0 0 0\nS 5 0 0 0 0\n");
 }
@@ -53,7 +53,7 @@ static void script_lines(void)
 /* A 1 is a wrong shape before anything else, also while none runs. */
 static void wrong_lines_first(void)
 {
-    CHECK_RUN(SMALL "RUN\nF\nS\nS 9\n", "START 0 0 1 0 0\nF 0 0 0 0 0\n?\nS 5 0 0 0 0\n");
+    CHECK_RUN(SMALL "RUN\nR 1\nS\nS 9\n", "START 0 0 1 0 0\nR 0 0 0 0 0\n?\nS 5 0 0 0 0\n");
 }
 
 /* The runner streams: long lines, many lines, any bytes. */

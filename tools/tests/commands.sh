@@ -45,6 +45,7 @@ helps() {
         expect 0 "^usage: $command" "$command" -h
     done
     expect 0 'running task (0 for none), woken, activated,' ./bench --help
+    expect 0 'After F and Z, once all flags are served, the task that ended is tested again' ./bench --help
     expect 0 '^Panel:   V ' ./bench --panel --help
     expect 0 '^Panel:   V ' ./bench --help --panel
     expect_in 0 '^0$' './bench --help | grep -c "^Panel:" || true'
@@ -64,10 +65,13 @@ runs() {
     expect 0 "^G${tab}0${tab}0${tab}3${tab}1${tab}3$" ./bench rigs/heard.rig
     expect 0 "^G${tab}7${tab}0${tab}3${tab}0${tab}0$" ./bench rigs/heard.rig
     expect 0 'signal 2=1  *accepted  *0  *3  *1  *3$' ./bench --table rigs/heard.rig
+    expect 0 "^F${tab}0${tab}0${tab}3${tab}2${tab}0$" ./bench rigs/again.rig
+    expect 0 "^F${tab}0${tab}2${tab}2${tab}0${tab}0$" ./bench rigs/again.rig
+    expect 0 'terminate 2  *accepted  *4  *2  *0  *0$' ./bench --table rigs/again.rig
     expect 1 "^START${tab}3${tab}6$" ./bench rigs/broken/order.rig
     expect_in 1 "^START${tab}1${tab}1$" './bench < /dev/null'
     expect 0 "^V${tab}0${tab}0${tab}0${tab}0${tab}0${tab}3$" ./bench --panel rigs/panel/waking.rig
-    expect_in 0 "^V${tab}0${tab}5${tab}1${tab}0${tab}0$" './bench --panel < rigs/panel/waking.rig'
+    expect_in 0 "^V${tab}0${tab}5${tab}2${tab}0${tab}0$" './bench --panel < rigs/panel/waking.rig'
     expect_in 0 '^0$' './bench rigs/panel/waking.rig | grep -c "^V" || true'
     expect_in 0 '^same$' 'cmp <(./bench --panel rigs/morning.rig) rigs/morning.out && echo same'
     expect 0 'next waking  *accepted  *0  *none  *0  *0  *3$' ./bench --table --panel rigs/panel/waking.rig

@@ -27,7 +27,7 @@ view() {
 }
 
 [ "${1:-}" != --keep ] || keep=yes
-for name in morning family frame restart refusals heard; do
+for name in morning family frame restart refusals heard again; do
     view 0 "$name.txt" "rigs/$name.rig" --table
     view 0 "$name.svg" "rigs/$name.rig" --picture
 done

@@ -4,7 +4,7 @@ use exec_state::Work;
 use rig::Rig;
 ghost use mathlib.Core.Path.{_≡_};
 ghost use Rattle.exec_outcome.specs.Outcome.{refusedBy, keptWith};
-ghost use Rattle.exec_outcome.specs.Laws.Settling.{Settles, Settled};
+ghost use Rattle.exec_outcome.specs.Laws.Settling.{Settles, SettlesAgain, Settled};
 
 // The refusal's number is 0 for an accepted call. Told are the flags served, how many waiting tasks that made dispatchable and how
 // many it activated, the bus words and a value. What a refused call tells is 0, and its state is as it was.
@@ -51,7 +51,7 @@ pub fn kept(st: State, value: u32) -> Outcome
 // What a call has queued is served, and then it is decided who runs.
 pub fn settle(rig: Rig, w: Work) -> Outcome
     requires { ⌜ Settles rig w ⌝ }
-    ensures { λ r. ⌜ Settled rig w r ⌝ }
+    ensures { λ r. ⌜ Settled rig w 0 r ⌝ }
 {
     let st = w.st;
     let queue = w.queue;
@@ -77,6 +77,38 @@ pub fn settle(rig: Rig, w: Work) -> Outcome
         served,
         woken,
         activated,
+        words: 0,
+        value: 0,
+    }
+}
+
+// "After finish and terminate": once what is queued is served, task t is tested again, and what that queues is served too.
+pub fn settle_again(rig: Rig, w: Work, t: usize) -> Outcome
+    requires { ⌜ SettlesAgain rig w t ⌝ }
+    ensures { λ r. ⌜ Settled rig w t r ⌝ }
+{
+    let st = w.st;
+    let queue = w.queue;
+    let d = exec_serving::serve(
+        st,
+        queue,
+        rig.lines as usize,
+        &rig.present,
+        &rig.latched,
+        &rig.desired,
+        &rig.lineTask,
+        &rig.linePos,
+        &rig.lineFlag,
+        &rig.activation,
+    );
+    let o = settle(rig, d.st.tested(rig, t));
+    let st = o.st;
+    Outcome {
+        st,
+        refusal: 0,
+        served: d.served + o.served,
+        woken: d.woken + o.woken,
+        activated: d.activated + o.activated,
         words: 0,
         value: 0,
     }

@@ -1,7 +1,7 @@
 -- What serving asks, and what it gives, with whatever cycles stand beside the rig.
 use mathlib.Core.Path.{_≡_}
 use mathlib.Core.List.{List, [], _∷_}
-use Prim.Native.Nat.{ℕ, _≤_}
+use Prim.Native.Nat.{ℕ, _*_, _≤_}
 use Rattle.chains.specs.Held.{at, HoldsChains}
 use Rattle.exec_conditions.specs.Lines.{Lines}
 use Rattle.exec_queue.specs.View.{entriesOf}
@@ -52,4 +52,6 @@ pub record Served (s : State) (q : Queue) (g : Rig) (f v : ℕ) (r : Work) (woke
 pub record Emptied (g : Rig) (s : State) (q : Queue) (r : Done) : Type 0 where
   pub is : (cycles : List Cycle) → doneOf r ≡ serve (rigOf g cycles) (workOf s q)
   pub sound : HoldsChains (r .st .links)
+  pub chains : ChainsIn (viewOf (r .st))
   pub few : r .served ≤ 79
+  pub small : (r .woken ≤ 64 * r .served) × (r .activated ≤ 64 * r .served)

@@ -9,7 +9,7 @@ use Rattle.rig.specs.declared.Cycle.{Cycle}
 use Rattle.rig.specs.declared.Rig.{Rig}
 use Rattle.rules.specs.State.{blank}
 use Rattle.rules.specs.Running.{dispatch}
-use Rattle.rules.specs.Calls.{scheduled, finished, terminated, cancelled}
+use Rattle.rules.specs.Calls.{tested, scheduled, finished, terminated, cancelled}
 use Rattle.exec_state.specs.View.{rigOf, viewOf, workOf}
 use Rattle.exec_state.specs.declared.State.{State}
 use Rattle.exec_state.specs.declared.Work.{Work}
@@ -47,6 +47,10 @@ pub record Terminated (s : State) (g : Rig) (t : ℕ) (r : Work) : Type 0 where
 pub record Cancelled (s : State) (g : Rig) (t : ℕ) (r : Work) : Type 0 where
   pub is : (cycles : List Cycle) → workOf (r .st) (r .queue) ≡ cancelled (rigOf g cycles) (viewOf s) t
   pub sound : HoldsChains (r .st .links)
+
+pub record Tested (s : State) (g : Rig) (t : ℕ) (r : Work) : Type 0 where
+  pub is : (cycles : List Cycle) → workOf (r .st) (r .queue) ≡ tested (rigOf g cycles) t (viewOf s)
+  pub links : r .st .links ≡ s .links
 
 pub record Scheduled (s : State) (g : Rig) (t : ℕ) (r : Work) : Type 0 where
   pub is : (cycles : List Cycle) → workOf (r .st) (r .queue) ≡ scheduled (rigOf g cycles) (viewOf s) t

@@ -7,7 +7,7 @@ use rig_tables::FLAG_PLACES;
 use rig_tables::TASK_PLACES;
 ghost use Prim.Native.Nat.{_<_, _≤_};
 ghost use Rattle.chains.specs.Held.{HoldsChains};
-ghost use Rattle.exec_state.specs.Post.{CancelOk, Dispatched, Finished, Terminated, Cancelled, Scheduled, Blank};
+ghost use Rattle.exec_state.specs.Post.{CancelOk, Dispatched, Finished, Terminated, Cancelled, Tested, Scheduled, Blank};
 ghost use Rattle.exec_state.specs.Set.{withRanks};
 
 // "States: 0 uninvoked, 1 inactive, 2 waiting, 3 dispatchable."
@@ -117,14 +117,18 @@ impl State {
         Work { st: self, queue: q }
     }
 
-    // Task t is inactive with its unlatched conditions undesired, and activated if all its conditions are as desired.
-    pub fn scheduled(mut self, rig: Rig, t: usize) -> Work
+    // Task t, if it is inactive with all its conditions as desired, is activated.
+    pub fn tested(mut self, rig: Rig, t: usize) -> Work
         requires { ⌜ t ≤ 64 ⌝ }
-        ensures { λ r. ⌜ Scheduled self rig t r ⌝ }
+        ensures { λ r. ⌜ Tested self rig t r ⌝ }
     {
         let none = Queue::empty();
-        exec_conditions::relax(&rig.present, &rig.latched, &rig.desired, t, &mut self.cond);
-        self.state[t] = INACTIVE;
+        if self.state[t] != INACTIVE {
+            return Work {
+                st: self,
+                queue: none,
+            };
+        }
         if !exec_conditions::met(&rig.present, &rig.desired, t, &self.cond) {
             return Work {
                 st: self,
@@ -136,5 +140,15 @@ impl State {
         self.state[t] = DISPATCHABLE;
         exec_conditions::relax(&rig.present, &rig.latched, &rig.desired, t, &mut self.cond);
         Work { st: self, queue: q }
+    }
+
+    // Task t is inactive with its unlatched conditions undesired, and then tested.
+    pub fn scheduled(mut self, rig: Rig, t: usize) -> Work
+        requires { ⌜ t ≤ 64 ⌝ }
+        ensures { λ r. ⌜ Scheduled self rig t r ⌝ }
+    {
+        exec_conditions::relax(&rig.present, &rig.latched, &rig.desired, t, &mut self.cond);
+        self.state[t] = INACTIVE;
+        self.tested(rig, t)
     }
 }

@@ -63,7 +63,8 @@ pub fn terminate(rig: Rig, cycles: [Cycle; CYCLES], st: State, task: u32) -> Out
     if n != 0 {
         return exec_outcome::refused(st, n);
     }
-    exec_outcome::settle(rig, st.terminated(rig, task as usize))
+    let t = task as usize;
+    exec_outcome::settle_again(rig, st.terminated(rig, t), t)
 }
 
 // "(the running task): inactive, activation flag queued off"
@@ -75,7 +76,8 @@ pub fn finish(rig: Rig, cycles: [Cycle; CYCLES], st: State) -> Outcome
     if n != 0 {
         return exec_outcome::refused(st, n);
     }
-    exec_outcome::settle(rig, st.finished(rig))
+    let t = st.running as usize;
+    exec_outcome::settle_again(rig, st.finished(rig), t)
 }
 
 // "Start: count 0, flags and conditions off, all tasks uninvoked; then task 1 is scheduled."

@@ -8,6 +8,6 @@ recordSize = 10788
 abbrev pub recordAlign : ℕ
 recordAlign = 4
 
--- version 0.4.0 as one number, larger for a later one: 1,000,000 for each of the first, 1,000 for each of the second, 1 for each of the third
+-- version 0.5.0 as one number, larger for a later one: 1,000,000 for each of the first, 1,000 for each of the second, 1 for each of the third
 abbrev pub version : ℕ
-version = 0 * 1000000 + 4 * 1000 + 0
+version = 0 * 1000000 + 5 * 1000 + 0

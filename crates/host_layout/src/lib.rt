@@ -6,7 +6,7 @@ const RECORD_SIZE: usize = 10788;
 
 const RECORD_ALIGN: usize = 4;
 
-const VERSION: u32 = 4000;
+const VERSION: u32 = 5000;
 
 // The version, of which the header has the same number.
 pub fn version_number() -> u32

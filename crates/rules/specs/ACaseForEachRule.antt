@@ -20,7 +20,7 @@ use Rattle.rules.specs.Running.{best, chosen, dispatch}
 use Rattle.rules.specs.Bus.{written, copied, rowWords, busWords}
 use Rattle.rules.specs.NextWaking.{lowestWaking}
 use Rattle.rules.specs.Calls.{schedule, cancel, terminate, finish, tick, waitUntil, waitFor, latched, unlatched, signal, readFlag, readBlock, writeBlock, nextWaking}
-use Rattle.rules.specs.Calls.{scheduled, finished, terminated, cancelled, cycleQueue, ticked, effect, decide, noSuch, inCycle, isMinor, isActivation, lastCount, wrongBlock, refusals, refusal, wordsAt, lent, output, accepted, after, step, run, started, start}
+use Rattle.rules.specs.Calls.{scheduled, finished, terminated, cancelled, cycleQueue, ticked, effect, decide, noSuch, inCycle, isMinor, isActivation, lastCount, wrongBlock, refusals, refusal, wordsAt, lent, output, tested, ended, again, settled, accepted, after, step, run, started, start}
 use Rattle.rules.specs.Scripts.{TaskLine, MinorLine, T, C, A, M, B, ofTask, ofCondition, numbers, ofLine, ofCycle, rig, tick₀, startAt, seen, Case, shown, case, caseAt, bench, morningCalls}
 use Rattle.rules.specs.Scripts.{runs, answers, serves, hears, writes, reads, lends, sends, stateIs, conditionIs, valueIs, waitFlag, waitTime, _and_}
 
@@ -76,6 +76,22 @@ stopped-and-started =
     0 ∷ 1 ∷ 3 ∷ 2 ∷ 3 ∷ 4 ∷
     0 ∷ 1 ∷ 3 ∷ 2 ∷ 2 ∷ 1 ∷
     2 ∷ 1 ∷ 3 ∷ 3 ∷ 3 ∷ 3 ∷ []
+    )
+
+-- L3: the same of a task with no conditions, which is tested again once its off is served. Its off wakes task 3, its on task 4; seen also: woken,
+-- activated. That it is activated by the test, not by a service, is not counted
+pub stopped-and-started-by-the-test : Case
+stopped-and-started-by-the-test =
+    case (rig 4 4 1 (T 1 0 10 0 0 ∷ T 2 1 5 0 3 ∷ T 3 1 30 0 0 ∷ T 4 1 20 0 0 ∷ []) [] [] [] [])
+    (schedule 2 ∷ schedule 3 ∷ unlatched 3 0 ∷ schedule 4 ∷ unlatched 3 1 ∷ terminate 2 ∷ [])
+    (serves and hears and valueIs 3 and stateIs 2 and stateIs 3 and stateIs 4 and runs)
+    (
+    1 ∷ 0 ∷ 0 ∷ 1 ∷ 3 ∷ 0 ∷ 0 ∷ 1 ∷
+    0 ∷ 0 ∷ 0 ∷ 1 ∷ 3 ∷ 3 ∷ 0 ∷ 3 ∷
+    0 ∷ 0 ∷ 0 ∷ 1 ∷ 3 ∷ 2 ∷ 0 ∷ 1 ∷
+    0 ∷ 0 ∷ 0 ∷ 1 ∷ 3 ∷ 2 ∷ 3 ∷ 4 ∷
+    0 ∷ 0 ∷ 0 ∷ 1 ∷ 3 ∷ 2 ∷ 2 ∷ 1 ∷
+    2 ∷ 2 ∷ 0 ∷ 1 ∷ 3 ∷ 3 ∷ 3 ∷ 3 ∷ []
     )
 
 -- ---- "Slips seen on benches"
@@ -212,14 +228,71 @@ activation-relaxes =
     runs
     (1 ∷ 1 ∷ 2 ∷ 1 ∷ 1 ∷ 2 ∷ [])
 
--- "A condition is tested for activation on schedule and on service of one of its flags.": not at a finish, nor on service of
--- another flag
-pub tested-on-schedule-and-service-only : Case
-tested-on-schedule-and-service-only =
+-- L3: "After finish and terminate .. that task is tested again": it is not left inactive with its condition as desired; seen: its state, its
+-- condition, who runs
+pub tested-again-after-finish-and-terminate : Case
+tested-again-after-finish-and-terminate =
     case remembering
-    (signal 1 1 ∷ schedule 2 ∷ finish ∷ signal 2 1 ∷ signal 1 1 ∷ [])
-    runs
-    (1 ∷ 2 ∷ 1 ∷ 1 ∷ 2 ∷ [])
+    (signal 1 1 ∷ schedule 2 ∷ finish ∷ waitFor 1 ∷ terminate 2 ∷ [])
+    (stateIs 2 and conditionIs 2 0 and runs)
+    (0 ∷ 1 ∷ 1 ∷ 3 ∷ 1 ∷ 2 ∷ 3 ∷ 1 ∷ 2 ∷ 2 ∷ 1 ∷ 1 ∷ 3 ∷ 1 ∷ 2 ∷ [])
+
+-- "once the queue is empty": task 2 asks that flag 4 be off, task 3 that flag 3 be. Task 2's off activates task 3, whose on comes before the test,
+-- so that task 2 stays inactive; task 3's off then activates task 2, whose on comes before the test of task 3; seen: served, flag 3, both
+-- states, who runs
+pub tested-once-the-queue-is-empty : Case
+tested-once-the-queue-is-empty =
+    case (rig 3 4 1 (T 1 0 10 0 0 ∷ T 2 1 5 0 3 ∷ T 3 1 30 0 4 ∷ []) (C 2 0 1 0 ∷ C 3 0 1 0 ∷ []) (A 2 0 4 ∷ A 3 0 3 ∷ []) [] [])
+    (schedule 2 ∷ schedule 3 ∷ terminate 2 ∷ finish ∷ [])
+    (serves and valueIs 3 and stateIs 2 and stateIs 3 and runs)
+    (
+    1 ∷ 1 ∷ 3 ∷ 0 ∷ 1 ∷
+    0 ∷ 1 ∷ 3 ∷ 1 ∷ 1 ∷
+    2 ∷ 0 ∷ 1 ∷ 3 ∷ 3 ∷
+    2 ∷ 1 ∷ 3 ∷ 1 ∷ 1 ∷ []
+    )
+
+-- "if it is still inactive": task 2 asks that flag 4 be on, task 3 that flag 3 be off. Task 2's off activates task 3, whose on activates task 2; its
+-- condition is as desired at the test, but it is active, and its on is served once; seen: served, woken, activated, both states
+pub active-already-at-the-test : Case
+active-already-at-the-test =
+    case (rig 3 4 1 (T 1 0 10 0 0 ∷ T 2 1 5 0 3 ∷ T 3 1 5 0 4 ∷ []) (C 2 0 1 1 ∷ C 3 0 1 0 ∷ []) (A 2 0 4 ∷ A 3 0 3 ∷ []) [] [])
+    (schedule 3 ∷ schedule 2 ∷ terminate 3 ∷ terminate 2 ∷ [])
+    (serves and hears and stateIs 2 and stateIs 3)
+    (
+    1 ∷ 0 ∷ 0 ∷ 0 ∷ 3 ∷
+    1 ∷ 0 ∷ 0 ∷ 3 ∷ 3 ∷
+    1 ∷ 0 ∷ 0 ∷ 3 ∷ 1 ∷
+    3 ∷ 0 ∷ 2 ∷ 3 ∷ 3 ∷ []
+    )
+
+-- "its flag is then served on": that on activates task 3, and is counted
+pub the-test-is-served-on : Case
+the-test-is-served-on =
+    case (rig 3 4 1 (T 1 0 10 0 0 ∷ T 2 1 5 0 3 ∷ T 3 1 5 0 0 ∷ []) (C 3 0 0 1 ∷ []) (A 3 0 3 ∷ []) [] [])
+    (schedule 2 ∷ schedule 3 ∷ terminate 2 ∷ [])
+    (serves and hears and stateIs 2 and stateIs 3)
+    (
+    1 ∷ 0 ∷ 0 ∷ 3 ∷ 0 ∷
+    0 ∷ 0 ∷ 0 ∷ 3 ∷ 1 ∷
+    2 ∷ 0 ∷ 1 ∷ 3 ∷ 3 ∷ []
+    )
+
+-- a finish serves one flag more than there are tasks, and no more: task 1's off activates tasks 2 and 3, and it is active again
+pub the-most-that-a-finish-serves : Case
+the-most-that-a-finish-serves =
+    case (rig 3 4 1 (T 1 0 10 0 1 ∷ T 2 1 20 0 2 ∷ T 3 1 20 0 3 ∷ []) (C 2 0 1 0 ∷ C 3 0 1 0 ∷ []) (A 2 0 1 ∷ A 3 0 1 ∷ []) [] [])
+    (schedule 2 ∷ schedule 3 ∷ finish ∷ [])
+    (serves and stateIs 1 and runs)
+    (0 ∷ 3 ∷ 1 ∷ 0 ∷ 3 ∷ 1 ∷ 4 ∷ 3 ∷ 2 ∷ [])
+
+-- a terminate as many as there are tasks, since its caller is one of them
+pub the-most-that-a-terminate-serves : Case
+the-most-that-a-terminate-serves =
+    case (rig 3 4 1 (T 1 0 50 0 0 ∷ T 2 1 20 0 2 ∷ T 3 1 20 0 3 ∷ []) (C 3 0 1 0 ∷ []) (A 3 0 2 ∷ []) [] [])
+    (schedule 2 ∷ schedule 3 ∷ terminate 2 ∷ [])
+    (serves and stateIs 2 and stateIs 3)
+    (1 ∷ 3 ∷ 0 ∷ 0 ∷ 3 ∷ 1 ∷ 3 ∷ 3 ∷ 3 ∷ [])
 
 -- "each inactive task": not one that is active, though its condition stays as desired; its activation flag 3 is not queued
 -- again (task 3 is inactive all the while); seen: served, the state of 2
@@ -230,21 +303,14 @@ who-is-active-is-not-activated =
     (serves and stateIs 2)
     (0 ∷ 0 ∷ 0 ∷ 1 ∷ 2 ∷ 3 ∷ 1 ∷ 3 ∷ [])
 
--- "each inactive task with that flag in a condition": not one whose conditions are as desired, when a flag of another's is
--- served. Task 2 has flag 1 and is inactive with its condition as desired; flag 2 is task 3's; seen: the states of both
+-- "each inactive task with that flag in a condition": not one whose conditions are as desired, when another flag is served. Task 2 has no
+-- conditions; the service of its off does not activate it, the test does, and that is not counted; seen: served, woken, activated, its state
 pub only-its-own-flags-activate-a-task : Case
 only-its-own-flags-activate-a-task =
-    case (rig 3 4 1 (T 1 0 10 0 0 ∷ T 2 1 20 0 0 ∷ T 3 1 5 0 0 ∷ []) (C 2 0 1 1 ∷ C 3 0 1 1 ∷ []) (A 2 0 1 ∷ A 3 0 2 ∷ []) [] [])
-    (schedule 3 ∷ schedule 2 ∷ signal 1 1 ∷ finish ∷ signal 2 1 ∷ signal 1 1 ∷ [])
-    (stateIs 2 and stateIs 3)
-    (
-    0 ∷ 1 ∷
-    1 ∷ 1 ∷
-    3 ∷ 1 ∷
-    1 ∷ 1 ∷
-    1 ∷ 3 ∷
-    3 ∷ 3 ∷ []
-    )
+    case (rig 2 4 1 (T 1 0 10 0 0 ∷ T 2 1 20 0 3 ∷ []) [] [] [] [])
+    (schedule 2 ∷ finish ∷ [])
+    (serves and hears and stateIs 2)
+    (1 ∷ 0 ∷ 0 ∷ 3 ∷ 2 ∷ 0 ∷ 0 ∷ 3 ∷ [])
 
 -- "if all conditions are as desired": one of the two is not enough
 pub all-conditions-as-desired : Case
@@ -265,10 +331,11 @@ one-condition-of-two-flags =
 -- "Finish (the running task): inactive, activation flag queued off."
 pub finish-wakes-who-waits-for-the-off : Case
 finish-wakes-who-waits-for-the-off =
-    case (rig 2 4 1 (T 1 0 10 0 0 ∷ T 2 1 20 0 2 ∷ []) [] [] [] [])
-    (schedule 2 ∷ waitFor 1 ∷ unlatched 2 0 ∷ tick₀ ∷ finish ∷ [])
+    case (rig 2 4 1 (T 1 0 10 0 0 ∷ T 2 1 20 0 2 ∷ []) (C 2 0 0 1 ∷ []) (A 2 0 1 ∷ []) [] [])
+    (schedule 2 ∷ signal 1 1 ∷ waitFor 1 ∷ unlatched 2 0 ∷ tick₀ ∷ finish ∷ [])
     (runs and stateIs 2 and valueIs 2)
     (
+    1 ∷ 1 ∷ 0 ∷
     2 ∷ 3 ∷ 1 ∷
     1 ∷ 2 ∷ 1 ∷
     0 ∷ 2 ∷ 1 ∷
@@ -292,7 +359,7 @@ finish-leaves-the-conditions =
     2 ∷ 0 ∷ 0 ∷ []
     )
 
--- "Terminate: the same for the named active task, taken out of any chain.": task 2; its task 3 waits on, and only it wakes
+-- "Terminate: the same for the named active task, taken out of any chain.": task 2; its task 3 waits on
 pub terminate-takes-out-of-a-flag-chain : Case
 terminate-takes-out-of-a-flag-chain =
     case line
@@ -303,8 +370,8 @@ terminate-takes-out-of-a-flag-chain =
     0 ∷ 3 ∷ 3 ∷ 3 ∷
     3 ∷ 0 ∷ 3 ∷ 2 ∷ 2 ∷
     3 ∷ 2 ∷ 0 ∷ 2 ∷ 2 ∷ 1 ∷
-    3 ∷ 0 ∷ 1 ∷ 2 ∷ 1 ∷
-    0 ∷ 1 ∷ 3 ∷ 3 ∷ []
+    3 ∷ 0 ∷ 3 ∷ 2 ∷ 2 ∷
+    0 ∷ 3 ∷ 3 ∷ 3 ∷ []
     )
 
 -- the same of the time chain
@@ -316,9 +383,9 @@ terminate-takes-out-of-the-time-chain =
     (
     0 ∷ 3 ∷ 2 ∷
     2 ∷ 0 ∷ 2 ∷ 1 ∷
-    0 ∷ 1 ∷ 1 ∷
-    0 ∷ 1 ∷ 1 ∷
-    0 ∷ 1 ∷ 1 ∷ []
+    0 ∷ 3 ∷ 2 ∷
+    0 ∷ 3 ∷ 2 ∷
+    0 ∷ 3 ∷ 2 ∷ []
     )
 
 -- .. and nothing else: its conditions stay, as at a finish; seen: its state, its conditions
@@ -340,7 +407,7 @@ terminate-leaves-the-conditions =
 pub cancel-touches-no-condition : Case
 cancel-touches-no-condition =
     case remembering
-    (signal 1 1 ∷ schedule 2 ∷ finish ∷ cancel 2 ∷ schedule 2 ∷ [])
+    (signal 1 1 ∷ schedule 2 ∷ waitFor 5 ∷ cancel 2 ∷ schedule 2 ∷ [])
     runs
     (1 ∷ 2 ∷ 1 ∷ 1 ∷ 2 ∷ [])
 
@@ -593,7 +660,7 @@ higher-rank-takes-the-processor =
 pub lowest-number-first : Case
 lowest-number-first =
     case (rig 3 4 1 (T 1 0 10 0 0 ∷ T 2 1 20 0 0 ∷ T 3 1 20 0 0 ∷ []) (C 2 0 0 1 ∷ C 3 0 0 1 ∷ []) (A 2 0 1 ∷ A 3 0 1 ∷ []) (M 1 1 ∷ []) [])
-    (schedule 3 ∷ schedule 2 ∷ finish ∷ tick₀ ∷ [])
+    (schedule 3 ∷ schedule 2 ∷ waitFor 5 ∷ tick₀ ∷ [])
     runs
     (1 ∷ 1 ∷ 0 ∷ 2 ∷ [])
 
@@ -605,11 +672,27 @@ stayed-throughout =
     (runs and stateIs 3)
     (1 ∷ 0 ∷ 3 ∷ 3 ∷ 3 ∷ 3 ∷ 2 ∷ 3 ∷ [])
 
+-- L3: "A task that finishes has not stayed dispatchable, even if it is active again": of equal rank task 2 runs, the lowest number
+pub active-again-is-chosen-anew : Case
+active-again-is-chosen-anew =
+    case quad
+    (schedule 2 ∷ waitFor 1 ∷ schedule 3 ∷ tick₀ ∷ finish ∷ [])
+    (runs and stateIs 3)
+    (2 ∷ 0 ∷ 1 ∷ 0 ∷ 3 ∷ 3 ∷ 3 ∷ 3 ∷ 2 ∷ 3 ∷ [])
+
+-- and of higher rank task 3, whom its off woke
+pub active-again-is-outranked : Case
+active-again-is-outranked =
+    case (rig 3 4 1 (T 1 0 10 0 0 ∷ T 2 1 20 0 3 ∷ T 3 1 30 0 0 ∷ []) [] [] [] [])
+    (schedule 3 ∷ unlatched 3 0 ∷ schedule 2 ∷ finish ∷ [])
+    (runs and stateIs 2 and stateIs 3)
+    (3 ∷ 0 ∷ 3 ∷ 1 ∷ 0 ∷ 2 ∷ 2 ∷ 3 ∷ 2 ∷ 3 ∷ 3 ∷ 3 ∷ [])
+
 -- "Privileged tasks rank above all others, by priority among themselves."
 pub privileged-above-all-others : Case
 privileged-above-all-others =
     case (rig 3 4 1 (T 1 0 10 0 0 ∷ T 2 1 5 1 0 ∷ T 3 1 6 1 0 ∷ []) [] [] [] [])
-    (schedule 2 ∷ waitFor 1 ∷ schedule 3 ∷ tick₀ ∷ finish ∷ [])
+    (schedule 2 ∷ waitFor 1 ∷ schedule 3 ∷ tick₀ ∷ waitFor 1 ∷ [])
     runs
     (2 ∷ 1 ∷ 3 ∷ 3 ∷ 2 ∷ [])
 
@@ -742,12 +825,12 @@ the-last-block =
 
 -- ---- "When does the bench next wake someone?"
 
--- nobody waits; then task 3 wakes first, who began neither first nor last; it is cancelled, then task 4 terminated, then task 2
--- cancelled. Seen: the answer, the count that is told, who runs
+-- nobody waits; then task 3 wakes first, who began neither first nor last; it is cancelled, then task 4 terminated, which is active again and waits
+-- on a flag, then task 2 cancelled. Seen: the answer, the count that is told, who runs
 pub the-lowest-waking-count : Case
 the-lowest-waking-count =
     case quad
-    (nextWaking ∷ schedule 2 ∷ waitUntil 9 ∷ schedule 3 ∷ waitUntil 5 ∷ schedule 4 ∷ waitUntil 7 ∷ nextWaking ∷ cancel 3 ∷ nextWaking ∷ terminate 4 ∷ nextWaking ∷ cancel 2 ∷ nextWaking ∷ [])
+    (nextWaking ∷ schedule 2 ∷ waitUntil 9 ∷ schedule 3 ∷ waitUntil 5 ∷ schedule 4 ∷ waitUntil 7 ∷ nextWaking ∷ cancel 3 ∷ nextWaking ∷ terminate 4 ∷ nextWaking ∷ unlatched 1 1 ∷ cancel 2 ∷ nextWaking ∷ [])
     (answers and reads and runs)
     (
     0 ∷ 0 ∷ 1 ∷
@@ -760,8 +843,9 @@ the-lowest-waking-count =
     0 ∷ 5 ∷ 1 ∷
     0 ∷ 0 ∷ 1 ∷
     0 ∷ 7 ∷ 1 ∷
+    0 ∷ 0 ∷ 4 ∷
+    0 ∷ 9 ∷ 4 ∷
     0 ∷ 0 ∷ 1 ∷
-    0 ∷ 9 ∷ 1 ∷
     0 ∷ 0 ∷ 1 ∷
     0 ∷ 0 ∷ 1 ∷ []
     )
@@ -808,7 +892,7 @@ the-last-task-wakes =
 pub refused-5-first : Case
 refused-5-first =
     case lone
-    (finish ∷ finish ∷ schedule 9 ∷ cancel 9 ∷ terminate 9 ∷ waitUntil 4294967295 ∷ waitFor 4294967295 ∷ latched 9 1 ∷ unlatched 9 1 ∷ signal 9 1 ∷ readFlag 9 ∷ readBlock 9 [] [] ∷ writeBlock 9 [] [] ∷ tick [] ∷ tick₀ ∷ [])
+    (waitUntil 9 ∷ finish ∷ schedule 9 ∷ cancel 9 ∷ terminate 9 ∷ waitUntil 4294967295 ∷ waitFor 4294967295 ∷ latched 9 1 ∷ unlatched 9 1 ∷ signal 9 1 ∷ readFlag 9 ∷ readBlock 9 [] [] ∷ writeBlock 9 [] [] ∷ tick [] ∷ tick₀ ∷ [])
     answers
     (0 ∷ 5 ∷ 5 ∷ 5 ∷ 5 ∷ 5 ∷ 5 ∷ 5 ∷ 5 ∷ 5 ∷ 5 ∷ 5 ∷ 5 ∷ 10 ∷ 0 ∷ [])
 
@@ -911,6 +995,7 @@ Holds c = shown c ≡ c .shows
 -- each case shows what it is to show
 pub cases-hold :
     Holds stopped-and-started
+    × Holds stopped-and-started-by-the-test
     × Holds thirty-two-is-written-as-zero
     × Holds equal-rank-takes-nothing
     × Holds phase-against-the-count-after-the-tick
@@ -925,7 +1010,12 @@ pub cases-hold :
     × Holds position-fifteen-counts
     × Holds no-line-no-condition
     × Holds activation-relaxes
-    × Holds tested-on-schedule-and-service-only
+    × Holds tested-again-after-finish-and-terminate
+    × Holds tested-once-the-queue-is-empty
+    × Holds active-already-at-the-test
+    × Holds the-test-is-served-on
+    × Holds the-most-that-a-finish-serves
+    × Holds the-most-that-a-terminate-serves
     × Holds who-is-active-is-not-activated
     × Holds only-its-own-flags-activate-a-task
     × Holds all-conditions-as-desired
@@ -961,6 +1051,8 @@ pub cases-hold :
     × Holds higher-rank-takes-the-processor
     × Holds lowest-number-first
     × Holds stayed-throughout
+    × Holds active-again-is-chosen-anew
+    × Holds active-again-is-outranked
     × Holds privileged-above-all-others
     × Holds privileged-above-the-highest-priority
     × Holds rows-in-order
@@ -988,5 +1080,5 @@ pub cases-hold :
     × Holds refused-9-last-tick
     × Holds refused-10-tick
     × Holds refused-10-area
-unfolding tasksFrom flagsFrom largest lone pair quad line remembering forgetting asking bench morningCalls rows stopped-and-started thirty-two-is-written-as-zero equal-rank-takes-nothing phase-against-the-count-after-the-tick cancel-strikes-every-descendant cancel-strikes-grandchildren unlatched-waits-for-the-next-service latched-conditions-remember conditions-are-driven-while-the-task-runs conditions-are-driven-while-the-task-waits schedule-relaxes undesired-of-off-is-on position-fifteen-counts no-line-no-condition activation-relaxes tested-on-schedule-and-service-only who-is-active-is-not-activated only-its-own-flags-activate-a-task all-conditions-as-desired one-condition-of-two-flags finish-wakes-who-waits-for-the-off finish-leaves-the-conditions terminate-takes-out-of-a-flag-chain terminate-takes-out-of-the-time-chain terminate-leaves-the-conditions cancel-touches-no-condition cancel-leaves-unlatched-conditions cancel-queues-off-for-the-active-only cancel-serves-the-highest-off-first last-queued-first activation-by-rising-number only-the-value-waited-for-wakes all-who-wait-wake served-numbers a-signal-says-whom-it-woke a-signal-says-whom-it-activated added-over-all-services services-alone-count heard-in-the-morning the-last-task-hears wait-until-a-count wait-for-cycles no-wait-at-or-below-the-count latched-wait-takes-the-value-there time-chain-in-order flag-chains-in-order cycle-of-the-count start-schedules-task-1 higher-rank-takes-the-processor lowest-number-first stayed-throughout privileged-above-all-others privileged-above-the-highest-priority rows-in-order due-at-its-phase due-at-the-last-phase write-touches-no-other-word read-copies-the-data the-last-task the-last-task-is-activated the-last-flag the-last-row the-last-block the-lowest-waking-count asked-while-nobody-runs waiting-on-a-flag-is-not-on-time the-last-task-wakes lowestWaking refused-5-first refused-6-no-such refused-7-not-the-controller refused-7-flags refused-8-states refused-8-active refused-9-waking-count refused-9-waking-sum refused-9-last-tick refused-10-tick refused-10-area ofTask ofCondition numbers ofLine ofCycle rig tick₀ startAt seen shown runs answers serves hears writes reads lends sends stateIs conditionIs valueIs waitFlag waitTime _and_ iter all any total over put commandWord blank relax met drive names activate takes rouse wake ready offer offers serveFlag made serving serve waitOn waitUntilCount leave wakeDue family cleared deserted offs best chosen dispatch written copied rowWords busWords scheduled finished terminated cancelled cycleQueue ticked effect decide noSuch inCycle isMinor isActivation lastCount wrongBlock refusals refusal wordsAt lent output accepted after step run started start
-cases-hold = (refl, refl, refl, refl, refl, refl, refl, refl, refl, refl, refl, refl, refl, refl, refl, refl, refl, refl, refl, refl, refl, refl, refl, refl, refl, refl, refl, refl, refl, refl, refl, refl, refl, refl, refl, refl, refl, refl, refl, refl, refl, refl, refl, refl, refl, refl, refl, refl, refl, refl, refl, refl, refl, refl, refl, refl, refl, refl, refl, refl, refl, refl, refl, refl, refl, refl, refl, refl, refl, refl, refl, refl, refl, refl, refl, refl, refl, refl)
+unfolding tasksFrom flagsFrom largest lone pair quad line remembering forgetting asking bench morningCalls rows stopped-and-started stopped-and-started-by-the-test thirty-two-is-written-as-zero equal-rank-takes-nothing phase-against-the-count-after-the-tick cancel-strikes-every-descendant cancel-strikes-grandchildren unlatched-waits-for-the-next-service latched-conditions-remember conditions-are-driven-while-the-task-runs conditions-are-driven-while-the-task-waits schedule-relaxes undesired-of-off-is-on position-fifteen-counts no-line-no-condition activation-relaxes tested-again-after-finish-and-terminate tested-once-the-queue-is-empty active-already-at-the-test the-test-is-served-on the-most-that-a-finish-serves the-most-that-a-terminate-serves who-is-active-is-not-activated only-its-own-flags-activate-a-task all-conditions-as-desired one-condition-of-two-flags finish-wakes-who-waits-for-the-off finish-leaves-the-conditions terminate-takes-out-of-a-flag-chain terminate-takes-out-of-the-time-chain terminate-leaves-the-conditions cancel-touches-no-condition cancel-leaves-unlatched-conditions cancel-queues-off-for-the-active-only cancel-serves-the-highest-off-first last-queued-first activation-by-rising-number only-the-value-waited-for-wakes all-who-wait-wake served-numbers a-signal-says-whom-it-woke a-signal-says-whom-it-activated added-over-all-services services-alone-count heard-in-the-morning the-last-task-hears wait-until-a-count wait-for-cycles no-wait-at-or-below-the-count latched-wait-takes-the-value-there time-chain-in-order flag-chains-in-order cycle-of-the-count start-schedules-task-1 higher-rank-takes-the-processor lowest-number-first stayed-throughout active-again-is-chosen-anew active-again-is-outranked privileged-above-all-others privileged-above-the-highest-priority rows-in-order due-at-its-phase due-at-the-last-phase write-touches-no-other-word read-copies-the-data the-last-task the-last-task-is-activated the-last-flag the-last-row the-last-block the-lowest-waking-count asked-while-nobody-runs waiting-on-a-flag-is-not-on-time the-last-task-wakes lowestWaking refused-5-first refused-6-no-such refused-7-not-the-controller refused-7-flags refused-8-states refused-8-active refused-9-waking-count refused-9-waking-sum refused-9-last-tick refused-10-tick refused-10-area ofTask ofCondition numbers ofLine ofCycle rig tick₀ startAt seen shown runs answers serves hears writes reads lends sends stateIs conditionIs valueIs waitFlag waitTime _and_ iter all any total over put commandWord blank relax met drive names activate takes rouse wake ready offer offers serveFlag made serving serve waitOn waitUntilCount leave wakeDue family cleared deserted offs best chosen dispatch written copied rowWords busWords tested scheduled finished terminated cancelled cycleQueue ticked effect ended again settled decide noSuch inCycle isMinor isActivation lastCount wrongBlock refusals refusal wordsAt lent output accepted after step run started start
+cases-hold = (refl, refl, refl, refl, refl, refl, refl, refl, refl, refl, refl, refl, refl, refl, refl, refl, refl, refl, refl, refl, refl, refl, refl, refl, refl, refl, refl, refl, refl, refl, refl, refl, refl, refl, refl, refl, refl, refl, refl, refl, refl, refl, refl, refl, refl, refl, refl, refl, refl, refl, refl, refl, refl, refl, refl, refl, refl, refl, refl, refl, refl, refl, refl, refl, refl, refl, refl, refl, refl, refl, refl, refl, refl, refl, refl, refl, refl, refl, refl, refl, refl, refl, refl, refl, refl, refl)

@@ -18,7 +18,7 @@ use Rattle.rules.specs.Conditions.{relax, met, drive, names}
 use Rattle.rules.specs.Serving.{activate, takes, rouse, wake, ready, offer, offers, serveFlag, serving, serve}
 use Rattle.rules.specs.Waiting.{waitUntilCount}
 use Rattle.rules.specs.Running.{best, chosen, dispatch}
-use Rattle.rules.specs.Calls.{schedule, waitUntil, scheduled, effect, decide, noSuch, lastCount, refusals, refusal, output, accepted, after, step, run, started, start}
+use Rattle.rules.specs.Calls.{schedule, waitUntil, tested, scheduled, effect, ended, again, settled, decide, noSuch, lastCount, refusals, refusal, output, accepted, after, step, run, started, start}
 use Rattle.rules.specs.Scripts.{T, C, A, ofTask, ofCondition, numbers, ofLine, ofCycle, rig}
 use Rattle.rules.specs.Soundness.{Sound}
 
@@ -96,7 +96,7 @@ pub each-part-counts :
     × Unsound (flagTo 5 1)
     × Unsound (wakeTo 5 9)
     × Unsound (conditionTo (placeOf 4 1) 1)
-unfolding four calm stateTo flagTo conditionTo wakeTo chainTo threeIn ofTask ofCondition numbers ofLine ofCycle rig iter all any total over blank relax met drive names activate takes rouse wake ready offer offers serveFlag serving serve waitUntilCount best chosen dispatch scheduled effect decide noSuch lastCount refusals refusal output accepted after step run started start
+unfolding four calm stateTo flagTo conditionTo wakeTo chainTo threeIn ofTask ofCondition numbers ofLine ofCycle rig iter all any total over blank relax met drive names activate takes rouse wake ready offer offers serveFlag serving serve waitUntilCount best chosen dispatch tested scheduled effect ended again settled decide noSuch lastCount refusals refusal output accepted after step run started start
 each-part-counts = (
   (λ h. let z : 4 ≤ 3 = h .tasks .small 4 in omega arith),
   (λ h. let z : 2147483648 ≤ 2147483647 = h .range in omega arith),

@@ -1,5 +1,5 @@
 -- THE CALLS: what each does, what each refuses, what each answers; steps, runs and the start.
-use mathlib.Core.Bool.{Bool, not, cond, _||_}
+use mathlib.Core.Bool.{Bool, not, cond, _&&_, _||_}
 use mathlib.Core.List.{List, [], _∷_}
 use Prim.Native.Nat.{ℕ, zero, suc, _+_, _%_}
 use lib.Dec.{leb, ltb, eqb}
@@ -34,13 +34,20 @@ pub data Call : Type 0 where
 
 -- ---- what each call does before its queue is served
 
+-- a state with nothing queued
+abbrev pub quiet : State → Work
+quiet s = record { now = s; queue = [] }
+
+-- A task is tested: inactive, "if all conditions are as desired, none included, the task is activated"
+unfoldable pub tested : Rig → ℕ → State → Work
+tested r t s =
+    cond (eqb (stateOf s t) inactive && met (r .present) (r .desired) t (s .conds)) (activate r t (quiet s)) (quiet s)
+
 -- "Schedule: unlatched conditions take the undesired value; inactive; if all conditions are as desired, none included,
 -- the task is activated."
 unfoldable pub scheduled : Rig → State → ℕ → Work
 scheduled r s t =
-    let conds = relax (r .present) (r .latched) (r .desired) t (s .conds) in
-    let w : Work = record { now = withTables s conds (set (s .states) t inactive); queue = [] } in
-    cond (met (r .present) (r .desired) t conds) (activate r t w) w
+    tested r t (withTables s (relax (r .present) (r .latched) (r .desired) t (s .conds)) (set (s .states) t inactive))
 
 -- "Finish (the running task): inactive, activation flag queued off."
 unfoldable pub finished : Rig → State → Work
@@ -81,10 +88,6 @@ ticked r s =
     let count = suc (s .count) in
     record { now = wakeDue (withCount s count); queue = cycleQueue (r .minor (count % minorCycles)) }
 
--- a state with nothing queued
-abbrev pub quiet : State → Work
-quiet s = record { now = s; queue = [] }
-
 unfoldable pub effect : Rig → State → Call → Work
 effect r s (schedule t) = scheduled r s t
 effect r s (cancel t) = cancelled r s t
@@ -104,6 +107,45 @@ effect r s (readFlag f) = quiet s
 effect r s (readBlock k area buffer) = quiet s
 effect r s (writeBlock k area buffer) = quiet s
 effect r s nextWaking = quiet s
+
+-- ---- L3: what is queued is served, and "after finish and terminate" there is more
+
+-- "that task": the one that finished, or was terminated; 0 for none
+unfoldable pub ended : State → Call → ℕ
+ended s (schedule t) = 0
+ended s (cancel t) = 0
+ended s (terminate t) = t
+ended s finish = s .running
+ended s (tick buffer) = 0
+ended s (waitUntil t) = 0
+ended s (waitFor n) = 0
+ended s (latched f v) = 0
+ended s (unlatched f v) = 0
+ended s (signal f v) = 0
+ended s (readFlag f) = 0
+ended s (readBlock k area buffer) = 0
+ended s (writeBlock k area buffer) = 0
+ended s nextWaking = 0
+
+-- a serving after another: their numbers are added
+abbrev pub further : Done → Done → Done
+further d e =
+    record {
+      now = e .now;
+      served = d .served + e .served;
+      woken = d .woken + e .woken;
+      activated = d .activated + e .activated;
+    }
+
+-- "once the queue is empty, that task is tested again and activated if it is still inactive with all conditions as desired; its
+-- flag is then served on." Once is enough: a serving makes nobody inactive, and leaves nobody inactive with all conditions as desired
+-- who was not so before it (theorem nobody-left).
+unfoldable pub again : Rig → ℕ → Done → Done
+again r zero d = d
+again r (suc t) d = further d (serve r (tested r (suc t) (d .now)))
+
+unfoldable pub settled : Rig → State → Call → Done
+settled r s k = again r (ended s k) (serve r (effect r s k))
 
 -- ---- what each call refuses
 
@@ -290,7 +332,7 @@ pub record Step : Type 0 where
 
 unfoldable pub accepted : Rig → State → Call → Step
 accepted r s k =
-    let d = serve r (effect r s k) in
+    let d = settled r s k in
     let n = dispatch r (d .now) in
     let o = output r n k in
     record {

@@ -20,7 +20,7 @@ use Rattle.rules.specs.Family.{family, cleared, deserted, offs}
 use Rattle.rules.specs.Running.{best, chosen, dispatch}
 use Rattle.rules.specs.Bus.{written, copied, rowWords, busWords}
 use Rattle.rules.specs.Calls.{Call, schedule, cancel, terminate, finish, tick, waitUntil, waitFor, latched, unlatched, signal, readFlag, readBlock, writeBlock, nextWaking, Step}
-use Rattle.rules.specs.Calls.{scheduled, finished, terminated, cancelled, cycleQueue, ticked, effect, decide, noSuch, inCycle, isMinor, isActivation, lastCount, wrongBlock, refusals, refusal, wordsAt, lent, output, accepted, after, step, run, started, start}
+use Rattle.rules.specs.Calls.{tested, scheduled, finished, terminated, cancelled, cycleQueue, ticked, effect, ended, again, settled, decide, noSuch, inCycle, isMinor, isActivation, lastCount, wrongBlock, refusals, refusal, wordsAt, lent, output, accepted, after, step, run, started, start}
 use Rattle.rules.specs.Scripts.{ofTask, ofCondition, numbers, ofLine, ofCycle, rig, tick₀, bench, morningCalls}
 
 -- ---- "prints verb, answer (0 accepted), count, running task (0 none), then, if accepted, bus words or the flag's value"
@@ -92,5 +92,5 @@ pub morning : printed bench morningCalls ≡
     ∷ K (0 ∷ 5 ∷ 1 ∷ 0 ∷ 0 ∷ [])
     ∷ K (0 ∷ 6 ∷ 3 ∷ 0 ∷ 0 ∷ 14400 ∷ [])
     ∷ []
-unfolding bench morningCalls verb told line lines printed ofTask ofCondition numbers ofLine ofCycle rig tick₀ iter all any total over put commandWord blank relax met drive names activate takes rouse wake ready offer offers serveFlag made serving serve waitOn waitUntilCount leave wakeDue family cleared deserted offs best chosen dispatch written copied rowWords busWords scheduled finished terminated cancelled cycleQueue ticked effect decide noSuch inCycle isMinor isActivation lastCount wrongBlock refusals refusal wordsAt lent output accepted after step run started start
+unfolding bench morningCalls verb told line lines printed ofTask ofCondition numbers ofLine ofCycle rig tick₀ iter all any total over put commandWord blank relax met drive names activate takes rouse wake ready offer offers serveFlag made serving serve waitOn waitUntilCount leave wakeDue family cleared deserted offs best chosen dispatch written copied rowWords busWords tested scheduled finished terminated cancelled cycleQueue ticked effect ended again settled decide noSuch inCycle isMinor isActivation lastCount wrongBlock refusals refusal wordsAt lent output accepted after step run started start
 morning = refl

@@ -31,6 +31,8 @@ pub record RigOk (r : Rig) : Type 0 where
   pub present-task : (i : ℕ) → r .present i ≡ 1 → (positions ≤ i) × (i < positions * suc (r .tasks))
   -- "Each A names a condition with a C line"
   pub line-present : (k : ℕ) → k < r .lines → r .present (placeOf (r .lineTask k) (r .linePos k)) ≡ 1
+  -- "at positions 0 to 15"
+  pub line-position : (k : ℕ) → k < r .lines → r .linePos k < positions
 
 -- of the rows, for what is written into lent buffers: "bus rows 0 to 64 of 1 to 32 words"
 pub record RowsOk (r : Rig) : Type 0 where

@@ -78,4 +78,5 @@ full-ok =
       controller-some = controlled;
       present-task = conditions;
       line-present = line-there;
+      line-position = λ k l. omega arith;
     }

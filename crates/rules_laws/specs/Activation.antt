@@ -1,6 +1,7 @@
--- "A condition is tested for activation on schedule and on service of one of its flags.": NO OTHER RULE ACTIVATES.
--- Over any call, a task that was not active before it and is after it was activated by its own schedule, or by the service of
--- a flag in one of its conditions; and then all its conditions were as desired.
+-- "A condition is tested for activation on schedule and on service of one of its flags." and, L3, "after finish and terminate": NO OTHER RULE
+-- ACTIVATES. Over any call, a task that was not active before it and is after it was activated by its own schedule, or by the service of
+-- a flag in one of its conditions; and then all its conditions were as desired. Of a finish and a terminate the same is said of what they
+-- leave to the serving, and there the test is the third way.
 use mathlib.Core.Path.{_≡_, refl, sym, ap, _∙_, subst}
 use mathlib.Core.Logic.{_≢_, _⊎_, inl, inr, ⊎-elim}
 use mathlib.Core.Bool.{Bool, true, false, cond}
@@ -19,25 +20,26 @@ use Rattle.laws.specs.Laws.Members.{in-keep}
 use Rattle.laws.specs.Laws.Stores.{stores-keep}
 use Rattle.rules.specs.Rig.{Rig, placeOf}
 use Rattle.rules.specs.RigOk.{RigOk}
-use Rattle.rules.specs.State.{State, Work, Entry, stateOf, valueOf, active, inactive, chainOf, timeChain, withCount, withTables}
+use Rattle.rules.specs.State.{State, Work, Entry, stateOf, valueOf, active, inactive, chainOf, timeChain, withCount}
 use Rattle.rules.specs.Conditions.{relax, met, names}
 use Rattle.rules.specs.Serving.{activate, takes, wake, ready, serveFlag, serving, serve, inactives}
 use Rattle.rules.specs.Waiting.{waitOn, waitUntilCount, isDue, wakeDue}
 use Rattle.rules.specs.Family.{family, isMarked, cleared}
 use Rattle.rules.specs.Running.{dispatch}
 use Rattle.rules.specs.Calls.{Call, schedule, cancel, terminate, finish, tick, waitUntil, waitFor, latched, unlatched, signal, readFlag, readBlock, writeBlock, nextWaking}
-use Rattle.rules.specs.Calls.{scheduled, finished, terminated, cancelled, ticked, quiet, effect, refusal, refusals, accepted, Step, step}
+use Rattle.rules.specs.Calls.{tested, scheduled, finished, terminated, cancelled, ticked, effect, refusal, refusals, ended, again, settled, accepted, Step, step}
 use Rattle.rules.specs.Proper.{Proper}
 use Rattle.rules.specs.Soundness.{Sound}
 use Rattle.rules_laws.specs.ConditionLaws.{met-is, names-is}
 use Rattle.rules_laws.specs.Rousing.{rouse-one, rouse-same}
 use Rattle.rules_laws.specs.Offering.{called, offers-changed}
 use Rattle.rules_laws.specs.Serve.{load, serveFlag-load}
-use Rattle.rules_laws.specs.Good.{Good, Ready, clean-ready, serveFlag-clean}
+use Rattle.rules_laws.specs.Good.{Good, Ready, clean-ready, serveFlag-clean, serve-good, tested-ready}
 use Rattle.rules_laws.specs.Acceptance.{somebody-runs}
 use Rattle.rules_laws.specs.Refusals.{accepted-is, refused-is}
 use Rattle.rules_laws.specs.Steps.{effect-ready}
-use Rattle.rules_laws.specs.WhileServing.{Reached, begin, onward}
+use Rattle.rules_laws.specs.Testing.{tested-cases}
+use Rattle.rules_laws.specs.WhileServing.{Reached, begin, onward, Through, queued, afterwards}
 
 -- ---- in the paper's words
 
@@ -54,16 +56,23 @@ pub record BySchedule (r : Rig) (s : State) (k : Call) (t : ℕ) : Type 0 where
   pub call : k ≡ schedule t
   pub desired : AsDesired r t (relax (r .present) (r .latched) (r .desired) t (s .conds))
 
--- it is activated on the way of the serving that starts from w: a flag of one of its conditions is served, and with what the
+-- it is activated on the way, which comes through what C says: a flag of one of its conditions is served, and with what the
 -- conditions then take it is inactive with all of them as desired
-pub record ByService (r : Rig) (w : Work) (t : ℕ) : Type 0 where
+pub record ByService (r : Rig) (C : Work → Type 0) (t : ℕ) : Type 0 where
   pub before : State
   pub entry : Entry
   pub behind : List Entry
-  pub reached : Reached r w (record { now = before; queue = entry ∷ behind })
+  pub reached : C (record { now = before; queue = entry ∷ behind })
   pub was : stateOf before t ≡ inactive
   pub flag : HasFlag r t (entry .flag)
   pub desired : AsDesired r t (takes r entry before .conds)
+
+-- L3: it is the task u that the call ended, and once the queue of w is empty it is "still inactive with all conditions as desired"
+pub record ByTest (r : Rig) (u : ℕ) (w : Work) (t : ℕ) : Type 0 where
+  pub ended : t ≡ u
+  pub some : t ≢ 0
+  pub was : stateOf (serve r w .now) t ≡ inactive
+  pub desired : AsDesired r t (serve r w .now .conds)
 
 -- ---- the tests in these words
 
@@ -117,7 +126,7 @@ module _ (r : Rig) (e : Entry) (s : State) (q : List Entry) (g : Good r s (e ∷
 
 module _ (r : Rig) (ok : RigOk r) (w : Work) (t : ℕ) where
   serving-activates : (k : ℕ) (s : State) (q : List Entry) → length q + inactives (s .states) ≤ k → Ready r (record { now = s; queue = q })
-      → Reached r w (record { now = s; queue = q }) → active (stateOf s t) ≡ 0 → active (stateOf (serving r k s q .now) t) ≡ 1 → ByService r w t
+      → Reached r w (record { now = s; queue = q }) → active (stateOf s t) ≡ 0 → active (stateOf (serving r k s q .now) t) ≡ 1 → ByService r (Reached r w) t
   unfolding serving
   serving-activates zero s q h c p i n = absurd (omega arith)
   serving-activates (suc k) s [] h c p i n = absurd (omega arith)
@@ -127,16 +136,73 @@ module _ (r : Rig) (ok : RigOk r) (w : Work) (t : ℕ) where
       go (dec-eq (active (stateOf (serveFlag r e s q .now) t)) 0)
       (λ j. serving-activates k (serveFlag r e s q .now) (serveFlag r e s q .queue) (omega arith) (clean-ready r (serveFlag r e s q) x) (onward s e q p) j n)
     where
-      go : Dec (active (stateOf (serveFlag r e s q .now) t) ≡ 0) → (active (stateOf (serveFlag r e s q .now) t) ≡ 0 → ByService r w t) → ByService r w t
+      go : Dec (active (stateOf (serveFlag r e s q .now) t) ≡ 0) → (active (stateOf (serveFlag r e s q .now) t) ≡ 0 → ByService r (Reached r w) t)
+          → ByService r (Reached r w) t
       go (yes j) later = later j
       go (no j) later =
           let d = turn r e s q (c .good) t i (busy (stateOf (serveFlag r e s q .now) t) j) in
           record { before = s; entry = e; behind = q; reached = p; was = d .was; flag = d .flag; desired = d .desired }
 
   -- a task that a serving activates
-  pub serve-activates : Ready r w → active (stateOf (w .now) t) ≡ 0 → active (stateOf (serve r w .now) t) ≡ 1 → ByService r w t
+  serve-activates : Ready r w → active (stateOf (w .now) t) ≡ 0 → active (stateOf (serve r w .now) t) ≡ 1 → ByService r (Reached r w) t
   unfolding serve
   serve-activates c i n = serving-activates (load w) (w .now) (w .queue) (le-refl _) c begin i n
+
+-- more may be said of the way
+on-the-way : (r : Rig) (C D : Work → Type 0) (t : ℕ) → ((x : Work) → C x → D x) → ByService r C t → ByService r D t
+on-the-way r C D t f b =
+    record { before = b .before; entry = b .entry; behind = b .behind; reached = f _ (b .reached); was = b .was; flag = b .flag; desired = b .desired }
+
+-- ---- the test, and the serving after it
+
+module _ (r : Rig) (ok : RigOk r) (u : ℕ) (w : Work) (c : Ready r w) (t : ℕ) where
+  -- by a service, or by the test
+  abbrev pub Called : Type 0
+  Called = ByService r (Through r u w) t ⊎ ByTest r u w t
+
+  -- the test activates nobody but the task that is tested
+  tested-other : (s : State) → active (stateOf s t) ≡ 0 → active (stateOf (tested r u s .now) t) ≡ 1
+      → (t ≡ u) × (stateOf s t ≡ 1) × (met (r .present) (r .desired) t (s .conds) ≡ true)
+  unfolding activate
+  tested-other s i =
+      tested-cases r u s (λ x. active (stateOf (x .now) t) ≡ 1 → (t ≡ u) × (stateOf s t ≡ 1) × (met (r .present) (r .desired) t (s .conds) ≡ true))
+      (λ e m n. go e m n (dec-eq t u)) (λ k n. absurd (omega (arith, i, n)))
+    where
+      go : stateOf s u ≡ 1 → met (r .present) (r .desired) u (s .conds) ≡ true → active (getD (set (s .states) u 3) t 0) ≡ 1 → Dec (t ≡ u)
+          → (t ≡ u) × (stateOf s t ≡ 1) × (met (r .present) (r .desired) t (s .conds) ≡ true)
+      go e m n (yes q) = (q, ap (stateOf s) q ∙ e, ap (λ (v : ℕ). met (r .present) (r .desired) v (s .conds)) q ∙ m)
+      go e m n (no q) = absurd (omega (arith, i, n, ap active (getD-set-other (s .states) u t 3 0 q)))
+
+  after-the-first : u ≢ 0 → active (stateOf (serve r w .now) t) ≡ 0
+      → active (stateOf (serve r (tested r u (serve r w .now)) .now) t) ≡ 1 → Called
+  after-the-first z i n = go (dec-eq (active (stateOf (x .now) t)) 0)
+    where
+      x : Work
+      x = tested r u (serve r w .now)
+
+      go : Dec (active (stateOf (x .now) t) ≡ 0) → Called
+      go (yes j) =
+          inl (on-the-way r (Reached r x) (Through r u w) t (λ y p. afterwards y z p)
+          (serve-activates r ok x t (tested-ready r ok u (serve r w .now) (serve-good r ok w c)) j n))
+      go (no j) =
+          let a = tested-other (serve r w .now) i (busy (stateOf (x .now) t) j) in
+          inr (record { ended = a .0; some = λ q. z (sym (a .0) ∙ q); was = a .1; desired = as-desired r t (serve r w .now .conds) (a .2) })
+
+  pub settle-activates : active (stateOf (w .now) t) ≡ 0 → active (stateOf (again r u (serve r w) .now) t) ≡ 1 → Called
+  unfolding again
+  settle-activates i n = go u refl (dec-eq (active (stateOf (serve r w .now) t)) 0)
+    where
+      first : active (stateOf (serve r w .now) t) ≢ 0 → Called
+      first j =
+          inl (on-the-way r (Reached r w) (Through r u w) t (λ y p. queued y p) (serve-activates r ok w t c i (busy (stateOf (serve r w .now) t) j)))
+
+      go : (v : ℕ) → u ≡ v → Dec (active (stateOf (serve r w .now) t) ≡ 0) → Called
+      go v e (no j) = first j
+      go zero e (yes j) = absurd (omega (arith, j, n, ap (λ (y : ℕ). active (stateOf (again r y (serve r w) .now) t)) e))
+      go (suc v) e (yes j) =
+          after-the-first (λ q. omega (arith, e, q)) j
+          (subst (λ (y : ℕ). active (stateOf (serve r (tested r y (serve r w .now)) .now) t) ≡ 1) (sym e)
+          (subst (λ (y : ℕ). active (stateOf (again r y (serve r w) .now) t) ≡ 1) e n))
 
 -- ---- what a call does before its queue is served
 
@@ -176,21 +242,19 @@ module _ (r : Rig) (s : State) (h : Sound r s) (t : ℕ) (i : active (stateOf s 
   -- the task that is scheduled, if all its conditions are as desired, and no other
   scheduled-idle : (u : ℕ) → Idle (scheduled r s u .now) ⊎ BySchedule r s (schedule u) t
   unfolding scheduled activate
-  scheduled-idle u = go (met (r .present) (r .desired) u conds) refl (dec-eq t u)
+  scheduled-idle u =
+      tested-cases r u _ (λ x. Idle (x .now) ⊎ BySchedule r s (schedule u) t) (λ e m. go m (dec-eq t u)) (λ n. inl one)
     where
       conds : List ℕ
       conds = relax (r .present) (r .latched) (r .desired) u (s .conds)
 
-      w : Work
-      w = quiet (withTables s conds (set (s .states) u 1))
-
       one : active (getD (set (s .states) u 1) t 0) ≡ 0
       one = keeps-under active 0 (s .states) u t 1 refl i
 
-      go : (b : Bool) → met (r .present) (r .desired) u conds ≡ b → Dec (t ≡ u) → Idle ((cond b (activate r u w) w) .now) ⊎ BySchedule r s (schedule u) t
-      go false e d = inl one
-      go true e (no d) = inl (ap active (getD-set-other (set (s .states) u 1) u t 3 0 d) ∙ one)
-      go true e (yes d) =
+      go : met (r .present) (r .desired) u conds ≡ true → Dec (t ≡ u)
+          → (active (getD (set (set (s .states) u 1) u 3) t 0) ≡ 0) ⊎ BySchedule r s (schedule u) t
+      go e (no d) = inl (ap active (getD-set-other (set (s .states) u 1) u t 3 0 d) ∙ one)
+      go e (yes d) =
           inr (subst (λ (v : ℕ). BySchedule r s (schedule u) v) (sym d) (record { call = refl; desired = as-desired r u conds e }))
 
   effect-activates : (k : Call) → refusal r s k ≡ 0 → Idle (effect r s k .now) ⊎ BySchedule r s k t
@@ -214,15 +278,18 @@ module _ (r : Rig) (s : State) (h : Sound r s) (t : ℕ) (i : active (stateOf s 
 
 pub activated-by : (r : Rig) → RigOk r → (s : State) → Sound r s → (k : Call) → Proper k → (t : ℕ)
     → active (stateOf s t) ≡ 0 → active (stateOf (step r s k .next) t) ≡ 1
-    → BySchedule r s k t ⊎ ByService r (effect r s k) t
-unfolding accepted dispatch
+    → BySchedule r s k t ⊎ (ByService r (Through r (ended s k) (effect r s k)) t ⊎ ByTest r (ended s k) (effect r s k) t)
+unfolding accepted settled dispatch
 activated-by r ok s h k p t i n = go (refusal r s k) refl
   where
-    served : refusal r s k ≡ 0 → active (stateOf (serve r (effect r s k) .now) t) ≡ 1
-    served e = ap (λ (x : Step). active (stateOf (x .next) t)) (sym (accepted-is r s k e)) ∙ n
+    Ways : Type 0
+    Ways = BySchedule r s k t ⊎ (ByService r (Through r (ended s k) (effect r s k)) t ⊎ ByTest r (ended s k) (effect r s k) t)
 
-    go : (m : ℕ) → refusal r s k ≡ m → BySchedule r s k t ⊎ ByService r (effect r s k) t
+    settles : refusal r s k ≡ 0 → active (stateOf (again r (ended s k) (serve r (effect r s k)) .now) t) ≡ 1
+    settles e = ap (λ (x : Step). active (stateOf (x .next) t)) (sym (accepted-is r s k e)) ∙ n
+
+    go : (m : ℕ) → refusal r s k ≡ m → Ways
     go zero e =
-        ⊎-elim (λ j. inr (serve-activates r ok (effect r s k) t (effect-ready r ok s h k p e) j (served e))) (λ j. inl j)
+        ⊎-elim (λ j. inr (settle-activates r ok (ended s k) (effect r s k) (effect-ready r ok s h k p e) t j (settles e))) (λ j. inl j)
         (effect-activates r s h t i k e)
     go (suc m) e = absurd (omega (arith, i, n, ap (λ (x : Step). active (stateOf (x .next) t)) (refused-is r s k m e)))

@@ -65,6 +65,12 @@ line-there zero h = refl
 line-there (suc zero) h = refl
 line-there (suc (suc k)) h = absurd (omega arith)
 
+low-position : (k : ℕ) → k < 2 → bench .linePos k < 16
+unfolding bench rig ofLine numbers
+low-position zero h = omega arith
+low-position (suc zero) h = omega arith
+low-position (suc (suc k)) h = absurd (omega arith)
+
 pub bench-ok : RigOk bench
 unfolding bench rig ofTask
 bench-ok =
@@ -86,4 +92,5 @@ bench-ok =
           (λ m a b. absurd (omega (arith, m .1 .0, m .1 .1 .0)));
       present-task = two-conditions;
       line-present = line-there;
+      line-position = low-position;
     }

@@ -15,14 +15,15 @@ use Rattle.laws.specs.Tables.{total, over}
 use Rattle.laws.specs.Laws.Tables.{over-set, over-store, over-length, over-le, in-range}
 use Rattle.laws.specs.Members.{keep}
 use Rattle.rules.specs.Rig.{Rig}
-use Rattle.rules.specs.State.{Chain, timeChain, State, Work, Done, Entry, active, valueOf, withTables, blank}
-use Rattle.rules.specs.Conditions.{relax, met}
+use Rattle.rules.specs.State.{timeChain, State, Work, Done, Entry, active, valueOf, withTables, blank}
+use Rattle.rules.specs.Conditions.{relax}
 use Rattle.rules.specs.Serving.{push, isInactive, inactives, activate, serve}
 use Rattle.rules.specs.Waiting.{waitOn, waitUntilCount, wakeDue, isDue}
 use Rattle.rules.specs.Family.{family, isMarked, clearOne, cleared, offOne, offs}
 use Rattle.rules.specs.Calls.{Call, schedule, cancel, terminate, finish, tick, waitUntil, waitFor, latched, unlatched, signal, readFlag, readBlock, writeBlock, nextWaking}
 use Rattle.rules.specs.Calls.{scheduled, finished, terminated, cancelled, ticked, queueOne, cycleQueue, quiet, effect, refusal, accepted, after, step, started}
 use Rattle.rules_laws.specs.Serve.{load, push-length, served-le, serve-nil}
+use Rattle.rules_laws.specs.Testing.{tested-cases, settled-le}
 use Rattle.rules_laws.specs.Lengths.{rouse-length}
 
 -- ---- cancel: what it queues it takes from the invoked
@@ -71,7 +72,7 @@ weight activation marks l (suc k) =
           over-set invoked m k 0 (in-range m (suc k) (suc n) y),
         )
 
-inactive-le : (x : ℕ) → isInactive x ≤ 1
+pub inactive-le : (x : ℕ) → isInactive x ≤ 1
 inactive-le zero = zero-le
 inactive-le (suc zero) = le-refl _
 inactive-le (suc (suc n)) = zero-le
@@ -121,19 +122,13 @@ module _ (r : Rig) (s : State) (z : length (s .states) ≡ 65) where
 
   pub scheduled-load : (t : ℕ) → load (scheduled r s t) ≤ 79
   unfolding scheduled activate
-  scheduled-load t = go (met (r .present) (r .desired) t conds)
+  scheduled-load t =
+      tested-cases r t (w .now) (λ x. load x ≤ 79)
+      (λ e m. light (activate r t w) (omega (arith, push-length (r .activation t) 1 [])) (length-set (set (s .states) t 1) t 3 ∙ stored t 1))
+      (λ n. light w zero-le (stored t 1))
     where
-      conds : List ℕ
-      conds = relax (r .present) (r .latched) (r .desired) t (s .conds)
-
       w : Work
-      w = quiet (withTables s conds (set (s .states) t 1))
-
-      go : (b : Bool) → load (cond b (activate r t w) w) ≤ 79
-      go true =
-          light (activate r t w) (omega (arith, push-length (r .activation t) 1 []))
-          (length-set (set (s .states) t 1) t 3 ∙ stored t 1)
-      go false = light w zero-le (stored t 1)
+      w = quiet (withTables s (relax (r .present) (r .latched) (r .desired) t (s .conds)) (set (s .states) t 1))
 
   pub effect-load : (k : Call) → load (effect r s k) ≤ 79
   unfolding effect terminated finished ticked wakeDue waitOn waitUntilCount
@@ -160,7 +155,7 @@ module _ (r : Rig) (s : State) (z : length (s .states) ≡ 65) where
   served-79 k = go (refusal r s k)
     where
       go : (n : ℕ) → after n r s k .answer .report .served ≤ 79
-      go zero = le-trans (served-le r (effect r s k)) (effect-load k)
+      go zero = le-trans (settled-le r s k) (effect-load k)
       go (suc n) = zero-le
 
 none-left : inactives (set (set (replicate 65 0) 1 1) 1 3) ≡ 0
@@ -170,17 +165,10 @@ none-left = refl
 -- the start serves one flag at most: task 1's own
 pub start-served : (r : Rig) → started r .served ≤ 1
 unfolding started scheduled activate blank
-start-served r = go (met (r .present) (r .desired) 1 conds)
+start-served r =
+    tested-cases r 1 x (λ w. serve r w .served ≤ 1)
+    (λ e m. le-trans (served-le r (activate r 1 (quiet x))) (omega (arith, push-length (r .activation 1) 1 [], none-left)))
+    (λ n. omega (arith, ap (λ (d : Done). d .served) (serve-nil r x)))
   where
-    conds : List ℕ
-    conds = relax (r .present) (r .latched) (r .desired) 1 (replicate 1040 0)
-
-    w : Work
-    w =
-        quiet
-        (record { count = 0; flags = replicate 129 0; conds = conds; states = set (replicate 65 0) 1 1; wakes = replicate 65 0; chains = λ (c : Chain). []; running = 0 })
-
-    go : (b : Bool) → serve r (cond b (activate r 1 w) w) .served ≤ 1
-    go true =
-        le-trans (served-le r (activate r 1 w)) (omega (arith, push-length (r .activation 1) 1 [], none-left))
-    go false = omega (arith, ap (λ (d : Done). d .served) (serve-nil r (w .now)))
+    x : State
+    x = withTables blank (relax (r .present) (r .latched) (r .desired) 1 (blank .conds)) (set (blank .states) 1 1)

@@ -1,17 +1,19 @@
 -- What the rules over conditions say, place by place.
 use mathlib.Core.Path.{_≡_, refl, ap}
 use mathlib.Core.Logic.{_≢_, _⊎_, _↔_}
-use mathlib.Core.Bool.{Bool, true, _&&_}
+use mathlib.Core.Bool.{Bool, true, not, _&&_, _||_}
 use mathlib.Core.List.{List}
 use Prim.Native.Nat.{ℕ, _-_, _<_}
+use native.Mathlib.Omega.{arith}
 use borrow.Author.Tests.{eqb-true, eq-eqb}
 use lib.Dec.{eqb}
 use lib.ListN.{length, getD}
 use Rattle.laws.specs.Cases.{and-true, and-go}
+use Rattle.laws.specs.Laws.All.{all-same}
 use Rattle.laws.specs.Laws.Decides.{is-eqb, is-not, is-or, is-and, is-all, is-any}
 use Rattle.laws.specs.Laws.Stores.{stores-hit, stores-miss}
 use Rattle.rules.specs.Rig.{placeOf}
-use Rattle.rules.specs.Conditions.{relax, met, drive, names}
+use Rattle.rules.specs.Conditions.{relax, metOne, met, drive, names}
 
 module _ (present latched desired : ℕ → ℕ) (t : ℕ) (conds : List ℕ) where
   test : ℕ → Bool
@@ -40,6 +42,18 @@ module _ (present latched desired : ℕ → ℕ) (t : ℕ) (conds : List ℕ) wh
   met-is =
       is-all 16
       (λ p h. is-or (is-not (is-eqb (present (placeOf t p)) 1)) (is-eqb (getD conds (placeOf t p) 0) (desired (placeOf t p))))
+
+-- the test looks at the places of its own task alone, ..
+pub met-same : (present desired : ℕ → ℕ) (t : ℕ) (a b : List ℕ) → ((p : ℕ) → p < 16 → getD a (placeOf t p) 0 ≡ getD b (placeOf t p) 0)
+    → met present desired t a ≡ met present desired t b
+unfolding met
+met-same present desired t a b h =
+    all-same 16 (metOne present desired t a) (metOne present desired t b)
+    (λ p l. ap (λ (v : ℕ). not (eqb (present (placeOf t p)) 1) || eqb v (desired (placeOf t p))) (h p l))
+
+-- .. and these are no other task's
+pub same-task : (t u p q : ℕ) → p < 16 → q < 16 → placeOf t p ≡ placeOf u q → t ≡ u
+same-task t u p q a b e = omega arith
 
 module _ (lines : ℕ) (lineTask linePos lineFlag : ℕ → ℕ) (f v : ℕ) (conds : List ℕ) where
   -- "every condition with that flag takes it"

@@ -1,22 +1,20 @@
 -- Every accepted call but cancel hands the serving a state and a queue that it can start from.
 use mathlib.Core.Path.{_≡_, refl, sym, ap, _∙_}
 use mathlib.Core.Logic.{_≢_}
-use mathlib.Core.Bool.{Bool, true, false, cond}
 use mathlib.Core.List.{List, []}
 use Prim.Native.Nat.{ℕ, zero, suc, _%_, _≤_, _<_}
 use native.Mathlib.Omega.{arith}
 use native.Mathlib.Nat.{le-refl}
 use lib.ListN.{getD, set}
-use lib.Seq.{getD-set-same}
 use Rattle.laws.specs.Laws.Iter.{iter-ind}
 use Rattle.laws.specs.Laws.Tables.{has-place}
 use Rattle.laws.specs.Members.{In, keep}
 use Rattle.laws.specs.Laws.Members.{in-keep}
 use Rattle.rules.specs.Rig.{Rig}
 use Rattle.rules.specs.RigOk.{RigOk}
-use Rattle.rules.specs.State.{Chain, timeChain, State, Work, Entry, stateOf, active, withTables}
-use Rattle.rules.specs.Conditions.{relax, met}
-use Rattle.rules.specs.Serving.{push, activate}
+use Rattle.rules.specs.State.{Chain, timeChain, State, Entry, stateOf, active, withTables}
+use Rattle.rules.specs.Conditions.{relax}
+use Rattle.rules.specs.Serving.{push}
 use Rattle.rules.specs.Waiting.{waitOn, waitUntilCount, isDue, wakeDue}
 use Rattle.rules.specs.Calls.{scheduled, finished, terminated, queueOne, cycleQueue, ticked, quiet}
 use Rattle.rules.specs.Soundness.{WakingCounts, Chains}
@@ -25,7 +23,7 @@ use Rattle.rules_laws.specs.Agreement.{restate, same-active}
 use Rattle.rules_laws.specs.Rousing.{rouse-same}
 use Rattle.rules_laws.specs.TableLaws.{tasks-move, tasks-invoke, tasks-rouse, conds-relax, wakes-set}
 use Rattle.rules_laws.specs.WaitingLaws.{chains-due, chains-set, chains-flag, chains-time, chains-leave}
-use Rattle.rules_laws.specs.Good.{Good, Clean, Ready, clean-ready, activate-clean}
+use Rattle.rules_laws.specs.Good.{Good, Ready, tested-ready}
 
 -- nothing is queued
 pub quiet-ready : (r : Rig) (s : State) → Good r s [] → Ready r (quiet s)
@@ -35,42 +33,22 @@ module _ (r : Rig) (ok : RigOk r) (s : State) (g : Good r s []) where
   -- ---- schedule
 
   -- an uninvoked task becomes inactive, its unlatched conditions undesired
-  scheduled-clean : (t : ℕ) → 1 ≤ t → t ≤ r .tasks → (t ≢ 1 → stateOf s (r .controller t) ≢ 0) → stateOf s t ≡ 0
-      → Clean r (quiet (withTables s (relax (r .present) (r .latched) (r .desired) t (s .conds)) (set (s .states) t 1)))
-  scheduled-clean t a b c h =
+  scheduled-good : (t : ℕ) → 1 ≤ t → t ≤ r .tasks → (t ≢ 1 → stateOf s (r .controller t) ≢ 0) → stateOf s t ≡ 0
+      → Good r (withTables s (relax (r .present) (r .latched) (r .desired) t (s .conds)) (set (s .states) t 1)) []
+  scheduled-good t a b c h =
       record {
-        good =
-            record {
-              tasks = tasks-invoke r (s .states) t 1 a b c (λ q. omega arith) (omega arith) (g .tasks);
-              flags = g .flags;
-              conds = conds-relax r t (s .conds) (g .conds);
-              wakes = g .wakes;
-              chains = chains-set (s .count) (s .wakes) (s .chains) (s .states) t 1 (λ q. omega (arith, h, q)) (λ q. omega arith) (g .chains);
-              agree = same-active r ok t 1 (s .flags) (s .states) [] (sym (ap active h)) (g .agree);
-              fine = tt;
-            };
-        clear = λ u nz e. tt;
+        tasks = tasks-invoke r (s .states) t 1 a b c (λ q. omega arith) (omega arith) (g .tasks);
+        flags = g .flags;
+        conds = conds-relax r t (s .conds) (g .conds);
+        wakes = g .wakes;
+        chains = chains-set (s .count) (s .wakes) (s .chains) (s .states) t 1 (λ q. omega (arith, h, q)) (λ q. omega arith) (g .chains);
+        agree = same-active r ok t 1 (s .flags) (s .states) [] (sym (ap active h)) (g .agree);
+        fine = tt;
       }
 
   pub scheduled-ready : (t : ℕ) → 1 ≤ t → t ≤ r .tasks → (t ≢ 1 → stateOf s (r .controller t) ≢ 0) → stateOf s t ≡ 0 → Ready r (scheduled r s t)
-  unfolding scheduled activate
-  scheduled-ready t a b c h = go (met (r .present) (r .desired) t conds)
-    where
-      conds : List ℕ
-      conds = relax (r .present) (r .latched) (r .desired) t (s .conds)
-
-      w : Work
-      w = quiet (withTables s conds (set (s .states) t 1))
-
-      clean : Clean r w
-      clean = scheduled-clean t a b c h
-
-      inactive-now : stateOf (w .now) t ≡ 1
-      inactive-now = getD-set-same (s .states) t 1 0 (omega (arith, g .tasks .sized, ok .tasks-le))
-
-      go : (x : Bool) → Ready r (cond x (activate r t w) w)
-      go true = clean-ready r (activate r t w) (activate-clean r ok t w inactive-now clean)
-      go false = clean-ready r w clean
+  unfolding scheduled
+  scheduled-ready t a b c h = tested-ready r ok t _ (scheduled-good t a b c h)
 
   -- ---- finish and terminate: an active task becomes inactive
 

@@ -13,8 +13,9 @@ use Rattle.laws.specs.Laws.Iter.{iter-ind}
 use Rattle.laws.specs.Laws.Tables.{in-range}
 use Rattle.rules.specs.Rig.{Rig}
 use Rattle.rules.specs.RigOk.{RigOk}
-use Rattle.rules.specs.State.{Chain, chainOf, State, Work, Entry, stateOf, active}
+use Rattle.rules.specs.State.{Chain, chainOf, State, Work, Done, Entry, stateOf, active}
 use Rattle.rules.specs.Serving.{inactives, activate, ready, offer, offerNext, offers, wake, takes, serveFlag, serving, serve}
+use Rattle.rules.specs.Calls.{quiet, tested, again}
 use Rattle.rules.specs.Soundness.{Tasks, Flags, Conds, WakingCounts, Chains, Sound}
 use Rattle.rules_laws.specs.Queued.{Fine, fine-push, look, Agree, Clear, rest, rest-absent}
 use Rattle.rules_laws.specs.Agreement.{restate, popped, clear-activate}
@@ -22,6 +23,7 @@ use Rattle.rules_laws.specs.Rousing.{rouse-one, rouse-same}
 use Rattle.rules_laws.specs.TableLaws.{tasks-move, tasks-rouse, flags-set, conds-relax, conds-drive}
 use Rattle.rules_laws.specs.WaitingLaws.{chains-wake, chains-set}
 use Rattle.rules_laws.specs.Serve.{load, serveFlag-load}
+use Rattle.rules_laws.specs.Testing.{tested-cases, tested-keeps}
 
 -- THE PRINCIPLE: what taking a value, waking a flag's chain and activating keep, a serving keeps
 module _ (r : Rig) (P : State → Type 0) (tk : (e : Entry) (s : State) → P s → P (takes r e s)) (wk : (f v : ℕ) (s : State) → P s → P (wake (chainOf f v) s))
@@ -54,15 +56,24 @@ module _ (r : Rig) (P : State → Type 0) (tk : (e : Entry) (s : State) → P s 
   unfolding serve
   serve-keeps w h = serving-keeps _ (w .now) (w .queue) h
 
--- who ran, the count and the waking counts are not touched by a serving
-module _ (r : Rig) (w : Work) where
-  pub serve-running : serve r w .now .running ≡ w .now .running
-  unfolding takes wake activate
-  serve-running = serve-keeps r (λ s. s .running ≡ w .now .running) (λ e s h. h) (λ f v s h. h) (λ t x g h. h) w refl
+  -- and so does a test, with the serving after it
+  pub again-keeps : (t : ℕ) (d : Done) → P (d .now) → P (again r t d .now)
+  unfolding again
+  again-keeps zero d h = h
+  again-keeps (suc t) d h = serve-keeps (tested r (suc t) (d .now)) (tested-keeps r P ac (suc t) (d .now) h)
 
-  pub serve-count : serve r w .now .count ≡ w .now .count
+  pub settle-keeps : (t : ℕ) (w : Work) → P (w .now) → P (again r t (serve r w) .now)
+  settle-keeps t w h = again-keeps t (serve r w) (serve-keeps w h)
+
+-- who ran, and the count, are not touched by a serving, nor by the test of task t and the serving after it
+module _ (r : Rig) (w : Work) (t : ℕ) where
+  pub settle-running : again r t (serve r w) .now .running ≡ w .now .running
   unfolding takes wake activate
-  serve-count = serve-keeps r (λ s. s .count ≡ w .now .count) (λ e s h. h) (λ f v s h. h) (λ t x g h. h) w refl
+  settle-running = settle-keeps r (λ s. s .running ≡ w .now .running) (λ e s h. h) (λ f v s h. h) (λ u x g h. h) t w refl
+
+  pub settle-count : again r t (serve r w) .now .count ≡ w .now .count
+  unfolding takes wake activate
+  settle-count = settle-keeps r (λ s. s .count ≡ w .now .count) (λ e s h. h) (λ f v s h. h) (λ u x g h. h) t w refl
 
 -- a sound state with q queued, but for the running task and the range of the count
 pub record Good (r : Rig) (s : State) (q : List Entry) : Type 0 where
@@ -190,3 +201,18 @@ module _ (r : Rig) (ok : RigOk r) where
   pub serve-good : (w : Work) → Ready r w → Good r (serve r w .now) []
   unfolding serve
   serve-good w c = serving-good (load w) (w .now) (w .queue) (le-refl _) c
+
+  -- ---- THE TEST: with nothing queued it is as an offer
+
+  pub tested-clean : (t : ℕ) (s : State) → Good r s [] → Clean r (tested r t s)
+  tested-clean t s g =
+      let c : Clean r (quiet s) = record { good = g; clear = λ u nz e. tt } in
+      tested-cases r t s (λ w. Clean r w) (λ e m. activate-clean t (quiet s) e c) (λ n. c)
+
+  pub tested-ready : (t : ℕ) (s : State) → Good r s [] → Ready r (tested r t s)
+  tested-ready t s g = clean-ready r (tested r t s) (tested-clean t s g)
+
+  pub settle-good : (t : ℕ) (w : Work) → Ready r w → Good r (again r t (serve r w) .now) []
+  unfolding again
+  settle-good zero w c = serve-good w c
+  settle-good (suc t) w c = serve-good (tested r (suc t) (serve r w .now)) (tested-ready (suc t) (serve r w .now) (serve-good w c))

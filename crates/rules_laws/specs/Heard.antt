@@ -4,7 +4,7 @@ use mathlib.Core.Path.{_≡_, refl, sym, ap, _∙_, subst}
 use mathlib.Core.Logic.{_≢_, _⊎_, inl, inr, ⊎-elim, _↔_}
 use mathlib.Core.Bool.{Bool, true, false, cond, _&&_}
 use mathlib.Core.List.{List, [], _∷_}
-use Prim.Native.Nat.{ℕ, zero, suc, _+_, _≤_, _<_}
+use Prim.Native.Nat.{ℕ, zero, suc, _+_, _≤_}
 use native.Mathlib.Omega.{arith}
 use borrow.Author.Tests.{eqb-true}
 use lib.Dec.{eqb}
@@ -18,24 +18,25 @@ use Rattle.laws.specs.Laws.Iter.{iter-ind}
 use Rattle.laws.specs.Laws.Tables.{in-range, was-there}
 use Rattle.rules.specs.Rig.{Rig}
 use Rattle.rules.specs.RigOk.{RigOk}
-use Rattle.rules.specs.State.{Chain, chainOf, State, Work, Entry, Done, stateOf, active, waiting, inactive, dispatchable, blank}
+use Rattle.rules.specs.State.{Chain, chainOf, State, Work, Entry, Done, stateOf, active, waiting, inactive, dispatchable, withTables, blank}
 use Rattle.rules.specs.Serving.{activate, ready, offer, offerNext, offers, takes, wake, rouse, made, unserved, serveFlag, serving, serve}
-use Rattle.rules.specs.Conditions.{relax, met}
+use Rattle.rules.specs.Conditions.{relax}
 use Rattle.rules.specs.Running.{dispatch}
-use Rattle.rules.specs.Calls.{Call, signal, quiet, scheduled, effect, refusal, accepted, Step, step, started}
+use Rattle.rules.specs.Calls.{Call, signal, quiet, tested, scheduled, effect, refusal, ended, again, settled, accepted, Step, step, started}
 use Rattle.rules.specs.Proper.{Proper}
-use Rattle.rules.specs.Soundness.{Chains, Sound}
+use Rattle.rules.specs.Soundness.{Within, Chains, Sound}
 use Rattle.rules_laws.specs.Refusals.{accepted-is, refused-is}
 use Rattle.rules_laws.specs.Lengths.{rouse-length}
 use Rattle.rules_laws.specs.Rousing.{rouse-one, rouse-in, rouse-out}
 use Rattle.rules_laws.specs.WaitingLaws.{chains-wake, chains-set}
 use Rattle.rules_laws.specs.Offering.{offers-changed}
 use Rattle.rules_laws.specs.Made.{Up, up-same, up-up, up-set, made-next, made-other, made-from, made-none, isState, made-le, made-adds, within-few}
-use Rattle.rules_laws.specs.WhileServing.{Reached, begin, onward}
-use Rattle.rules_laws.specs.Good.{Ready, clean-ready, serveFlag-clean, serveFlag-keeps, serving-keeps, serve-keeps}
+use Rattle.rules_laws.specs.WhileServing.{Reached, begin, onward, Through, queued, afterwards}
+use Rattle.rules_laws.specs.Good.{Good, Ready, clean-ready, serveFlag-clean, serveFlag-keeps, serving-keeps, serve-keeps, serve-good, tested-ready}
 use Rattle.rules_laws.specs.Serve.{serve-cons, serve-nil}
+use Rattle.rules_laws.specs.Testing.{tested-cases, tested-keeps}
 use Rattle.rules_laws.specs.Steps.{effect-ready}
-use Rattle.rules_laws.specs.Activation.{ByService, serve-activates}
+use Rattle.rules_laws.specs.Activation.{ByService, ByTest, settle-activates}
 
 -- ---- one service
 
@@ -189,12 +190,12 @@ module _ (r : Rig) where
 
 -- ---- a flag that was served on the way, and who waited on it
 
--- task t waited on a flag that the serving of w served, for the value that was served
-pub record WaitedOn (r : Rig) (w : Work) (t : ℕ) : Type 0 where
+-- task t waited on a flag that was served on the way, which comes through what C says, for the value that was served
+pub record WaitedOn (r : Rig) (C : Work → Type 0) (t : ℕ) : Type 0 where
   pub before : State
   pub entry : Entry
   pub behind : List Entry
-  pub reached : Reached r w (record { now = before; queue = entry ∷ behind })
+  pub reached : C (record { now = before; queue = entry ∷ behind })
   pub waits : In t (before .chains (chainOf (entry .flag) (entry .value)))
 
 module _ (r : Rig) (ok : RigOk r) (w : Work) (c : Ready r w) where
@@ -221,10 +222,10 @@ module _ (r : Rig) (ok : RigOk r) (w : Work) (c : Ready r w) where
         many = omega (arith, h .many, ap (λ (y : Done). y .woken) d);
       }
 
-  -- "a call that served a flag on which k tasks waited with that value says at least k"
-  pub says-at-least : (s : State) (e : Entry) (q : List Entry) → Reached r w (record { now = s; queue = e ∷ q })
+  -- a serving that served a flag on which k tasks waited with that value says at least k
+  served-at-least : (s : State) (e : Entry) (q : List Entry) → Reached r w (record { now = s; queue = e ∷ q })
       → length (s .chains (chainOf (e .flag) (e .value))) ≤ serve r w .woken
-  says-at-least s e q p =
+  served-at-least s e q p =
       let h = on-the-way (record { now = s; queue = e ∷ q }) p in
       omega (arith, h .many, ap (λ (y : Done). y .woken) (serve-cons r s e q), service-woken r e s q (h .ready .good .chains))
 
@@ -263,7 +264,7 @@ module _ (r : Rig) (e : Entry) (s : State) (q : List Entry) (h : ChainsIn s) (t 
 
 module _ (r : Rig) (ok : RigOk r) (w : Work) (c : Ready r w) (t : ℕ) where
   serving-wakes : (k : ℕ) (s : State) (q : List Entry) → Ready r (record { now = s; queue = q }) → Reached r w (record { now = s; queue = q })
-      → stateOf s t ≡ 2 → stateOf (serving r k s q .now) t ≡ 3 → WaitedOn r w t
+      → stateOf s t ≡ 2 → stateOf (serving r k s q .now) t ≡ 3 → WaitedOn r (Reached r w) t
   unfolding serving
   serving-wakes zero s q g p i n = absurd (omega arith)
   serving-wakes (suc k) s [] g p i n = absurd (omega arith)
@@ -272,11 +273,12 @@ module _ (r : Rig) (ok : RigOk r) (w : Work) (c : Ready r w) (t : ℕ) where
       (λ j. serving-wakes k (serveFlag r e s q .now) (serveFlag r e s q .queue)
       (clean-ready r (serveFlag r e s q) (serveFlag-clean r ok e s q (g .good) (g .clear))) (onward s e q p) (else-waits r e s q (g .good .chains) t i j) n)
     where
-      go : Dec (In t (s .chains (chainOf (e .flag) (e .value)))) → ((In t (s .chains (chainOf (e .flag) (e .value))) → ⊥) → WaitedOn r w t) → WaitedOn r w t
+      go : Dec (In t (s .chains (chainOf (e .flag) (e .value)))) → ((In t (s .chains (chainOf (e .flag) (e .value))) → ⊥) → WaitedOn r (Reached r w) t)
+          → WaitedOn r (Reached r w) t
       go (yes j) later = record { before = s; entry = e; behind = q; reached = p; waits = j }
       go (no j) later = later j
 
-  woke : (x : WaitedOn r w t) → (stateOf (w .now) t ≡ 2) × (stateOf (serve r w .now) t ≡ 3)
+  woke : (x : WaitedOn r (Reached r w) t) → (stateOf (w .now) t ≡ 2) × (stateOf (serve r w .now) t ≡ 3)
   woke x =
       let s = x .before in
       let f = serveFlag r (x .entry) s (x .behind) in
@@ -290,39 +292,186 @@ module _ (r : Rig) (ok : RigOk r) (w : Work) (c : Ready r w) (t : ℕ) where
       )
 
   -- who was waiting and is dispatchable: exactly who waited on a served flag's chain
-  pub woken-exactly : ((stateOf (w .now) t ≡ waiting) × (stateOf (serve r w .now) t ≡ dispatchable)) ↔ WaitedOn r w t
+  served-exactly : ((stateOf (w .now) t ≡ waiting) × (stateOf (serve r w .now) t ≡ dispatchable)) ↔ WaitedOn r (Reached r w) t
   unfolding serve
-  woken-exactly = ((λ k. serving-wakes _ (w .now) (w .queue) c begin (k .0) (k .1)), (λ x. woke x))
+  served-exactly = ((λ k. serving-wakes _ (w .now) (w .queue) c begin (k .0) (k .1)), (λ x. woke x))
+
+-- ---- L3: the test, and the serving after it
+
+-- how many the test of task u itself activates: it is no service of a flag
+abbrev pub byTest : Rig → ℕ → State → ℕ
+byTest r zero s = 0
+byTest r (suc t) s = made inactive (s .states) (tested r (suc t) s .now .states)
+
+-- the numbers of a call that leaves w to the serving and ended task u, 0 for none
+pub record Tells (r : Rig) (u : ℕ) (w : Work) (d : Done) : Type 0 where
+  pub woken : d .woken ≡ made waiting (w .now .states) (d .now .states)
+  pub activated : d .activated + byTest r u (serve r w .now) ≡ made inactive (w .now .states) (d .now .states)
+
+module _ (r : Rig) where
+  tested-up : (t : ℕ) (s : State) → Grown r (s .states) (tested r t s .now)
+  tested-up t s = tested-keeps r (Grown r (s .states)) (grown-activate r (s .states)) t s (up-same (s .states), refl)
+
+  -- the test wakes nobody
+  tested-woken : (t : ℕ) (s : State) → made 2 (s .states) (tested r t s .now .states) ≡ 0
+  unfolding activate
+  tested-woken t s =
+      tested-cases r t s (λ w. made 2 (s .states) (w .now .states) ≡ 0)
+      (λ e m. made-other 2 (s .states) (s .states) t 3 (λ q. omega (arith, e, q)) ∙ made-none 2 (λ z. omega arith) (s .states))
+      (λ n. made-none 2 (λ z. omega arith) (s .states))
+
+  -- over a serving, a test and a serving the numbers are added
+  adds-again : (a : ℕ) → a ≢ 3 → (t : ℕ) (w : Work) → let d = serve r w in let x = tested r t (d .now) in
+      made a (w .now .states) (serve r x .now .states)
+      ≡ (made a (w .now .states) (d .now .states) + made a (d .now .states) (x .now .states)) + made a (x .now .states) (serve r x .now .states)
+  adds-again a z t w =
+      let d = serve r w in
+      let x = tested r t (d .now) in
+      let g = serve-up r (w .now .states) w (up-same (w .now .states), refl) in
+      let h = tested-up t (d .now) in
+      let k = serve-up r (x .now .states) x (up-same (x .now .states), refl) in
+      let p = made-adds a z (w .now .states) (d .now .states) (x .now .states) (g .1) (h .1 ∙ g .1) (g .0) (h .0) in
+      let q = made-adds a z (w .now .states) (x .now .states) (serve r x .now .states) (h .1 ∙ g .1) (k .1 ∙ h .1 ∙ g .1)
+      (up-up (w .now .states) (d .now .states) (x .now .states) (g .0) (h .0)) (k .0) in
+      omega arith
+
+  -- "added over all services of a call", and no task twice
+  pub settle-made : (u : ℕ) (w : Work) → Tells r u w (again r u (serve r w))
+  unfolding again
+  settle-made zero w = let m = serve-made r w in record { woken = m .woken; activated = omega (arith, m .activated) }
+  settle-made (suc t) w =
+      let d = serve r w in
+      let x = tested r (suc t) (d .now) in
+      let m = serve-made r w in
+      let n = serve-made r x in
+      record {
+        woken = omega (arith, m .woken, n .woken, adds-again 2 (λ z. omega arith) (suc t) w, tested-woken (suc t) (d .now));
+        activated = omega (arith, m .activated, n .activated, adds-again 1 (λ z. omega arith) (suc t) w);
+      }
+
+  -- both together are at most the rig's tasks
+  pub settle-few : (u : ℕ) (w : Work) → Within (r .tasks) (w .now .states)
+      → again r u (serve r w) .woken + again r u (serve r w) .activated ≤ r .tasks
+  settle-few u w h =
+      let m = settle-made u w in
+      omega (arith, m .woken, m .activated, within-few (r .tasks) (w .now .states) (again r u (serve r w) .now .states) h)
+
+module _ (r : Rig) (ok : RigOk r) (u : ℕ) (w : Work) (c : Ready r w) where
+  emptied : Good r (serve r w .now) []
+  emptied = serve-good r ok w c
+
+  -- "a call that served a flag on which k tasks waited with that value says at least k"
+  pub says-at-least : (s : State) (e : Entry) (q : List Entry) → Through r u w (record { now = s; queue = e ∷ q })
+      → length (s .chains (chainOf (e .flag) (e .value))) ≤ again r u (serve r w) .woken
+  unfolding again
+  says-at-least s e q = go u refl
+    where
+      go : (v : ℕ) → u ≡ v → Through r u w (record { now = s; queue = e ∷ q })
+          → length (s .chains (chainOf (e .flag) (e .value))) ≤ again r v (serve r w) .woken
+      go zero z (queued x p) = served-at-least r ok w c s e q p
+      go (suc v) z (queued x p) = omega (arith, served-at-least r ok w c s e q p)
+      go zero z (afterwards x n p) = absurd (n z)
+      go (suc v) z (afterwards x n p) =
+          let m = served-at-least r ok (tested r u (serve r w .now)) (tested-ready r ok u (serve r w .now) emptied) s e q p in
+          omega (arith, m, ap (λ (y : ℕ). serve r (tested r y (serve r w .now)) .woken) z)
+
+module _ (r : Rig) (ok : RigOk r) (w : Work) (c : Ready r w) (t : ℕ) where
+  on-its-way : (C D : Work → Type 0) → ((x : Work) → C x → D x) → WaitedOn r C t → WaitedOn r D t
+  on-its-way C D f b = record { before = b .before; entry = b .entry; behind = b .behind; reached = f _ (b .reached); waits = b .waits }
+
+  first : Up (w .now .states) (serve r w .now .states)
+  first = serve-up r (w .now .states) w (up-same (w .now .states), refl) .0
+
+  module _ (v : ℕ) where
+    abbrev x : Work
+    x = tested r (suc v) (serve r w .now)
+
+    ready-x : Ready r x
+    ready-x = tested-ready r ok (suc v) (serve r w .now) (serve-good r ok w c)
+
+    second : Up (x .now .states) (serve r x .now .states)
+    second = serve-up r (x .now .states) x (up-same (x .now .states), refl) .0
+
+    -- who waits is not touched by the test
+    waits-on : stateOf (serve r w .now) t ≡ 2 → stateOf (x .now) t ≡ 2
+    unfolding activate
+    waits-on k =
+        tested-cases r (suc v) (serve r w .now) (λ y. stateOf (y .now) t ≡ 2)
+        (λ e m. getD-set-other (serve r w .now .states) (suc v) t 3 0 (λ q. omega (arith, k, e, ap (stateOf (serve r w .now)) q)) ∙ k) (λ n. k)
+
+    waited-then : stateOf (w .now) t ≡ 2 → stateOf (serve r x .now) t ≡ 3 → WaitedOn r (Through r (suc v) w) t
+    waited-then i n = go (first t)
+      where
+        go : (stateOf (serve r w .now) t ≡ stateOf (w .now) t) ⊎ (stateOf (serve r w .now) t ≡ 3) → WaitedOn r (Through r (suc v) w) t
+        go (inl k) =
+            on-its-way (Reached r x) (Through r (suc v) w) (λ y p. afterwards y (λ q. omega arith) p)
+            (served-exactly r ok x ready-x t .0 (waits-on (k ∙ i), n))
+        go (inr k) = on-its-way (Reached r w) (Through r (suc v) w) (λ y p. queued y p) (served-exactly r ok w c t .0 (i, k))
+
+    woke-then : WaitedOn r (Through r (suc v) w) t → (stateOf (w .now) t ≡ 2) × (stateOf (serve r x .now) t ≡ 3)
+    woke-then b = go (b .reached)
+      where
+        stays : stateOf (x .now) t ≡ 3 → stateOf (serve r x .now) t ≡ 3
+        stays k = ⊎-elim (λ q. q ∙ k) (λ q. q) (second t)
+
+        go : Through r (suc v) w (record { now = b .before; queue = b .entry ∷ b .behind }) → (stateOf (w .now) t ≡ 2) × (stateOf (serve r x .now) t ≡ 3)
+        go (queued y p) =
+            let k = served-exactly r ok w c t .1 (record { before = b .before; entry = b .entry; behind = b .behind; reached = p; waits = b .waits }) in
+            (k .0, stays (⊎-elim (λ q. q ∙ k .1) (λ q. q) (tested-up r (suc v) (serve r w .now) .0 t)))
+        go (afterwards y n p) =
+            let k = served-exactly r ok x ready-x t .1 (record { before = b .before; entry = b .entry; behind = b .behind; reached = p; waits = b .waits }) in
+            let e : stateOf (serve r w .now) t ≡ 2 =
+            ⊎-elim (λ q. sym q ∙ k .0) (λ q. absurd (omega (arith, q, k .0))) (tested-up r (suc v) (serve r w .now) .0 t) in
+            (⊎-elim (λ q. sym q ∙ e) (λ q. absurd (omega (arith, q, e))) (first t), k .1)
+
+  -- who was waiting and is dispatchable: exactly who waited on a served flag's chain
+  pub woken-exactly : (u : ℕ) → ((stateOf (w .now) t ≡ waiting) × (stateOf (again r u (serve r w) .now) t ≡ dispatchable)) ↔ WaitedOn r (Through r u w) t
+  unfolding again
+  woken-exactly zero = (
+    (λ k. on-its-way (Reached r w) (Through r 0 w) (λ y p. queued y p) (served-exactly r ok w c t .0 k)),
+    (λ b. served-exactly r ok w c t .1 (on-its-way (Through r 0 w) (Reached r w) (λ y p. none y p) b)),
+  )
+    where
+      none : (y : Work) → Through r 0 w y → Reached r w y
+      none _ (queued y p) = p
+      none _ (afterwards y n p) = absurd (n refl)
+  woken-exactly (suc v) = ((λ k. waited-then v (k .0) (k .1)), (λ b. woke-then v b))
 
 -- ---- WHAT AN ACCEPTED CALL SAYS of its services, from when its first flag is served to its end
+
+-- what it comes through
+abbrev pub Comes : Rig → State → Call → Work → Type 0
+Comes r s k = Through r (ended s k) (effect r s k)
 
 pub record Says (r : Rig) (s : State) (k : Call) (n : Step) : Type 0 where
   -- woken is the number of tasks that were waiting and became dispatchable: those who waited on the served flags' chains
   pub woken : n .answer .report .woken ≡ made waiting (effect r s k .now .states) (n .next .states)
-  pub waited : (t : ℕ) → ((stateOf (effect r s k .now) t ≡ waiting) × (stateOf (n .next) t ≡ dispatchable)) ↔ WaitedOn r (effect r s k) t
+  pub waited : (t : ℕ) → ((stateOf (effect r s k .now) t ≡ waiting) × (stateOf (n .next) t ≡ dispatchable)) ↔ WaitedOn r (Comes r s k) t
   -- a flag on which so many waited with that value was served: at least so many
-  pub least : (x : State) (e : Entry) (q : List Entry) → Reached r (effect r s k) (record { now = x; queue = e ∷ q })
+  pub least : (x : State) (e : Entry) (q : List Entry) → Comes r s k (record { now = x; queue = e ∷ q })
       → length (x .chains (chainOf (e .flag) (e .value))) ≤ n .answer .report .woken
-  -- activated is the number of tasks that were inactive and became dispatchable, each by a service
-  pub activated : n .answer .report .activated ≡ made inactive (effect r s k .now .states) (n .next .states)
-  pub called : (t : ℕ) → stateOf (effect r s k .now) t ≡ inactive → stateOf (n .next) t ≡ dispatchable → ByService r (effect r s k) t
+  -- activated is the number of tasks that were inactive and became dispatchable, each by a service; whom the test activated is not counted
+  pub activated : n .answer .report .activated + byTest r (ended s k) (serve r (effect r s k) .now) ≡ made inactive (effect r s k .now .states) (n .next .states)
+  pub called : (t : ℕ) → stateOf (effect r s k .now) t ≡ inactive → stateOf (n .next) t ≡ dispatchable
+      → ByService r (Comes r s k) t ⊎ ByTest r (ended s k) (effect r s k) t
   -- no task is counted twice
   pub few : n .answer .report .woken + n .answer .report .activated ≤ r .tasks
 
 module _ (r : Rig) (ok : RigOk r) (s : State) (h : Sound r s) (k : Call) (p : Proper k) where
   says-accepted : refusal r s k ≡ 0 → Says r s k (accepted r s k)
-  unfolding accepted dispatch
+  unfolding accepted settled dispatch
   says-accepted e =
       let w = effect r s k in
+      let u = ended s k in
       let c = effect-ready r ok s h k p e in
-      let m = serve-made r w in
+      let m = settle-made r u w in
       record {
         woken = m .woken;
-        waited = woken-exactly r ok w c;
-        least = says-at-least r ok w c;
+        waited = λ t. woken-exactly r ok w c t u;
+        least = says-at-least r ok u w c;
         activated = m .activated;
-        called = λ t i n. serve-activates r ok w t c (ap active i) (ap active n);
-        few = omega (arith, m .woken, m .activated, within-few (r .tasks) (w .now .states) (serve r w .now .states) (c .good .tasks .within));
+        called = λ t i n. settle-activates r ok u w c t (ap active i) (ap active n);
+        few = settle-few r u w (c .good .tasks .within);
       }
 
   pub says : refusal r s k ≡ 0 → Says r s k (step r s k)
@@ -341,6 +490,11 @@ pub signal-leaves : (r : Rig) (s : State) (f v : ℕ) → effect r s (signal f v
 unfolding effect
 signal-leaves r s f v = refl
 
+-- and no task is tested after it
+pub signal-untested : (r : Rig) (s : State) (f v : ℕ) (x : State) → byTest r (ended s (signal f v)) x ≡ 0
+unfolding ended
+signal-untested r s f v x = refl
+
 -- ---- the start: nobody waits, and nobody but task 1 is invoked
 
 -- with nobody in state a nobody is made dispatchable from it
@@ -349,18 +503,13 @@ nobody a e m = omega (arith, made-le a (set (set (replicate 65 0) 1 1) 1 3) m)
 
 pub start-heard : (r : Rig) → (started r .woken ≡ 0) × (started r .activated ≡ 0)
 unfolding started scheduled activate blank total
-start-heard r = go (met (r .present) (r .desired) 1 conds)
+start-heard r =
+    tested-cases r 1 x (λ w. (serve r w .woken ≡ 0) × (serve r w .activated ≡ 0))
+    (λ e k.
+    let w = activate r 1 (quiet x) in
+    let m = serve-made r w in
+    (m .woken ∙ nobody 2 refl (serve r w .now .states), m .activated ∙ nobody 1 refl (serve r w .now .states)))
+    (λ n. let e = serve-nil r x in (ap (λ (d : Done). d .woken) e, ap (λ (d : Done). d .activated) e))
   where
-    conds : List ℕ
-    conds = relax (r .present) (r .latched) (r .desired) 1 (replicate 1040 0)
-
-    w : Work
-    w =
-        quiet
-        (record { count = 0; flags = replicate 129 0; conds = conds; states = set (replicate 65 0) 1 1; wakes = replicate 65 0; chains = λ (c : Chain). []; running = 0 })
-
-    go : (b : Bool) → (serve r (cond b (activate r 1 w) w) .woken ≡ 0) × (serve r (cond b (activate r 1 w) w) .activated ≡ 0)
-    go true =
-        let m = serve-made r (activate r 1 w) in
-        (m .woken ∙ nobody 2 refl (serve r (activate r 1 w) .now .states), m .activated ∙ nobody 1 refl (serve r (activate r 1 w) .now .states))
-    go false = let e = serve-nil r (w .now) in (ap (λ (d : Done). d .woken) e, ap (λ (d : Done). d .activated) e)
+    x : State
+    x = withTables blank (relax (r .present) (r .latched) (r .desired) 1 (blank .conds)) (set (blank .states) 1 1)

@@ -22,18 +22,18 @@ use Rattle.laws.specs.Ordered.{Ordered}
 use Rattle.laws.specs.Laws.Ordered.{ordered-map, ordered-keep, ordered-without, ordered-end, ordered-same}
 use Rattle.rules.specs.Rig.{Rig}
 use Rattle.rules.specs.RigOk.{RigOk}
-use Rattle.rules.specs.State.{Chain, timeChain, chainOf, withChain, State, Work, stateOf, valueOf, withCount, withTables, blank}
-use Rattle.rules.specs.Conditions.{met, relax}
+use Rattle.rules.specs.State.{Chain, timeChain, chainOf, withChain, State, Work, stateOf, valueOf, withCount, blank}
 use Rattle.rules.specs.Serving.{activate, takes, wake, serve}
 use Rattle.rules.specs.Waiting.{waitOn, waitUntilCount, leave, isDue, wakeDue}
 use Rattle.rules.specs.Family.{family, isMarked, leaveOne, deserted}
 use Rattle.rules.specs.Running.{dispatch}
 use Rattle.rules.specs.Calls.{Call, schedule, cancel, terminate, finish, tick, waitUntil, waitFor, latched, unlatched, signal, readFlag, readBlock, writeBlock, nextWaking}
-use Rattle.rules.specs.Calls.{scheduled, finished, terminated, cancelled, ticked, effect, refusal, refusals, accepted, after, step, run, started, start}
+use Rattle.rules.specs.Calls.{scheduled, finished, terminated, cancelled, ticked, effect, refusal, refusals, ended, again, settled, accepted, after, step, run, started, start}
 use Rattle.rules.specs.Proper.{ProperRun}
 use Rattle.rules.specs.Soundness.{Somewhere, Sound}
 use Rattle.rules.specs.Laws.Chains.{flag-no-time, on-chain}
-use Rattle.rules_laws.specs.Good.{serve-keeps}
+use Rattle.rules_laws.specs.Good.{settle-keeps}
+use Rattle.rules_laws.specs.Testing.{tested-keeps}
 use Rattle.rules_laws.specs.Acceptance.{somebody-runs, flagged-is}
 use Rattle.rules_laws.specs.Steps.{step-sound, start-sound}
 use Rattle.rules.specs.History.{Wait, History, nothing, onFlag, untilCount, begins, noted, notedIf, history, never, historyOf, Earlier, Sooner, InOrder}
@@ -213,27 +213,17 @@ told-due h n s k =
     stay : ℕ → Bool
     stay t = not (isDue (s .wakes) (s .count) t)
 
--- a serving, and then a dispatch
-told-served : (r : Rig) (h : History) (n : ℕ) (w : Work) → Told h n (w .now .wakes) (w .now .chains)
-    → Told h n (dispatch r (serve r w .now) .wakes) (dispatch r (serve r w .now) .chains)
+-- a serving, the test of task t, and then a dispatch
+told-settled : (r : Rig) (h : History) (n t : ℕ) (w : Work) → Told h n (w .now .wakes) (w .now .chains)
+    → Told h n (dispatch r (again r t (serve r w) .now) .wakes) (dispatch r (again r t (serve r w) .now) .chains)
 unfolding takes activate dispatch
-told-served r h n w k =
-    serve-keeps r (λ s. Told h n (s .wakes) (s .chains)) (λ e s g. g) (λ f v s g. told-wake h n (chainOf f v) s g) (λ t x e g. g) w k
+told-settled r h n t w k =
+    settle-keeps r (λ s. Told h n (s .wakes) (s .chains)) (λ e s g. g) (λ f v s g. told-wake h n (chainOf f v) s g) (λ u x e g. g) t w k
 
 told-scheduled : (r : Rig) (h : History) (n t : ℕ) (s : State) → Told h n (s .wakes) (s .chains)
     → Told h n (scheduled r s t .now .wakes) (scheduled r s t .now .chains)
 unfolding scheduled activate
-told-scheduled r h n t s k = go (met (r .present) (r .desired) t conds)
-  where
-    conds : List ℕ
-    conds = relax (r .present) (r .latched) (r .desired) t (s .conds)
-
-    w : Work
-    w = record { now = withTables s conds (set (s .states) t 1); queue = [] }
-
-    go : (b : Bool) → Told h n ((cond b (activate r t w) w) .now .wakes) ((cond b (activate r t w) w) .now .chains)
-    go true = k
-    go false = k
+told-scheduled r h n t s k = tested-keeps r (λ x. Told h n (x .wakes) (x .chains)) (λ u w e g. g) t _ k
 
 module _ (r : Rig) (ok : RigOk r) (s : State) (sound : Sound r s) (h : History) (n : ℕ) (k : Told h n (s .wakes) (s .chains)) where
   -- the running task is in no chain
@@ -276,11 +266,11 @@ module _ (r : Rig) (ok : RigOk r) (s : State) (sound : Sound r s) (h : History) 
 
   -- EVERY CALL keeps the chains as the history says
   pub step-told : (x : Call) → Told (notedIf n (refusal r s x) s x h) (suc n) (step r s x .next .wakes) (step r s x .next .chains)
-  unfolding step after accepted notedIf
+  unfolding step after accepted settled notedIf
   step-told x = go (refusal r s x) refl
     where
       go : (y : ℕ) → refusal r s x ≡ y → Told (notedIf n y s x h) (suc n) (after y r s x .next .wakes) (after y r s x .next .chains)
-      go zero e = told-served r (noted n (s .running) (begins s x) h) (suc n) (effect r s x) (effect-told x e)
+      go zero e = told-settled r (noted n (s .running) (begins s x) h) (suc n) (ended s x) (effect r s x) (effect-told x e)
       go (suc y) e = told-later h n (s .wakes) (s .chains) k
 
 -- what is kept, in a sound state, is the order
@@ -337,8 +327,8 @@ module _ (r : Rig) (ok : RigOk r) where
       run-order (step r s x .next) (step-sound r ok s sound x (p .0)) (notedIf n (refusal r s x) s x h) (suc n) (step-told r ok s sound h n k x) ks (p .1)
 
   start-told : (h : History) (n : ℕ) → Told h n (start r .wakes) (start r .chains)
-  unfolding start started blank
-  start-told h n = told-served r h n (scheduled r blank 1) (told-scheduled r h n 1 blank none)
+  unfolding start started again blank
+  start-told h n = told-settled r h n 0 (scheduled r blank 1) (told-scheduled r h n 1 blank none)
     where
       none : Told h n (blank .wakes) (blank .chains)
       none = record { order = λ c. tt; past = λ t c i. absurd i; home = λ t c i. absurd i; count = λ t i. absurd i; none = λ t f v i. absurd i }

@@ -1,6 +1,8 @@
 pub mod Serve
+pub mod Testing
 pub mod Made
 pub mod Heard
+pub mod NobodyLeft
 pub mod Lengths
 pub mod Queued
 pub mod Agreement
@@ -22,6 +24,7 @@ pub mod NextWaking
 pub mod BenchRig
 pub mod BenchWaits
 pub mod Bound
+pub mod AtMost
 pub mod Refusals
 pub mod RefusedExactly
 pub mod RunningOn

@@ -21,20 +21,20 @@ use Rattle.laws.specs.Order.{Sorted}
 use Rattle.laws.specs.Laws.Order.{in-place}
 use Rattle.rules.specs.Rig.{Rig}
 use Rattle.rules.specs.RigOk.{RigOk}
-use Rattle.rules.specs.State.{Chain, timeChain, State, Work, stateOf, valueOf, wakeOf, withTables, blank, Done}
-use Rattle.rules.specs.Conditions.{met, relax}
+use Rattle.rules.specs.State.{Chain, timeChain, State, Work, stateOf, valueOf, wakeOf, blank, Done}
 use Rattle.rules.specs.Serving.{activate, takes, wake, unserved, serve}
 use Rattle.rules.specs.Waiting.{waitOn, waitUntilCount, leave, isDue, wakeDue}
 use Rattle.rules.specs.Family.{family, isMarked, leaveOne, deserted}
 use Rattle.rules.specs.Running.{dispatch}
 use Rattle.rules.specs.NextWaking.{WaitsOnTime, LowestWaking, waitsOnTime, lowerOne, lowestWaking}
 use Rattle.rules.specs.Calls.{Call, schedule, cancel, terminate, finish, tick, waitUntil, waitFor, latched, unlatched, signal, readFlag, readBlock, writeBlock, nextWaking}
-use Rattle.rules.specs.Calls.{scheduled, finished, terminated, cancelled, ticked, effect, refusal, refusals, lastCount, decide, reported, valueOnly, output, accepted, after, Step, step, run, started, start}
+use Rattle.rules.specs.Calls.{scheduled, finished, terminated, cancelled, ticked, effect, refusal, refusals, lastCount, decide, reported, valueOnly, output, ended, again, settled, accepted, after, Step, step, run, started, start}
 use Rattle.rules.specs.Proper.{ProperRun}
 use Rattle.rules.specs.History.{nothing, untilCount, begins}
 use Rattle.rules.specs.Soundness.{Sound}
 use Rattle.rules_laws.specs.Acceptance.{somebody-runs}
-use Rattle.rules_laws.specs.Good.{serve-keeps}
+use Rattle.rules_laws.specs.Good.{settle-keeps}
+use Rattle.rules_laws.specs.Testing.{tested-keeps}
 use Rattle.rules_laws.specs.Serve.{serve-nil}
 use Rattle.rules_laws.specs.Steps.{step-sound, start-sound, dispatch-same}
 use Rattle.rules_laws.specs.WakingLaws.{begun-is}
@@ -155,7 +155,7 @@ module _ (r : Rig) (s : State) (h : Sound r s) where
 -- the state is what it was, no flag is served, and the lowest waking count is told
 pub asked-step : (r : Rig) (s : State) → Sound r s
     → step r s nextWaking ≡ record { next = s; answer = record { code = 0; report = valueOnly (lowestWaking s) }; lent = [] }
-unfolding step after accepted refusal refusals decide effect output
+unfolding step after accepted settled ended again refusal refusals decide effect output
 asked-step r s h =
     ap (λ (d : Done). said (dispatch r (d .now)) d) (serve-nil r s) ∙ ap (λ (n : State). said n (unserved s)) (dispatch-same r s h)
   where
@@ -168,11 +168,11 @@ asked-step r s h =
 abbrev Thinner : State → State → Type 0
 Thinner s u = (t : ℕ) → In t (u .chains timeChain) → In t (s .chains timeChain) × (wakeOf u t ≡ wakeOf s t)
 
--- a serving, and a dispatch, bring nobody
-served-thinner : (r : Rig) (w : Work) → Thinner (w .now) (dispatch r (serve r w .now))
+-- a serving, the test of a task, and a dispatch bring nobody
+settled-thinner : (r : Rig) (t : ℕ) (w : Work) → Thinner (w .now) (dispatch r (again r t (serve r w) .now))
 unfolding dispatch takes wake activate
-served-thinner r w =
-    serve-keeps r (λ u. Thinner (w .now) u) (λ e u k. k) (λ f v u k. k) (λ t x g k. k) w (λ t i. (i, refl))
+settled-thinner r t w =
+    settle-keeps r (λ u. Thinner (w .now) u) (λ e u k. k) (λ f v u k. k) (λ v x g k. k) t w (λ t i. (i, refl))
 
 -- task t waits on time after the call k, which left u: it did so before, or it ran and the call began its wait
 abbrev Came : State → Call → State → ℕ → Type 0
@@ -181,17 +181,7 @@ Came s k u t = (In t (s .chains timeChain) × (wakeOf u t ≡ wakeOf s t)) ⊎ (
 module _ (r : Rig) (s : State) (h : Sound r s) where
   scheduled-thinner : (t : ℕ) → Thinner s (scheduled r s t .now)
   unfolding scheduled activate
-  scheduled-thinner t = go (met (r .present) (r .desired) t conds)
-    where
-      conds : List ℕ
-      conds = relax (r .present) (r .latched) (r .desired) t (s .conds)
-
-      w : Work
-      w = record { now = withTables s conds (set (s .states) t 1); queue = [] }
-
-      go : (b : Bool) → Thinner s ((cond b (activate r t w) w) .now)
-      go true u i = (i, refl)
-      go false u i = (i, refl)
+  scheduled-thinner t = tested-keeps r (Thinner s) (λ v x g k. k) t _ (λ u i. (i, refl))
 
   deserted-thinner : (marks : List ℕ) (t : ℕ) → In t (deserted marks (s .chains) timeChain) → In t (s .chains timeChain)
   unfolding deserted leave
@@ -250,12 +240,12 @@ module _ (r : Rig) (s : State) (h : Sound r s) where
   pub step-counts : (P : ℕ → Type 0) (k : Call) → ((c : ℕ) → refusal r s k ≡ 0 → begins s k ≡ untilCount c → P c)
       → ((t : ℕ) → In t (s .chains timeChain) → P (wakeOf s t))
       → (t : ℕ) → In t (step r s k .next .chains timeChain) → P (wakeOf (step r s k .next) t)
-  unfolding step after accepted
+  unfolding step after accepted settled
   step-counts P k new old t = go (refusal r s k) refl
     where
       go : (n : ℕ) → refusal r s k ≡ n → In t (after n r s k .next .chains timeChain) → P (wakeOf (after n r s k .next) t)
       go zero e i =
-          let w = served-thinner r (effect r s k) t i in
+          let w = settled-thinner r (ended s k) (effect r s k) t i in
           subst P (sym (w .1))
           (⊎-elim (λ p. subst P (sym (p .1)) (old t (p .0))) (λ p. new _ e (p .1)) (effect-came k e t (w .0)))
       go (suc n) e i = old t i
@@ -286,21 +276,11 @@ module _ (r : Rig) (ok : RigOk r) where
   -- at first nobody waits
   nobody-yet : (t : ℕ) → In t (scheduled r blank 1 .now .chains timeChain) → ⊥
   unfolding scheduled activate blank
-  nobody-yet t = go (met (r .present) (r .desired) 1 conds)
-    where
-      conds : List ℕ
-      conds = relax (r .present) (r .latched) (r .desired) 1 (blank .conds)
-
-      w : Work
-      w = record { now = withTables blank conds (set (blank .states) 1 1); queue = [] }
-
-      go : (b : Bool) → In t ((cond b (activate r 1 w) w) .now .chains timeChain) → ⊥
-      go true i = i
-      go false i = i
+  nobody-yet t = tested-keeps r (λ x. In t (x .chains timeChain) → ⊥) (λ v x g k. k) 1 _ (λ i. i)
 
   pub waking-in-range : (ks : List Call) → ProperRun ks
       → (t : ℕ) → In t (run r (start r) ks .chains timeChain) → wakeOf (run r (start r) ks) t ≤ lastCount
-  unfolding start started
+  unfolding start started again
   waking-in-range ks p =
       run-counts (λ (d : ℕ). d ≤ lastCount) ks (start r) (start-sound r ok) p (within-counts r ks (start r))
-      (λ t i. absurd (nobody-yet t (served-thinner r (scheduled r blank 1) t i .0)))
+      (λ t i. absurd (nobody-yet t (settled-thinner r 0 (scheduled r blank 1) t i .0)))

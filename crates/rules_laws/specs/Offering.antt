@@ -3,9 +3,9 @@
 -- other task's conditions; only what is queued goes by rising number.
 use mathlib.Core.Path.{_≡_, refl, sym, ap, _∙_, subst}
 use mathlib.Core.Logic.{_≢_, _⊎_, inl, inr, ⊎-elim}
-use mathlib.Core.Bool.{Bool, true, false, not, cond, _&&_, _||_}
+use mathlib.Core.Bool.{Bool, true, false, cond, _&&_, true≢false}
 use mathlib.Core.List.{List}
-use Prim.Native.Nat.{ℕ, suc, _+_, _*_, _≤_, _<_}
+use Prim.Native.Nat.{ℕ, suc, _+_, _≤_, _<_}
 use native.Mathlib.Omega.{arith}
 use native.Mathlib.Numerals.{add-one}
 use native.Mathlib.Nat.{le-refl}
@@ -16,25 +16,19 @@ use lib.Seq.{getD-set-same, getD-set-other}
 use Rattle.laws.specs.Cases.{by, dec-eq, and-true}
 use Rattle.laws.specs.Iter.{iter}
 use Rattle.laws.specs.Laws.Iter.{iter-ind, iter-zero}
-use Rattle.laws.specs.Laws.All.{all-same}
 use Rattle.laws.specs.Laws.Tables.{in-range}
 use Rattle.rules.specs.Rig.{Rig, placeOf}
 use Rattle.rules.specs.State.{Work, Entry, stateOf}
-use Rattle.rules.specs.Conditions.{relax, metOne, met}
+use Rattle.rules.specs.Conditions.{relax, met}
 use Rattle.rules.specs.Serving.{push, activate, ready, offer, offerNext, offers}
-use Rattle.rules_laws.specs.ConditionLaws.{relaxed-not}
+use Rattle.rules_laws.specs.ConditionLaws.{relaxed-not, met-same, same-task}
 
 -- an activation of task u leaves the conditions of task t alone
 pub met-other : (present latched desired : ℕ → ℕ) (t u : ℕ) (conds : List ℕ) → t ≢ u
     → met present desired t (relax present latched desired u conds) ≡ met present desired t conds
-unfolding met
 met-other present latched desired t u conds n =
-    all-same 16 (metOne present desired t (relax present latched desired u conds)) (metOne present desired t conds)
-    (λ p l. ap (λ (v : ℕ). not (eqb (present (placeOf t p)) 1) || eqb v (desired (placeOf t p)))
-    (relaxed-not present latched desired u conds (placeOf t p) (λ q m a b e. n (same-task t u p q l m e))))
-  where
-    same-task : (t u p q : ℕ) → p < 16 → q < 16 → 16 * t + p ≡ 16 * u + q → t ≡ u
-    same-task t u p q a b e = omega arith
+    met-same present desired t (relax present latched desired u conds) conds
+    (λ p l. relaxed-not present latched desired u conds (placeOf t p) (λ q m a b e. n (same-task t u p q l m e)))
 
 module _ (r : Rig) (f : ℕ) (w : Work) where
   -- task t is inactive, has flag f in a condition, and all its conditions are as desired
@@ -49,19 +43,23 @@ module _ (r : Rig) (f : ℕ) (w : Work) where
   record Offered (k : ℕ) (x : Work) : Type 0 where
     done : (t : ℕ) → 1 ≤ t → t ≤ k → stateOf (x .now) t ≡ cond (called t) 3 (stateOf (w .now) t)
     later : (t : ℕ) → (t ≡ 0) ⊎ (k < t) → stateOf (x .now) t ≡ stateOf (w .now) t
-    tests : (t : ℕ) → k < t → met (r .present) (r .desired) t (x .now .conds) ≡ met (r .present) (r .desired) t (w .now .conds)
+    tests : (t : ℕ) → (k < t) ⊎ (called t ≡ false) → met (r .present) (r .desired) t (x .now .conds) ≡ met (r .present) (r .desired) t (w .now .conds)
     queue : x .queue ≡ iter k callOne (w .queue)
 
   -- task k + 1 is called now exactly when it was called at first
   same-call : (k : ℕ) (x : Work) → Offered k x → (eqb (stateOf (x .now) (suc k)) 1 && ready r f (suc k) (x .now)) ≡ called (suc k)
   unfolding ready
-  same-call k x h = rw (h .later (suc k) (inr (le-refl _)), h .tests (suc k) (le-refl _))
+  same-call k x h = rw (h .later (suc k) (inr (le-refl _)), h .tests (suc k) (inl (le-refl _)))
 
   next-queue : (k : ℕ) (b : Bool) → called (suc k) ≡ b
       → iter (suc k) callOne (w .queue) ≡ cond b (push (r .activation (suc k)) 1 (iter k callOne (w .queue))) (iter k callOne (w .queue))
   unfolding iter
   next-queue k b e =
       rw add-one (ap (λ (y : Bool). cond y (push (r .activation (suc k)) 1 (iter k callOne (w .queue))) (iter k callOne (w .queue))) e)
+
+  sooner : {k : ℕ} (t : ℕ) → (suc k < t) ⊎ (called t ≡ false) → (k < t) ⊎ (called t ≡ false)
+  sooner t (inl l) = inl (omega arith)
+  sooner t (inr n) = inr n
 
   turn : (k : ℕ) (x : Work) → Offered k x → (b : Bool) → called (suc k) ≡ b → Offered (suc k) (cond b (activate r (suc k) x) x)
   unfolding activate
@@ -74,7 +72,9 @@ module _ (r : Rig) (f : ℕ) (w : Work) where
             getD-set-other (x .now .states) (suc k) t 3 0 (⊎-elim (λ q p. omega arith) (λ q p. omega arith) c)
             ∙ h .later t (⊎-elim (λ q. inl q) (λ q. inr (omega arith)) c);
         tests = λ t c.
-            met-other (r .present) (r .latched) (r .desired) t (suc k) (x .now .conds) (λ q. omega arith) ∙ h .tests t (omega arith);
+            met-other (r .present) (r .latched) (r .desired) t (suc k) (x .now .conds)
+            (⊎-elim (λ l q. omega arith) (λ n q. true≢false (sym e ∙ ap called (sym q) ∙ n)) c)
+            ∙ h .tests t (sooner t c);
         queue = ap (push (r .activation (suc k)) 1) (h .queue) ∙ sym (next-queue k true e);
       }
     where
@@ -89,7 +89,7 @@ module _ (r : Rig) (f : ℕ) (w : Work) where
       record {
         done = λ t a b. go t a b (dec-eq t (suc k));
         later = λ t c. h .later t (⊎-elim (λ q. inl q) (λ q. inr (omega arith)) c);
-        tests = λ t c. h .tests t (omega arith);
+        tests = λ t c. h .tests t (sooner t c);
         queue = h .queue ∙ sym (next-queue k false e);
       }
     where
@@ -118,6 +118,10 @@ module _ (r : Rig) (f : ℕ) (w : Work) where
   -- each task that is called becomes dispatchable, and nobody else changes
   pub offers-states : (t : ℕ) → 1 ≤ t → t ≤ 64 → stateOf (offers r f 64 w .now) t ≡ cond (called t) 3 (stateOf (w .now) t)
   offers-states = offered 64 .done
+
+  -- who is not called keeps its conditions
+  pub offers-tests : (t : ℕ) → called t ≡ false → met (r .present) (r .desired) t (offers r f 64 w .now .conds) ≡ met (r .present) (r .desired) t (w .now .conds)
+  offers-tests t n = offered 64 .tests t (inr n)
 
   -- their activation flags are queued on, by rising number
   pub offers-queue : offers r f 64 w .queue ≡ iter 64 callOne (w .queue)

@@ -8,21 +8,20 @@ use native.Mathlib.Omega.{arith}
 use native.Mathlib.Nat.{le-refl}
 use borrow.Author.Tests.{eqb-true, not-false}
 use lib.Dec.{eqb, leb}
-use lib.ListN.{length, set}
+use lib.ListN.{length}
 use lib.Seq.{getD-set-same, getD-set-other}
 use Rattle.laws.specs.Cases.{by, dec-eq}
 use Rattle.laws.specs.Laws.Tables.{keeps, in-range}
 use Rattle.laws.specs.Members.{keep}
 use Rattle.rules.specs.Rig.{Rig}
 use Rattle.rules.specs.RigOk.{RigOk}
-use Rattle.rules.specs.State.{timeChain, chainOf, State, Work, stateOf, valueOf, withTables}
-use Rattle.rules.specs.Conditions.{relax, met}
+use Rattle.rules.specs.State.{timeChain, chainOf, State, Work, stateOf, valueOf}
 use Rattle.rules.specs.Serving.{activate, takes, wake, serve}
 use Rattle.rules.specs.Waiting.{waitOn, waitUntilCount, wakeDue, isDue}
 use Rattle.rules.specs.Family.{Under, itself, below, family, isMarked}
 use Rattle.rules.specs.Running.{rank, chosen, dispatch}
 use Rattle.rules.specs.Calls.{Call, schedule, cancel, terminate, finish, tick, waitUntil, waitFor, latched, unlatched, signal, readFlag, readBlock, writeBlock, nextWaking}
-use Rattle.rules.specs.Calls.{scheduled, finished, terminated, cancelled, ticked, quiet, effect, refusals, refusal, isInvoked, isUninvoked, notActive, accepted, Step, step}
+use Rattle.rules.specs.Calls.{scheduled, finished, terminated, cancelled, ticked, effect, refusals, refusal, isInvoked, isUninvoked, notActive, ended, again, settled, accepted, Step, step}
 use Rattle.rules.specs.Proper.{Proper}
 use Rattle.rules.specs.Soundness.{Sound}
 use Rattle.rules_laws.specs.Rousing.{rouse-three}
@@ -31,7 +30,8 @@ use Rattle.rules_laws.specs.Acceptance.{named-is}
 use Rattle.rules_laws.specs.Refusals.{accepted-is}
 use Rattle.rules_laws.specs.FamilyLaws.{family-is}
 use Rattle.rules_laws.specs.Leaving.{cleared-miss}
-use Rattle.rules_laws.specs.Good.{serve-keeps, serve-running, serve-good}
+use Rattle.rules_laws.specs.Good.{settle-keeps, settle-running, settle-good}
+use Rattle.rules_laws.specs.Testing.{tested-keeps}
 use Rattle.rules_laws.specs.Steps.{effect-ready}
 
 -- a descendant has no lower number
@@ -55,12 +55,12 @@ caller-unmarked r ok t a b n =
     )))
     (λ e. e)
 
--- what was dispatchable is so after a serving
-pub serve-three : (r : Rig) (w : Work) (t : ℕ) → stateOf (w .now) t ≡ 3 → stateOf (serve r w .now) t ≡ 3
+-- what was dispatchable is so after a serving, and after the test of task u
+pub settle-three : (r : Rig) (u : ℕ) (w : Work) (t : ℕ) → stateOf (w .now) t ≡ 3 → stateOf (again r u (serve r w) .now) t ≡ 3
 unfolding takes wake activate
-serve-three r w t h =
-    serve-keeps r (λ s. stateOf s t ≡ 3) (λ e s k. k) (λ f v s k. rouse-three t (s .chains (chainOf f v)) (s .states) k)
-    (λ u x g k. keeps (x .now .states) u t 3 k) w h
+settle-three r u w t h =
+    settle-keeps r (λ s. stateOf s t ≡ 3) (λ e s k. k) (λ f v s k. rouse-three t (s .chains (chainOf f v)) (s .states) k)
+    (λ v x g k. keeps (x .now .states) v t 3 k) u w h
 
 -- who was running is running still and dispatchable when the queue is served, or is no longer the running task
 abbrev pub Stays : State → State → Type 0
@@ -89,17 +89,9 @@ module _ (r : Rig) (ok : RigOk r) (s : State) (h : Sound r s) (n : s .running �
 
   scheduled-stays : (t : ℕ) → t ≢ s .running → Stays s (scheduled r s t .now)
   unfolding scheduled activate
-  scheduled-stays t d = go (met (r .present) (r .desired) t (relax (r .present) (r .latched) (r .desired) t (s .conds)))
-    where
-      w : Work
-      w = quiet (withTables s (relax (r .present) (r .latched) (r .desired) t (s .conds)) (set (s .states) t 1))
-
-      still : stateOf (w .now) (s .running) ≡ 3
-      still = getD-set-other (s .states) t (s .running) 1 0 (λ q. d (sym q)) ∙ up
-
-      go : (b : Bool) → Stays s ((cond b (activate r t w) w) .now)
-      go true = (refl, keeps (set (s .states) t 1) t (s .running) 3 still)
-      go false = (refl, still)
+  scheduled-stays t d =
+      tested-keeps r (Stays s) (λ u w e k. (k .0, keeps (w .now .states) u (s .running) 3 (k .1))) t _
+      (refl, getD-set-other (s .states) t (s .running) 1 0 (λ q. d (sym q)) ∙ up)
 
   pub effect-stays : (k : Call) → refusal r s k ≡ 0 → Stays s (effect r s k .now) ⊎ GivesUp s k (effect r s k .now)
   unfolding effect refusal refusals finished terminated cancelled ticked wakeDue
@@ -132,10 +124,10 @@ module _ (r : Rig) (ok : RigOk r) (s : State) (h : Sound r s) (n : s .running �
 module _ (r : Rig) (ok : RigOk r) (s : State) (h : Sound r s) (k : Call) (p : Proper k) (e : refusal r s k ≡ 0) where
   -- who did not give up is dispatchable after the call
   pub stays-dispatchable : s .running ≢ 0 → effect r s k .now .running ≢ 0 → stateOf (step r s k .next) (s .running) ≡ 3
-  unfolding accepted dispatch
+  unfolding accepted settled dispatch
   stays-dispatchable n m =
       ap (λ (x : Step). stateOf (x .next) (s .running)) (accepted-is r s k e)
-      ∙ serve-three r (effect r s k) (s .running) (go (effect-stays r ok s h n k e))
+      ∙ settle-three r (ended s k) (effect r s k) (s .running) (go (effect-stays r ok s h n k e))
     where
       go : Stays s (effect r s k .now) ⊎ GivesUp s k (effect r s k .now) → stateOf (effect r s k .now) (s .running) ≡ 3
       go (inl y) = y .1
@@ -143,17 +135,17 @@ module _ (r : Rig) (ok : RigOk r) (s : State) (h : Sound r s) (k : Call) (p : Pr
 
   -- the running task after the call is chosen from the states after it
   next-running : step r s k .next .running ≡ chosen (r .privileged) (r .priority) (step r s k .next .states) (effect r s k .now .running)
-  unfolding accepted dispatch
+  unfolding accepted settled dispatch
   next-running =
       ap (λ (x : Step). x .next .running) (accepted-is r s k e)
-      ∙ ap (λ (m : ℕ). chosen (r .privileged) (r .priority) (serve r (effect r s k) .now .states) m) (serve-running r (effect r s k))
+      ∙ ap (λ (m : ℕ). chosen (r .privileged) (r .priority) (settled r s k .now .states) m) (settle-running r (effect r s k) (ended s k))
       ∙ sym (ap (λ (x : Step). chosen (r .privileged) (r .priority) (x .next .states) (effect r s k .now .running)) (accepted-is r s k e))
 
   next-sized : length (step r s k .next .states) ≡ 65
-  unfolding accepted dispatch
+  unfolding accepted settled dispatch
   next-sized =
       ap (λ (x : Step). length (x .next .states)) (accepted-is r s k e)
-      ∙ serve-good r ok (effect r s k) (effect-ready r ok s h k p e) .tasks .sized
+      ∙ settle-good r ok (ended s k) (effect r s k) (effect-ready r ok s h k p e) .tasks .sized
 
   -- WHO STAYS RUNS ON: the call did not finish its caller or put it to wait, and nobody dispatchable has higher rank
   pub runs-on : s .running ≢ 0 → effect r s k .now .running ≢ 0
@@ -176,3 +168,9 @@ module _ (r : Rig) (ok : RigOk r) (s : State) (h : Sound r s) (k : Call) (p : Pr
       subst (λ (m : ℕ). rank (r .privileged) (r .priority) t < rank (r .privileged) (r .priority) m) (sym next-running)
       (lowest-first (r .privileged) (r .priority) (step r s k .next .states) (effect r s k .now .running) t
       (λ q. d (next-running ∙ q)) a (subst (λ (m : ℕ). t < m) next-running b) c)
+
+-- L3: "A task that finishes has not stayed dispatchable, even if it is active again": after a finish who runs is chosen as if nobody had run
+pub finish-anew : (r : Rig) → RigOk r → (s : State) → Sound r s → refusal r s finish ≡ 0
+    → step r s finish .next .running ≡ chosen (r .privileged) (r .priority) (step r s finish .next .states) 0
+unfolding effect finished
+finish-anew r ok s h e = next-running r ok s h finish tt e

@@ -2,7 +2,7 @@
 use mathlib.Core.Path.{_≡_, refl, ap, _∙_}
 use mathlib.Core.Bool.{Bool, true, false, cond, _&&_}
 use mathlib.Core.List.{List, [], _∷_}
-use Prim.Native.Nat.{ℕ, zero, suc, _+_, _≤_, zero-le}
+use Prim.Native.Nat.{ℕ, zero, suc, _+_, _≤_}
 use native.Mathlib.Omega.{arith}
 use native.Mathlib.Numerals.{add-one}
 use native.Mathlib.Nat.{le-refl, le-trans, suc-add}
@@ -94,13 +94,18 @@ serve-cons r s e q =
     (room r (length q + inactives (s .states)) (load (serveFlag r e s q)) (serveFlag r e s q .now) (serveFlag r e s q .queue)
     (serveFlag-load r e s q) (le-refl _))
 
--- more is never served than the load
-serving-le : (r : Rig) (k : ℕ) (s : State) (q : List Entry) → serving r k s q .served ≤ k
+-- what is served, and what may yet be, is never more than the load
+serving-left : (r : Rig) (k : ℕ) (s : State) (q : List Entry)
+    → serving r k s q .served + inactives (serving r k s q .now .states) ≤ length q + inactives (s .states)
 unfolding serving
-serving-le r zero s q = zero-le
-serving-le r (suc k) s [] = zero-le
-serving-le r (suc k) s (e ∷ q) = omega (arith, serving-le r k (serveFlag r e s q .now) (serveFlag r e s q .queue))
+serving-left r zero s q = omega arith
+serving-left r (suc k) s [] = omega arith
+serving-left r (suc k) s (e ∷ q) =
+    omega (arith, serving-left r k (serveFlag r e s q .now) (serveFlag r e s q .queue), serveFlag-load r e s q)
+
+pub served-left : (r : Rig) (w : Work) → serve r w .served + inactives (serve r w .now .states) ≤ load w
+unfolding serve
+served-left r w = serving-left r (load w) (w .now) (w .queue)
 
 pub served-le : (r : Rig) (w : Work) → serve r w .served ≤ load w
-unfolding serve
-served-le r w = serving-le r (load w) (w .now) (w .queue)
+served-le r w = omega (arith, served-left r w)

@@ -7,24 +7,24 @@ use Prim.Native.Nat.{ℕ, zero, suc, _+_, _≤_}
 use native.Mathlib.Omega.{arith}
 use borrow.Author.Tests.{eqb-true, leb-false, not-false}
 use lib.Dec.{eqb, leb}
-use lib.ListN.{set, replicate, length-replicate}
+use lib.ListN.{length-replicate}
 use Rattle.laws.specs.Cases.{or-false}
 use Rattle.laws.specs.Laws.Tables.{zeros}
 use Rattle.rules.specs.Rig.{Rig}
 use Rattle.rules.specs.RigOk.{RigOk}
-use Rattle.rules.specs.State.{Chain, State, Work, stateOf, valueOf, active, withRunning, blank}
-use Rattle.rules.specs.Conditions.{met, relax}
+use Rattle.rules.specs.State.{State, Work, stateOf, valueOf, active, withRunning, blank}
 use Rattle.rules.specs.Serving.{activate, serve}
 use Rattle.rules.specs.Waiting.{waitOn, waitUntilCount, wakeDue}
 use Rattle.rules.specs.Running.{dispatch}
 use Rattle.rules.specs.Calls.{Call, schedule, cancel, terminate, finish, tick, waitUntil, waitFor, latched, unlatched, signal, readFlag, readBlock, writeBlock, nextWaking}
-use Rattle.rules.specs.Calls.{scheduled, finished, terminated, cancelled, ticked, quiet, effect, refusals, refusal, isInvoked, notActive, isMinor, isActivation, notPlain, lastCount, accepted, after, step, run, started, start}
+use Rattle.rules.specs.Calls.{scheduled, finished, terminated, cancelled, ticked, quiet, effect, refusals, refusal, isInvoked, notActive, isMinor, isActivation, notPlain, lastCount, ended, again, settled, accepted, after, step, run, started, start}
 use Rattle.rules.specs.Proper.{Proper, ProperRun}
 use Rattle.rules.specs.Soundness.{Sound}
 use Rattle.rules_laws.specs.Queued.{look}
 use Rattle.rules_laws.specs.Ranks.{chosen-runs, runs-chosen}
 use Rattle.rules_laws.specs.Acceptance.{passed, somebody-runs, named-is, flagged-is, no-activation}
-use Rattle.rules_laws.specs.Good.{Good, Ready, sound-good, serve-good, serve-count}
+use Rattle.rules_laws.specs.Good.{Good, Ready, sound-good, settle-good, settle-count}
+use Rattle.rules_laws.specs.Testing.{tested-keeps}
 use Rattle.rules_laws.specs.Effects.{quiet-ready, scheduled-ready, finished-ready, terminated-ready, waitOn-ready, waitUntil-ready, signal-ready, ticked-ready}
 use Rattle.rules_laws.specs.Cancelling.{cancelled-ready}
 
@@ -111,14 +111,7 @@ module _ (r : Rig) (ok : RigOk r) (s : State) (h : Sound r s) where
 
   pub effect-range : (k : Call) → refusal r s k ≡ 0 → effect r s k .now .count ≤ lastCount
   unfolding effect refusal refusals scheduled finished terminated cancelled ticked wakeDue waitOn waitUntilCount activate
-  effect-range (schedule t) e = go (met (r .present) (r .desired) t (relax (r .present) (r .latched) (r .desired) t (s .conds)))
-    where
-      w : Work
-      w = quiet (record { count = s .count; flags = s .flags; conds = relax (r .present) (r .latched) (r .desired) t (s .conds); states = set (s .states) t 1; wakes = s .wakes; chains = s .chains; running = s .running })
-
-      go : (b : Bool) → (cond b (activate r t w) w) .now .count ≤ lastCount
-      go true = h .range
-      go false = h .range
+  effect-range (schedule t) e = tested-keeps r (λ x. x .count ≤ lastCount) (λ u w a k. k) t _ (h .range)
   effect-range (cancel t) e = h .range
   effect-range (terminate t) e = h .range
   effect-range finish e = h .range
@@ -136,13 +129,13 @@ module _ (r : Rig) (ok : RigOk r) (s : State) (h : Sound r s) where
 -- ---- every step, every run
 
 module _ (r : Rig) (ok : RigOk r) where
-  -- what is handed to the serving is served, and then dispatched
-  served-sound : (w : Work) → Ready r w → w .now .count ≤ lastCount → Sound r (dispatch r (serve r w .now))
-  served-sound w c n = dispatch-sound r (serve r w .now) (serve-good r ok w c) (omega (arith, serve-count r w))
+  -- what is handed to the serving is served, task t tested, and then it is dispatched
+  settle-sound : (t : ℕ) (w : Work) → Ready r w → w .now .count ≤ lastCount → Sound r (dispatch r (again r t (serve r w) .now))
+  settle-sound t w c n = dispatch-sound r (again r t (serve r w) .now) (settle-good r ok t w c) (omega (arith, settle-count r w t))
 
   pub accepted-sound : (s : State) → Sound r s → (k : Call) → Proper k → refusal r s k ≡ 0 → Sound r (accepted r s k .next)
-  unfolding accepted
-  accepted-sound s h k p e = served-sound (effect r s k) (effect-ready r ok s h k p e) (effect-range r ok s h k e)
+  unfolding accepted settled
+  accepted-sound s h k p e = settle-sound (ended s k) (effect r s k) (effect-ready r ok s h k p e) (effect-range r ok s h k e)
 
   pub step-sound : (s : State) → Sound r s → (k : Call) → Proper k → Sound r (step r s k .next)
   unfolding step after
@@ -202,21 +195,11 @@ module _ (r : Rig) (ok : RigOk r) where
 
   started-count : scheduled r blank 1 .now .count ≤ lastCount
   unfolding scheduled blank activate lastCount
-  started-count = go (met (r .present) (r .desired) 1 conds)
-    where
-      conds : List ℕ
-      conds = relax (r .present) (r .latched) (r .desired) 1 (replicate 1040 0)
-
-      w : Work
-      w = quiet (record { count = 0; flags = replicate 129 0; conds = conds; states = set (replicate 65 0) 1 1; wakes = replicate 65 0; chains = λ (c : Chain). []; running = 0 })
-
-      go : (b : Bool) → (cond b (activate r 1 w) w) .now .count ≤ 2147483647
-      go true = omega arith
-      go false = omega arith
+  started-count = tested-keeps r (λ x. x .count ≤ 2147483647) (λ u w a k. k) 1 _ (omega arith)
 
   pub start-sound : Sound r (start r)
-  unfolding start started
-  start-sound = served-sound (scheduled r blank 1) started-ready started-count
+  unfolding start started again
+  start-sound = settle-sound 0 (scheduled r blank 1) started-ready started-count
 
   -- after any run from an accepted start, refused calls among it: "12 never follows from an accepted start"
   pub always : (ks : List Call) → ProperRun ks → Sound r (run r (start r) ks)

@@ -17,21 +17,21 @@ use Rattle.laws.specs.Laws.Members.{without-in, keep-in}
 use Rattle.laws.specs.Laws.Order.{place-new, place-old}
 use Rattle.rules.specs.Rig.{Rig}
 use Rattle.rules.specs.RigOk.{RigOk}
-use Rattle.rules.specs.State.{Chain, timeChain, chainOf, State, Work, Entry, stateOf, valueOf, wakeOf, withTables}
-use Rattle.rules.specs.Conditions.{met, relax}
+use Rattle.rules.specs.State.{Chain, timeChain, chainOf, State, Work, Entry, stateOf, valueOf, wakeOf}
 use Rattle.rules.specs.Serving.{activate, takes, wake, serve}
 use Rattle.rules.specs.Waiting.{waitOn, waitUntilCount, leave, isDue, wakeDue}
 use Rattle.rules.specs.Family.{Under, family, isMarked}
 use Rattle.rules.specs.Running.{dispatch}
 use Rattle.rules.specs.Calls.{Call, schedule, cancel, terminate, finish, tick, waitUntil, waitFor, latched, unlatched, signal, readFlag, readBlock, writeBlock, nextWaking}
-use Rattle.rules.specs.Calls.{scheduled, finished, terminated, cancelled, ticked, effect, isUninvoked, lastCount, decide, refusal, refusals, accepted, after, step, run, start}
+use Rattle.rules.specs.Calls.{scheduled, finished, terminated, cancelled, ticked, effect, isUninvoked, lastCount, decide, refusal, refusals, ended, again, settled, accepted, after, step, run, start}
 use Rattle.rules.specs.Proper.{Proper, ProperRun}
 use Rattle.rules.specs.Soundness.{Sound}
 use Rattle.rules_laws.specs.Rousing.{rouse-in, rouse-three}
 use Rattle.rules_laws.specs.Acceptance.{passed, somebody-runs, named-is}
 use Rattle.rules_laws.specs.FamilyLaws.{family-is}
 use Rattle.rules_laws.specs.Leaving.{deserted-is}
-use Rattle.rules_laws.specs.Good.{serve-keeps, serve-count}
+use Rattle.rules_laws.specs.Good.{settle-keeps, settle-count}
+use Rattle.rules_laws.specs.Testing.{tested-cases, tested-keeps}
 use Rattle.rules_laws.specs.Steps.{step-sound, run-sound, always}
 use Rattle.rules.specs.History.{nothing, onFlag, untilCount, begins}
 use Rattle.rules.specs.Waking.{Struck}
@@ -74,10 +74,10 @@ module _ (r : Rig) (s : State) where
   takes-kept e u k =
       record { count = k .count; due = λ t d m. let x = k .due t d m in record { there = x .there; due = x .due }; three = k .three }
 
-served-kept : (r : Rig) (w : Work) → Kept (w .now) (dispatch r (serve r w .now))
+settled-kept : (r : Rig) (t : ℕ) (w : Work) → Kept (w .now) (dispatch r (again r t (serve r w) .now))
 unfolding dispatch
-served-kept r w =
-    let k = serve-keeps r (λ u. Kept (w .now) u) (takes-kept r (w .now)) (wake-kept r (w .now)) (λ t x e g. activate-kept r (w .now) t x g) w
+settled-kept r t w =
+    let k = settle-keeps r (λ u. Kept (w .now) u) (takes-kept r (w .now)) (wake-kept r (w .now)) (λ v x e g. activate-kept r (w .now) v x g) t w
     (record { count = refl; due = λ t c m. m; three = λ t h. h }) in
     record { count = k .count; due = λ t d m. let x = k .due t d m in record { there = x .there; due = x .due }; three = k .three }
 
@@ -114,17 +114,7 @@ module _ (r : Rig) (ok : RigOk r) (s : State) (sound : Sound r s) (t c : ℕ) (m
 
   scheduled-next : (u : ℕ) → Next t c (scheduled r s u .now)
   unfolding scheduled activate
-  scheduled-next u = go (met (r .present) (r .desired) u conds)
-    where
-      conds : List ℕ
-      conds = relax (r .present) (r .latched) (r .desired) u (s .conds)
-
-      w : Work
-      w = record { now = withTables s conds (set (s .states) u 1); queue = [] }
-
-      go : (b : Bool) → Next t c ((cond b (activate r u w) w) .now)
-      go true = same (activate r u w .now) refl refl refl
-      go false = same (w .now) refl refl refl
+  scheduled-next u = tested-cases r u _ (λ w. Next t c (w .now)) (λ e k. same _ refl refl refl) (λ n. same _ refl refl refl)
 
   cancelled-next : (u : ℕ) → (1 ≤ u) × (u ≤ r .tasks) → (Under (r .controller) u t → ⊥) → Next t c (cancelled r s u .now)
   unfolding cancelled
@@ -210,11 +200,11 @@ module _ (r : Rig) (ok : RigOk r) (s : State) (sound : Sound r s) (t c : ℕ) (m
 
   -- THE ONE-STEP LAW
   pub step-next : (k : Call) → (Struck r s k t → ⊥) → Next t c (step r s k .next)
-  unfolding step after accepted
+  unfolding step after accepted settled
   step-next k n = go (refusal r s k) refl
     where
       go : (x : ℕ) → refusal r s k ≡ x → Next t c (after x r s k .next)
-      go zero e = next-kept t c _ _ (served-kept r (effect r s k)) (effect-next k e n)
+      go zero e = next-kept t c _ _ (settled-kept r (ended s k) (effect r s k)) (effect-next k e n)
       go (suc x) e = here
 
 -- ---- counts
@@ -226,17 +216,7 @@ either-count s false u e = omega (arith, e)
 -- no call lowers the count
 effect-count : (r : Rig) (s : State) (k : Call) → s .count ≤ effect r s k .now .count
 unfolding effect scheduled finished terminated cancelled ticked wakeDue waitOn waitUntilCount activate
-effect-count r s (schedule t) = go (met (r .present) (r .desired) t conds)
-  where
-    conds : List ℕ
-    conds = relax (r .present) (r .latched) (r .desired) t (s .conds)
-
-    w : Work
-    w = record { now = withTables s conds (set (s .states) t 1); queue = [] }
-
-    go : (b : Bool) → s .count ≤ (cond b (activate r t w) w) .now .count
-    go true = le-refl _
-    go false = le-refl _
+effect-count r s (schedule t) = tested-keeps r (λ x. s .count ≤ x .count) (λ u w e k. k) t _ (le-refl _)
 effect-count r s (cancel t) = le-refl _
 effect-count r s (terminate t) = le-refl _
 effect-count r s finish = le-refl _
@@ -252,8 +232,8 @@ effect-count r s (writeBlock k area buffer) = le-refl _
 effect-count r s nextWaking = le-refl _
 
 accepted-count : (r : Rig) (s : State) (k : Call) → accepted r s k .next .count ≡ effect r s k .now .count
-unfolding accepted dispatch
-accepted-count r s k = serve-count r (effect r s k)
+unfolding accepted settled dispatch
+accepted-count r s k = settle-count r (effect r s k) (ended s k)
 
 step-count : (r : Rig) (s : State) (k : Call) → s .count ≤ step r s k .next .count
 unfolding step after
@@ -372,10 +352,10 @@ begun-is r s nextWaking c e b = absurd (nothing-begun c b)
 module _ (r : Rig) (ok : RigOk r) where
   -- then the running task is in the time chain for it
   begun-due : (s : State) → Sound r s → (k : Call) (c : ℕ) → refusal r s k ≡ 0 → Begun r s k c → Due (s .running) c (step r s k .next)
-  unfolding accepted waitUntilCount
+  unfolding accepted settled waitUntilCount
   begun-due s sound k c e b =
       rw (step-accepted r s k e)
-      (served-kept r (effect r s k) .due (s .running) c
+      (settled-kept r (ended s k) (effect r s k) .due (s .running) c
       (subst (λ (u : State). Due (s .running) c u) (sym (b .now))
       (record {
         there = place-new (λ (a : ℕ). getD (set (s .wakes) (s .running) c) a 0) (s .running) (s .chains timeChain);

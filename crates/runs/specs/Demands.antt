@@ -11,15 +11,16 @@ use Rattle.laws.specs.Members.{In, Distinct}
 use Rattle.laws.specs.Ordered.{Ordered}
 use Rattle.chains.specs.Held.{at}
 use Rattle.chains.specs.Read.{chainAt, backAt}
-use Rattle.rules.specs.Sizes.{tickWords}
+use Rattle.rules.specs.Sizes.{positions, tickWords}
+use Rattle.rules.specs.Rig.{placeOf}
 use Rattle.rules.specs.State.{Chain, timeChain, chainOf, State, Entry, Work, stateOf, inactive, waiting, dispatchable, on}
-use Rattle.rules.specs.Serving.{made}
+use Rattle.rules.specs.Serving.{made, serve}
 use Rattle.rules.specs.Soundness.{IsChain}
-use Rattle.rules.specs.Calls.{tick, signal, effect, run, start}
+use Rattle.rules.specs.Calls.{terminate, finish, tick, signal, effect, ended, run, start}
 use Rattle.rules.specs.History.{Earlier, Sooner}
-use Rattle.rules_laws.specs.WhileServing.{Reached}
-use Rattle.rules_laws.specs.Activation.{ByService}
-use Rattle.rules_laws.specs.Heard.{WaitedOn}
+use Rattle.rules_laws.specs.WhileServing.{Through}
+use Rattle.rules_laws.specs.Activation.{ByService, ByTest}
+use Rattle.rules_laws.specs.Heard.{WaitedOn, byTest}
 use Rattle.exec_family.specs.Anchors.{anchorOf}
 use Rattle.exec.specs.Sound.{rigIn, view, SoundRecord}
 use Rattle.runs.specs.Runs.{Made, MadeOn, callsOf, codeOf, servedOf, wokenOf, activatedOf, toldBy, historyIn}
@@ -112,19 +113,30 @@ pub record Told (y : Exec) (m : Made) : Type 0 where
 abbrev pub leaves : Exec → Made → Work
 leaves y m = effect (rigIn y) (view y) (m .call)
 
+-- what it comes through: the services of what it has queued, and, L3, those after the test of the task that it ended
+abbrev pub Comes : Exec → Made → Work → Type 0
+Comes y m = Through (rigIn y) (ended (view y) (m .call)) (leaves y m)
+
+-- L3: that task, "once the queue is empty .. still inactive with all conditions as desired": it is activated by no service, and not counted
+abbrev pub ByTestIn : Exec → Made → ℕ → Type 0
+ByTestIn y m = ByTest (rigIn y) (ended (view y) (m .call)) (leaves y m)
+
+abbrev pub byTestIn : Exec → Made → ℕ
+byTestIn y m = byTest (rigIn y) (ended (view y) (m .call)) (serve (rigIn y) (leaves y m) .now)
+
 -- "how many waiting tasks it made dispatchable and how many it activated, added over all services of a call": of an accepted call, from what it
 -- leaves to the serving to the record that it hands back
 pub record Hears (y : Exec) (m : Made) : Type 0 where
   -- woken is the number of tasks that were waiting and became dispatchable: exactly those who waited on the served flags' chains
   pub woken : wokenOf (m .step) ≡ made waiting (leaves y m .now .states) (m .step .exec .st .state)
-  pub waited : (t : ℕ) → ((stateOf (leaves y m .now) t ≡ waiting) × (stateIn (m .step .exec) t ≡ dispatchable)) ↔ WaitedOn (rigIn y) (leaves y m) t
+  pub waited : (t : ℕ) → ((stateOf (leaves y m .now) t ≡ waiting) × (stateIn (m .step .exec) t ≡ dispatchable)) ↔ WaitedOn (rigIn y) (Comes y m) t
   -- it served a flag on which so many waited with that value: it says at least so many
   pub least :
-      (s : State) (e : Entry) (q : List Entry) → Reached (rigIn y) (leaves y m) (record { now = s; queue = e ∷ q }) →
+      (s : State) (e : Entry) (q : List Entry) → Comes y m (record { now = s; queue = e ∷ q }) →
       length (s .chains (chainOf (e .flag) (e .value))) ≤ wokenOf (m .step)
-  -- activated is the number of tasks that were inactive and became dispatchable, each by a service
-  pub activated : activatedOf (m .step) ≡ made inactive (leaves y m .now .states) (m .step .exec .st .state)
-  pub called : (t : ℕ) → stateOf (leaves y m .now) t ≡ inactive → stateIn (m .step .exec) t ≡ dispatchable → ByService (rigIn y) (leaves y m) t
+  -- activated is the number of tasks that were inactive and became dispatchable, each by a service; but whom the test activates is not counted
+  pub activated : activatedOf (m .step) + byTestIn y m ≡ made inactive (leaves y m .now .states) (m .step .exec .st .state)
+  pub called : (t : ℕ) → stateOf (leaves y m .now) t ≡ inactive → stateIn (m .step .exec) t ≡ dispatchable → ByService (rigIn y) (Comes y m) t ⊎ ByTestIn y m t
 
 pub record Heard (y : Exec) (m : Made) : Type 0 where
   pub hears : codeOf (m .step) ≡ 0 → Hears y m
@@ -137,3 +149,18 @@ pub record Heard (y : Exec) (m : Made) : Type 0 where
   pub refused : codeOf (m .step) ≢ 0 → (wokenOf (m .step) ≡ 0) × (activatedOf (m .step) ≡ 0)
   -- no task is counted twice: together they are at most the rig's number of tasks
   pub few : wokenOf (m .step) + activatedOf (m .step) ≤ y .rig .tasks
+
+-- ---- L3: TASKS THAT SHOULD RUN AGAIN DO
+
+-- after every call "no task is left inactive with all its conditions as desired"
+abbrev pub NobodyLeft : Exec → Type 0
+NobodyLeft y =
+    (t : ℕ) →
+    stateIn y t ≡ inactive →
+    ((p : ℕ) → p < positions → at (y .rig .present) (placeOf t p) ≡ 1 → at (y .st .cond) (placeOf t p) ≡ at (y .rig .desired) (placeOf t p)) →
+    ⊥
+
+-- a finish serves at most one flag more than the rig has tasks, a terminate as many as it has
+pub record AtMost (y : Exec) (m : Made) : Type 0 where
+  pub finishes : m .call ≡ finish → servedOf (m .step) ≤ suc (y .rig .tasks)
+  pub terminates : (t : ℕ) → m .call ≡ terminate t → servedOf (m .step) ≤ y .rig .tasks

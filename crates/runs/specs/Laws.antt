@@ -17,7 +17,7 @@ use Rattle.rules.specs.Rig as G
 use Rattle.rules.specs.RigOk.{RigOk}
 use Rattle.rules.specs.State as S
 use Rattle.rules.specs.State.{Chain, timeChain, chainOf, waiting}
-use Rattle.rules.specs.Serving.{made}
+use Rattle.rules.specs.Serving.{made, serve}
 use Rattle.rules.specs.Soundness.{IsChain, Sound}
 use Rattle.rules.specs.Calls as R
 use Rattle.rules.specs.Calls.{tick, waitUntil, waitFor, nextWaking, refusal}
@@ -35,7 +35,9 @@ use Rattle.rules_laws.specs.Waking as W
 use Rattle.rules_laws.specs.WakingLaws as WL
 use Rattle.rules_laws.specs.NextWaking.{in-time, OnlyBegins, run-counts, waking-in-range}
 use Rattle.rules_laws.specs.Activation.{BySchedule, ByService, activated-by}
-use Rattle.rules_laws.specs.Heard.{WaitedOn, says, heard-few, signal-leaves, start-heard}
+use Rattle.rules_laws.specs.AtMost.{finish-most, terminate-most}
+use Rattle.rules_laws.specs.NobodyLeft as NL
+use Rattle.rules_laws.specs.Heard.{WaitedOn, byTest, says, heard-few, signal-leaves, signal-untested, start-heard}
 use Rattle.exec_family.specs.Anchors.{anchorOf}
 use Rattle.exec_family.specs.Laws.Anchors.{anchor-low, anchor-high}
 use Rattle.exec_state.specs.View.{rigOf}
@@ -47,7 +49,7 @@ use Rattle.exec_sound.specs.Laws.RightRig.{rig-ok}
 use Rattle.exec.specs.Laws.Promises.{twelve-exactly, Answered, asked}
 use Rattle.exec.specs.Starting.{Started, noExec, brokenRig}
 use Rattle.runs.specs.Runs.{Made, MadeOn, Ran, callsOf, codeOf, servedOf, wokenOf, activatedOf, toldBy, AcceptedStart, noting, historyIn, SparedIn, NoneSoonerIn}
-use Rattle.runs.specs.Demands.{Stands, Chained, Activated, Bounded, Demand, Wakes, forwardIn, stateIn, wakeIn, OnTime, Told, leaves, Hears, Heard}
+use Rattle.runs.specs.Demands.{Stands, Chained, Activated, Bounded, Demand, Wakes, forwardIn, stateIn, wakeIn, OnTime, Told, leaves, Comes, ByTestIn, byTestIn, Hears, Heard, NobodyLeft, AtMost}
 use Rattle.exec.specs.declared.Exec.{Exec}
 use Rattle.exec.specs.declared.Step.{Step}
 
@@ -204,9 +206,10 @@ module _ (y : Exec) (h : SoundRecord y) (m : Made) (o : MadeOn y m) where
       let k = says (rigIn y) (ok y h) (view y) (h .state) (m .call) (o .proper) (sym (code-same (rigIn y) (view y) y shows-itself m o) ∙ e) in
       record {
         woken = same-woken ∙ k .woken ∙ ap (λ (u : S.State). made 2 (w .now .states) (u .states)) handed;
-        waited = λ t. subst (λ (u : S.State). ((S.stateOf (w .now) t ≡ 2) × (S.stateOf u t ≡ 3)) ↔ WaitedOn (rigIn y) w t) handed (k .waited t);
+        waited = λ t. subst (λ (u : S.State). ((S.stateOf (w .now) t ≡ 2) × (S.stateOf u t ≡ 3)) ↔ WaitedOn (rigIn y) (Comes y m) t) handed (k .waited t);
         least = λ s e q p. omega (arith, k .least s e q p, same-woken);
-        activated = same-activated ∙ k .activated ∙ ap (λ (u : S.State). made 1 (w .now .states) (u .states)) handed;
+        activated =
+            ap (λ (n : ℕ). n + byTestIn y m) same-activated ∙ k .activated ∙ ap (λ (u : S.State). made 1 (w .now .states) (u .states)) handed;
         called = λ t i n. k .called t i (ap (λ (u : S.State). S.stateOf u t) handed ∙ n);
       }
 
@@ -215,8 +218,14 @@ module _ (y : Exec) (h : SoundRecord y) (m : Made) (o : MadeOn y m) where
   signal-heard f v q k =
       let same : leaves y m .now ≡ view y = ap (λ (c : R.Call). R.effect (rigIn y) (view y) c .now) q ∙ signal-leaves (rigIn y) (view y) f v in (
         k .woken ∙ ap (λ (u : S.State). made 2 (u .states) (m .step .exec .st .state)) same,
-        k .activated ∙ ap (λ (u : S.State). made 1 (u .states) (m .step .exec .st .state)) same,
+        untested ∙ k .activated ∙ ap (λ (u : S.State). made 1 (u .states) (m .step .exec .st .state)) same,
       )
+    where
+      untested : activatedOf (m .step) ≡ activatedOf (m .step) + byTestIn y m
+      untested =
+          let x = serve (rigIn y) (leaves y m) .now in
+          let e = ap (λ (c : R.Call). byTest (rigIn y) (R.ended (view y) c) x) q ∙ signal-untested (rigIn y) (view y) f v x in
+          omega (arith, e)
 
   refusal-heard : codeOf (m .step) ≢ 0 → (wokenOf (m .step) ≡ 0) × (activatedOf (m .step) ≡ 0)
   refusal-heard n =
@@ -230,6 +239,17 @@ module _ (y : Exec) (h : SoundRecord y) (m : Made) (o : MadeOn y m) where
         signals = λ f v q e. signal-heard f v q (call-hears e);
         refused = refusal-heard;
         few = omega (arith, same-woken, same-activated, heard-few (rigIn y) (ok y h) (view y) (h .state) (m .call) (o .proper));
+      }
+
+  -- ---- L3: the true bound of a finish and of a terminate
+  same-served : (k : R.Call) → m .call ≡ k → servedOf (m .step) ≡ R.step (rigIn y) (view y) k .answer .report .served
+  same-served k e = ap (λ (a : R.Answer). a .report .served) (given .answer) ∙ ap (λ (c : R.Call). R.step (rigIn y) (view y) c .answer .report .served) e
+
+  sound-at-most : AtMost y m
+  sound-at-most =
+      record {
+        finishes = λ e. omega (arith, same-served R.finish e, finish-most (rigIn y) (ok y h) (view y) (h .state));
+        terminates = λ t e. omega (arith, same-served (R.terminate t) e, terminate-most (rigIn y) (ok y h) (view y) (h .state) t);
       }
 
 -- ---- the waking clause of the rules, said of the record to which the calls ks led
@@ -328,9 +348,10 @@ module _ (g : Rig) (table : List (List ℕ)) (x : Exec) (s : AcceptedStart g tab
         }
 
     -- "A condition is tested for activation on schedule and on service of one of its flags.": a call that is made next and
-    -- activates a task does so by its schedule, or by a service of one of its flags, with all its conditions as desired
+    -- activates a task does so by its schedule, or by a service of one of its flags, with all its conditions as desired; or, L3, by the test after a
+    -- finish or a terminate
     pub activated-only : (m : Made) → MadeOn y m → (t : ℕ) → S.active (stateIn y t) ≡ 0 → S.active (stateIn (m .step .exec) t) ≡ 1
-        → BySchedule (rigIn y) (view y) (m .call) t ⊎ ByService (rigIn y) (R.effect (rigIn y) (view y) (m .call)) t
+        → BySchedule (rigIn y) (view y) (m .call) t ⊎ (ByService (rigIn y) (Comes y m) t ⊎ ByTestIn y m t)
     activated-only m o t i n =
         let h = there .sound in
         let g = gives (rigIn y) (view y) y (record { sound = h; rig = refl; state = refl }) m o in
@@ -346,6 +367,16 @@ module _ (g : Rig) (table : List (List ℕ)) (x : Exec) (s : AcceptedStart g tab
           activated = sound-activated y (there .sound);
           bounded = sound-79 y (there .sound);
         }
+
+    -- L3: NOBODY IS LEFT inactive with all conditions as desired
+    pub nobody-left : NobodyLeft y
+    nobody-left =
+        subst (λ (g : G.Rig). NL.NobodyLeft g (view y)) (sym (there .rig))
+        (subst (NL.NobodyLeft (rigIn x)) (sym (there .state)) (NL.nobody-left (rigIn x) rig-right (callsOf ms) (ran-proper x ms y ran)))
+
+    -- L3: the true bound of a finish and of a terminate
+    pub at-most : (m : Made) → MadeOn y m → AtMost y m
+    at-most m o = sound-at-most y (there .sound) m o
 
     -- L2: WHOM DID IT WAKE?
     pub heard : (m : Made) → MadeOn y m → Heard y m

@@ -21,7 +21,7 @@ use Rattle.rules.specs.Serving.{activate, serving, serve}
 use Rattle.rules.specs.Waiting.{waitUntilCount}
 use Rattle.rules.specs.Running.{best, chosen, dispatch}
 use Rattle.rules.specs.Calls as R
-use Rattle.rules.specs.Calls.{Call, cancel, waitUntil, readBlock, scheduled, effect, decide, noSuch, lastCount, wrongBlock, refusals, refusal, output, after, step, started, start}
+use Rattle.rules.specs.Calls.{Call, cancel, waitUntil, readBlock, tested, scheduled, effect, ended, again, settled, decide, noSuch, lastCount, wrongBlock, refusals, refusal, output, after, step, started, start}
 use Rattle.rules.specs.Scripts.{T, B, ofTask, ofCondition, numbers, ofLine, ofCycle, rig}
 
 -- one task and one row of 2 words, just started: task 1 runs, the count is 0
@@ -49,7 +49,7 @@ callCases =
     ∷ []
 
 calls-right : AsTold callCases
-unfolding callCases answers lone rig ofTask ofCondition numbers ofLine ofCycle iter all any total over blank relax met drive names activate serving serve waitUntilCount best chosen dispatch scheduled effect decide noSuch lastCount wrongBlock refusals refusal output after step started start R.accepted R.lent
+unfolding callCases answers lone rig ofTask ofCondition numbers ofLine ofCycle iter all any total over blank relax met drive names activate serving serve waitUntilCount best chosen dispatch tested scheduled effect ended again settled decide noSuch lastCount wrongBlock refusals refusal output after step started start R.accepted R.lent
 calls-right = refl
 
 -- every case that the paper marks

@@ -51,7 +51,7 @@ abbrev told : Bool → G.Rig → List (List ℕ) → List ℕ
 told panel r pieces = lineText startName (startColumns r) ++ talkText panel r (R.start r) pieces
 
 computed : (panel : Bool) → told panel bench (morningScript ++ [] ∷ []) ≡ morningOutput
-unfolding bytes morningScript morningOutput bench morningCalls rig ofTask ofCondition numbers ofLine ofCycle tick₀ iter all any total over put commandWord blank relax met drive names activate takes rouse wake ready offer offers serveFlag made serving serve waitOn waitUntilCount leave wakeDue family cleared deserted offs best chosen dispatch written copied rowWords busWords R.scheduled R.finished R.terminated R.cancelled R.cycleQueue R.ticked R.effect R.decide R.noSuch R.inCycle R.isMinor R.isActivation R.lastCount R.wrongBlock R.refusals R.refusal R.wordsAt R.lent R.output R.accepted R.after R.step R.run R.started R.start saidOf C.fieldsSay C.verbOf C.alone C.withNumber C.withValue split onHead led D.readByte D.readOn D.decBy D.dec fieldsText lineText extra numbersOf textOf talkText lastText U.turnText U.turnNext U.askedText U.askedNext askedBy
+unfolding bytes morningScript morningOutput bench morningCalls rig ofTask ofCondition numbers ofLine ofCycle tick₀ iter all any total over put commandWord blank relax met drive names activate takes rouse wake ready offer offers serveFlag made serving serve waitOn waitUntilCount leave wakeDue family cleared deserted offs best chosen dispatch written copied rowWords busWords R.tested R.scheduled R.finished R.terminated R.cancelled R.cycleQueue R.ticked R.effect R.ended R.again R.settled R.decide R.noSuch R.inCycle R.isMinor R.isActivation R.lastCount R.wrongBlock R.refusals R.refusal R.wordsAt R.lent R.output R.accepted R.after R.step R.run R.started R.start saidOf C.fieldsSay C.verbOf C.alone C.withNumber C.withValue split onHead led D.readByte D.readOn D.decBy D.dec fieldsText lineText extra numbersOf textOf talkText lastText U.turnText U.turnNext U.askedText U.askedNext askedBy
 computed panel = refl
 
 accepted-text : (panel : Bool) (script : List ℕ) → wholeText panel (fileAccepted morningRig (codeCycles bench)) script ≡ told panel (rigOf morningRig (codeCycles bench)) (split lf script)
@@ -72,9 +72,9 @@ unfoldable pub panelScript : List (List ℕ)
 panelScript = map bytes ("V" ∷ "U\t2" ∷ "V" ∷ "V\t1" ∷ "" ∷ [])
 
 pub panel-prints : told true bench panelScript ≡ bytes ("START\t0\t0\t1\t0\t0\n" ⧺ "V\t0\t0\t1\t0\t0\n" ⧺ "U\t0\t0\t0\t0\t0\n" ⧺ "V\t0\t0\t0\t0\t0\t2\n" ⧺ "?\n")
-unfolding panelScript bytes lowestWaking morningScript morningOutput bench morningCalls rig ofTask ofCondition numbers ofLine ofCycle tick₀ iter all any total over put commandWord blank relax met drive names activate takes rouse wake ready offer offers serveFlag made serving serve waitOn waitUntilCount leave wakeDue family cleared deserted offs best chosen dispatch written copied rowWords busWords R.scheduled R.finished R.terminated R.cancelled R.cycleQueue R.ticked R.effect R.decide R.noSuch R.inCycle R.isMinor R.isActivation R.lastCount R.wrongBlock R.refusals R.refusal R.wordsAt R.lent R.output R.accepted R.after R.step R.run R.started R.start saidOf C.fieldsSay C.verbOf C.alone C.withNumber C.withValue split onHead led D.readByte D.readOn D.decBy D.dec fieldsText lineText extra numbersOf textOf talkText lastText U.turnText U.turnNext U.askedText U.askedNext askedBy
+unfolding panelScript bytes lowestWaking morningScript morningOutput bench morningCalls rig ofTask ofCondition numbers ofLine ofCycle tick₀ iter all any total over put commandWord blank relax met drive names activate takes rouse wake ready offer offers serveFlag made serving serve waitOn waitUntilCount leave wakeDue family cleared deserted offs best chosen dispatch written copied rowWords busWords R.tested R.scheduled R.finished R.terminated R.cancelled R.cycleQueue R.ticked R.effect R.ended R.again R.settled R.decide R.noSuch R.inCycle R.isMinor R.isActivation R.lastCount R.wrongBlock R.refusals R.refusal R.wordsAt R.lent R.output R.accepted R.after R.step R.run R.started R.start saidOf C.fieldsSay C.verbOf C.alone C.withNumber C.withValue split onHead led D.readByte D.readOn D.decBy D.dec fieldsText lineText extra numbersOf textOf talkText lastText U.turnText U.turnNext U.askedText U.askedNext askedBy
 panel-prints = refl
 
 pub runner-prints : told false bench panelScript ≡ bytes ("START\t0\t0\t1\t0\t0\n" ⧺ "?\n" ⧺ "U\t0\t0\t0\t0\t0\n" ⧺ "?\n" ⧺ "?\n")
-unfolding panelScript bytes lowestWaking morningScript morningOutput bench morningCalls rig ofTask ofCondition numbers ofLine ofCycle tick₀ iter all any total over put commandWord blank relax met drive names activate takes rouse wake ready offer offers serveFlag made serving serve waitOn waitUntilCount leave wakeDue family cleared deserted offs best chosen dispatch written copied rowWords busWords R.scheduled R.finished R.terminated R.cancelled R.cycleQueue R.ticked R.effect R.decide R.noSuch R.inCycle R.isMinor R.isActivation R.lastCount R.wrongBlock R.refusals R.refusal R.wordsAt R.lent R.output R.accepted R.after R.step R.run R.started R.start saidOf C.fieldsSay C.verbOf C.alone C.withNumber C.withValue split onHead led D.readByte D.readOn D.decBy D.dec fieldsText lineText extra numbersOf textOf talkText lastText U.turnText U.turnNext U.askedText U.askedNext askedBy
+unfolding panelScript bytes lowestWaking morningScript morningOutput bench morningCalls rig ofTask ofCondition numbers ofLine ofCycle tick₀ iter all any total over put commandWord blank relax met drive names activate takes rouse wake ready offer offers serveFlag made serving serve waitOn waitUntilCount leave wakeDue family cleared deserted offs best chosen dispatch written copied rowWords busWords R.tested R.scheduled R.finished R.terminated R.cancelled R.cycleQueue R.ticked R.effect R.ended R.again R.settled R.decide R.noSuch R.inCycle R.isMinor R.isActivation R.lastCount R.wrongBlock R.refusals R.refusal R.wordsAt R.lent R.output R.accepted R.after R.step R.run R.started R.start saidOf C.fieldsSay C.verbOf C.alone C.withNumber C.withValue split onHead led D.readByte D.readOn D.decBy D.dec fieldsText lineText extra numbersOf textOf talkText lastText U.turnText U.turnNext U.askedText U.askedNext askedBy
 runner-prints = refl

@@ -80,8 +80,8 @@ module _ {g : Rig} {cycles : List Cycle} {s : State} {k : ℕ} {area words : Lis
     pub block-tells : (write : Bool) (o : Outcome) → o ≡ keptWith s 0 → (after : List ℕ)
         → after ≡ R.output (rigOf g cycles) (viewOf s) (blockCall write k area words) .lent
         → Tells g cycles s (blockCall write k area words) o after
-    unfolding R.effect R.output
+    unfolding R.effect R.ended R.output
     block-tells true o q after f =
-        kept-tells g cycles s (R.writeBlock k area words) sound refl tt (quiet ∙ table true) 0 o q after (λ i. record { words = 0; value = 0; lent = sym f i })
+        kept-tells g cycles s (R.writeBlock k area words) sound refl refl tt (quiet ∙ table true) 0 o q after (λ i. record { words = 0; value = 0; lent = sym f i })
     block-tells false o q after f =
-        kept-tells g cycles s (R.readBlock k area words) sound refl tt (quiet ∙ table false) 0 o q after (λ i. record { words = 0; value = 0; lent = sym f i })
+        kept-tells g cycles s (R.readBlock k area words) sound refl refl tt (quiet ∙ table false) 0 o q after (λ i. record { words = 0; value = 0; lent = sym f i })

@@ -82,11 +82,11 @@ module _ (g : Rig) (cycles : List Cycle) (s : State) (h : SoundParts g cycles s)
     ticked-work = m .is g
 
     -- the bus words of the count that the tick made, their number told beside what the serving came to
-    pub tick-tells : 0 ≡ R.refusal (rigOf g cycles) (viewOf s) (R.tick buffer) → (o : Outcome) → Settled g w o → (n : ℕ) (after : List ℕ)
+    pub tick-tells : 0 ≡ R.refusal (rigOf g cycles) (viewOf s) (R.tick buffer) → (o : Outcome) → Settled g w 0 o → (n : ℕ) (after : List ℕ)
         → n ≡ length (busWords (g .rows) (g .master) (rowsOf (g .row)) (o .st .count))
         → after ≡ put buffer 0 (busWords (g .rows) (g .master) (rowsOf (g .row)) (o .st .count))
         → Tells g cycles s (R.tick buffer) (record { st = o .st; refusal = o .refusal; served = o .served; woken = o .woken; activated = o .activated; words = n; value = o .value }) after
-    unfolding R.accepted R.output R.wordsAt
+    unfolding R.ended R.accepted R.output R.wordsAt
     tick-tells e o k n after f b =
         let q = next-is g cycles s h (R.tick buffer) tt e w ticked-work o k in
         let c : o .st .count ≡ R.accepted (rigOf g cycles) (viewOf s) (R.tick buffer) .next .count = ap (λ (v : S.State). v .count) q in

@@ -1,4 +1,4 @@
-use mathlib.Core.Path.{_≡_, _∙_}
+use mathlib.Core.Path.{_≡_, refl, _∙_}
 use mathlib.Core.List.{[]}
 use borrow.Author.Needs.{needs}
 use Rattle.rules.specs.Calls as R
@@ -49,8 +49,9 @@ kept-requires : tie.Need-kept-requires
 kept-requires c κs = search needs
 
 returns-2 : tie.Need-returns-2
+unfolding R.ended
 returns-2 c =
-    kept-tells (c .before .before .before .before .before .before .before .before .args .rig) (c .before .before .before .before .before .before .before .before .args .cycles) (c .before .before .before .before .before .before .before .before .args .t3) (R.readFlag (c .before .before .before .before .before .before .before .before .args .flag)) (sound (c .before .before .before .before .before)) (read-quiet (rigOf (c .before .before .before .before .before .before .before .before .args .rig) (c .before .before .before .before .before .before .before .before .args .cycles)) (viewOf (c .before .before .before .before .before .before .before .before .args .t3)) (c .before .before .before .before .before .before .before .before .args .flag)) tt (none (c .before .before .before .before .before)) (c .before .look .result) (c .kept .result) (c .kept .ensures) []
+    kept-tells (c .before .before .before .before .before .before .before .before .args .rig) (c .before .before .before .before .before .before .before .before .args .cycles) (c .before .before .before .before .before .before .before .before .args .t3) (R.readFlag (c .before .before .before .before .before .before .before .before .args .flag)) (sound (c .before .before .before .before .before)) (read-quiet (rigOf (c .before .before .before .before .before .before .before .before .args .rig) (c .before .before .before .before .before .before .before .before .args .cycles)) (viewOf (c .before .before .before .before .before .before .before .before .args .t3)) (c .before .before .before .before .before .before .before .before .args .flag)) refl tt (none (c .before .before .before .before .before)) (c .before .look .result) (c .kept .result) (c .kept .ensures) []
     (read-output (rigOf (c .before .before .before .before .before .before .before .before .args .rig) (c .before .before .before .before .before .before .before .before .args .cycles)) (viewOf (c .before .before .before .before .before .before .before .before .args .t3)) (c .before .before .before .before .before .before .before .before .args .flag) (c .before .look .result) (c .before .look .ensures))
 
 pub read-flag-spec : {M : Type 1} → statement M

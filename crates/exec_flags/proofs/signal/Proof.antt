@@ -64,6 +64,7 @@ settle-requires : tie.Need-settle-requires
 settle-requires c κs = settles (c .before .before .before .before .before .before .before .before .args .t1) (c .before .before .before .before .before .before .before .before .args .cycles) (c .before .before .before .before .before .before .before .before .args .st) (sound (c .before .before .before)) (R.signal (c .before .before .before .before .before .before .before .before .args .flag) (bit (c .before .before .before .before .before .before .before .before .args .value))) (bit-le (c .before .before .before .before .before .before .before .before .args .value)) (none (c .before .before .before)) (record { st = (c .before .before .before .before .before .before .before .before .args .st); queue = c .push .result }) (work c) (sound (c .before .before .before) .links)
 
 returns-2 : tie.Need-returns-2
+unfolding R.ended
 returns-2 c = settled-tells (c .before .before .before .before .before .before .before .before .before .args .t1) (c .before .before .before .before .before .before .before .before .before .args .cycles) (c .before .before .before .before .before .before .before .before .before .args .st) (sound (c .before .before .before .before)) (R.signal (c .before .before .before .before .before .before .before .before .before .args .flag) (bit (c .before .before .before .before .before .before .before .before .before .args .value))) (bit-le (c .before .before .before .before .before .before .before .before .before .args .value)) (none (c .before .before .before .before)) (record { st = (c .before .before .before .before .before .before .before .before .before .args .st); queue = c .before .push .result }) (work (c .before)) (c .settle .result) (c .settle .ensures) tt
 
 pub signal-spec : {M : Type 1} → statement M

@@ -13,7 +13,7 @@ dispatched-requires : tie.Need-dispatched-requires
 dispatched-requires c κs =
     let b = c .before .before .before .before .before .before .before .before .before .before .before .before .before .before in
     let d = c .before .before .before in
-    settled-low (b .args .t1) (b .args .w) (b .pre) (d .serve .result) (d .serve .ensures (b .args .t1))
+    settled-low (b .args .t1) (b .args .w) (d .serve .result) (d .serve .ensures (b .args .t1)) (b .pre)
 
 returns : tie.Need-returns
 returns c =

@@ -97,15 +97,19 @@ module _ (g : Rig) (cycles : List Cycle) (s : State) (sound : Bool) (is : (sound
       go false h m =
           record { is = inr ((λ p. false≢true (h .1 p)), q ∙ ap (refusedBy s) (m ∙ decide-here notSound true rows refl), f) }
 
--- ---- calls that leave the state as it is
+-- ---- calls that leave the state as it is: they queue nothing, and nobody is tested after them
 
-module _ (g : Rig) (cycles : List Cycle) (s : State) (k : R.Call) (h : SoundParts g cycles s) (q : R.effect (rigOf g cycles) (viewOf s) k ≡ R.quiet (viewOf s)) where
-  quiet-served : serve (rigOf g cycles) (R.effect (rigOf g cycles) (viewOf s) k) ≡ unserved (viewOf s)
-  quiet-served = ap (serve (rigOf g cycles)) q ∙ serve-nil (rigOf g cycles) (viewOf s)
+module _ (g : Rig) (cycles : List Cycle) (s : State) (k : R.Call) (h : SoundParts g cycles s) (q : R.effect (rigOf g cycles) (viewOf s) k ≡ R.quiet (viewOf s))
+    (n : R.ended (viewOf s) k ≡ 0) where
+  quiet-settled : R.settled (rigOf g cycles) (viewOf s) k ≡ unserved (viewOf s)
+  unfolding R.settled R.again
+  quiet-settled =
+      ap (λ (t : ℕ). R.again (rigOf g cycles) t (serve (rigOf g cycles) (R.effect (rigOf g cycles) (viewOf s) k))) n
+      ∙ ap (serve (rigOf g cycles)) q ∙ serve-nil (rigOf g cycles) (viewOf s)
 
   stays : viewOf s ≡ R.accepted (rigOf g cycles) (viewOf s) k .next
   unfolding R.accepted
-  stays = sym (ap (λ (d : S.Done). dispatch (rigOf g cycles) (d .now)) quiet-served ∙ dispatch-same (rigOf g cycles) (viewOf s) (h .state))
+  stays = sym (ap (λ (d : S.Done). dispatch (rigOf g cycles) (d .now)) quiet-settled ∙ dispatch-same (rigOf g cycles) (viewOf s) (h .state))
 
   -- the state as it was, and what the call puts out
   pub kept-tells : P.Proper k → 0 ≡ R.refusal (rigOf g cycles) (viewOf s) k → (v : ℕ) (o : Outcome) → o ≡ keptWith s v → (after : List ℕ)
@@ -117,7 +121,7 @@ module _ (g : Rig) (cycles : List Cycle) (s : State) (k : R.Call) (h : SoundPart
       ap (λ (w : S.State). R.output (rigOf g cycles) w k) (sym stays) ∙ e in
       rw f
       (accepted-tells g cycles s k h p z (keptWith s v) after refl stays
-      (λ i. R.reported (sym quiet-served i) (sym u i .words) (sym u i .value))
+      (λ i. R.reported (sym quiet-settled i) (sym u i .words) (sym u i .value))
       (λ i. sym u i .lent) (h .links) (h .sized))
 
 -- ---- calls that answer only what the serving came to, and lend nothing

@@ -3,10 +3,9 @@
 use mathlib.Core.Path.{_≡_, refl, sym, _∙_, ap, subst}
 use mathlib.Core.Bool.{Bool, true, false, cond}
 use mathlib.Core.List.{List, [], _∷_}
-use Prim.Native.Nat.{ℕ, _+_, _≤_}
+use Prim.Native.Nat.{ℕ, zero, suc, _+_, _*_, _≤_}
 use native.Mathlib.Omega.{arith}
 use lib.Dec.{eqb, leb}
-use lib.ListN.{set}
 use Rattle.chains.specs.Held.{Sized}
 use Rattle.chains.specs.Held as L
 use Rattle.rig.specs.Rules.{Right}
@@ -14,23 +13,26 @@ use Rattle.rig.specs.declared.Cycle.{Cycle}
 use Rattle.rig.specs.declared.Rig.{Rig}
 use Rattle.rules.specs.Rig as G
 use Rattle.rules.specs.State as S
-use Rattle.rules.specs.Conditions.{relax, met}
-use Rattle.rules.specs.Serving.{activate, serve}
+use Rattle.rules.specs.Serving.{inactives, activate, serve}
 use Rattle.rules.specs.Waiting.{waitOn, waitUntilCount, wakeDue}
 use Rattle.rules.specs.Running.{dispatch}
 use Rattle.rules.specs.Calls as R
 use Rattle.rules.specs.Proper as P
 use Rattle.rules_laws.specs.Queued.{Fine}
-use Rattle.rules_laws.specs.Serve.{load}
-use Rattle.rules_laws.specs.Good.{serve-running}
+use Rattle.rules_laws.specs.Serve.{load, served-left}
+use Rattle.rules_laws.specs.Testing.{tested-cases, tested-keeps, tested-load, again-le}
+use Rattle.rules_laws.specs.WaitingLaws.{chains-set}
+use Rattle.rules_laws.specs.Good.{settle-running}
 use Rattle.rules_laws.specs.Bound.{effect-load}
 use Rattle.rules_laws.specs.Steps.{effect-ready}
 use Rattle.rules_laws.specs.Heard.{ChainsIn}
 use Rattle.exec_state.specs.View.{rigOf, viewOf, workOf}
-use Rattle.exec_state.specs.Post.{Dispatched}
+use Rattle.exec_state.specs.Post.{Dispatched, Tested}
 use Rattle.exec_state.specs.declared.State.{State}
 use Rattle.exec_state.specs.declared.Work.{Work}
 use Rattle.exec_serving.specs.Post.{Fits, Servable, Begins, Emptied}
+use Rattle.exec_serving.specs.Laws.Serving.{servable-push}
+use Rattle.exec_serving.specs.View.{doneOf}
 use Rattle.exec_serving.specs.declared.Done.{Done}
 use Rattle.exec_sound.specs.Sound.{SoundParts}
 use Rattle.exec_sound.specs.Laws.RightRig.{rig-ok}
@@ -44,29 +46,143 @@ pub record Settles (g : Rig) (w : Work) : Type 0 where
   pub begins : Begins (g .lines) (g .lineTask) (g .linePos) (g .activation) (w .st) (w .queue)
   pub low : w .st .running ≤ 64
 
--- what is given, with whatever cycles stand beside the rig: an accepted call that told nothing but what the serving came to
-pub record Settled (g : Rig) (w : Work) (o : Outcome) : Type 0 where
-  pub now : (cycles : List Cycle) → viewOf (o .st) ≡ dispatch (rigOf g cycles) (serve (rigOf g cycles) (workOf (w .st) (w .queue)) .now)
-  pub told : (cycles : List Cycle) → tellingOf o ≡ R.reported (serve (rigOf g cycles) (workOf (w .st) (w .queue))) 0 0
+-- and where task t is tested again
+pub record SettlesAgain (g : Rig) (w : Work) (t : ℕ) : Type 0 where
+  pub first : Settles g w
+  pub some : 1 ≤ t
+  pub there : t ≤ 64
+
+-- what is given, with whatever cycles stand beside the rig: an accepted call that told nothing but what the serving came to, and
+-- the test of task t after it; 0 for none
+pub record Settled (g : Rig) (w : Work) (t : ℕ) (o : Outcome) : Type 0 where
+  pub now : (cycles : List Cycle) → viewOf (o .st) ≡ dispatch (rigOf g cycles) (R.again (rigOf g cycles) t (serve (rigOf g cycles) (workOf (w .st) (w .queue))) .now)
+  pub told : (cycles : List Cycle) → tellingOf o ≡ R.reported (R.again (rigOf g cycles) t (serve (rigOf g cycles) (workOf (w .st) (w .queue)))) 0 0
+  pub small : (o .woken ≤ 64 * o .served) × (o .activated ≤ 64 * o .served)
   pub accepted : o .refusal ≡ 0
   pub sound : L.HoldsChains (o .st .links)
   pub sized : Sized (o .st .links)
 
--- who runs is not touched by the serving
-pub settled-low : (g : Rig) (w : Work) → Settles g w → (d : Done) → Emptied g (w .st) (w .queue) d → d .st .running ≤ 64
-settled-low g w h d e =
-    omega (arith, ap (λ (y : S.Done). y .now .running) (e .is []), serve-running (rigOf g []) (workOf (w .st) (w .queue)), h .low)
+-- what a serving came to, and what is told of the one after it: no sum of such numbers goes out of range
+pub record Small (d : Done) (o : Outcome) : Type 0 where
+  pub served : d .served + o .served ≤ 79
+  pub woken : d .woken + o .woken ≤ 5056
+  pub activated : d .activated + o .activated ≤ 5056
+  pub words : o .words ≡ 0
 
-pub settled-is : (g : Rig) (w : Work) (d : Done) → Emptied g (w .st) (w .queue) d → (s : State) → Dispatched (d .st) g s
-    → Settled g w (record { st = s; refusal = 0; served = d .served; woken = d .woken; activated = d .activated; words = 0; value = 0 })
-settled-is g w d e s f =
-    record {
-      now = λ cycles. f .is cycles ∙ ap (λ (y : S.Done). dispatch (rigOf g cycles) (y .now)) (e .is cycles);
-      told = λ cycles. ap (λ (y : S.Done). R.reported y 0 0) (e .is cycles);
-      accepted = refl;
-      sound = subst L.HoldsChains (sym (f .links)) (e .sound);
-      sized = f .sized;
-    }
+-- a task with a number is tested
+some-load : (r : G.Rig) (t : ℕ) → 1 ≤ t → (s : S.State) → load (R.tested r t s) ≤ inactives (s .states)
+some-load r zero b s = let z : ⊥ = omega arith in absurd z
+some-load r (suc k) b s = tested-load r k s
+
+some-again : (r : G.Rig) (t : ℕ) → 1 ≤ t → (d : S.Done) → R.further d (serve r (R.tested r t (d .now))) ≡ R.again r t d
+unfolding R.again
+some-again r zero b d = let z : ⊥ = omega arith in absurd z
+some-again r (suc k) b d = refl
+
+module _ (g : Rig) (w : Work) (d : Done) (e : Emptied g (w .st) (w .queue) d) where
+  -- who runs is not touched by the serving
+  pub settled-low : Settles g w → d .st .running ≤ 64
+  unfolding R.again
+  settled-low h =
+      omega (arith, ap (λ (y : S.Done). y .now .running) (e .is []), settle-running (rigOf g []) (workOf (w .st) (w .queue)) 0, h .low)
+
+  pub settled-is : (s : State) → Dispatched (d .st) g s
+      → Settled g w 0 (record { st = s; refusal = 0; served = d .served; woken = d .woken; activated = d .activated; words = 0; value = 0 })
+  unfolding R.again
+  settled-is s f =
+      record {
+        now = λ cycles. f .is cycles ∙ ap (λ (y : S.Done). dispatch (rigOf g cycles) (y .now)) (e .is cycles);
+        told = λ cycles. ap (λ (y : S.Done). R.reported y 0 0) (e .is cycles);
+        small = e .small;
+        accepted = refl;
+        sound = subst L.HoldsChains (sym (f .links)) (e .sound);
+        sized = f .sized;
+      }
+
+  -- ---- and task t is tested again
+
+  module _ (t : ℕ) (h : SettlesAgain g w t) (x : Work) (m : Tested (d .st) g t x) where
+    pub again-settles : Settles g x
+    unfolding activate
+    again-settles =
+        let r = rigOf g [] in
+        let s = viewOf (d .st) in
+        let q = sym (m .is []) in
+        record {
+          begins =
+              record {
+                fits = h .first .begins .fits;
+                room =
+                    subst (λ (y : S.Work). load y ≤ 79) q
+                    (omega (
+                      arith,
+                      some-load r t (h .some) s,
+                      ap (λ (y : S.Done). inactives (y .now .states)) (e .is []),
+                      served-left r (workOf (w .st) (w .queue)),
+                      h .first .begins .room,
+                    ));
+                sound = subst L.HoldsChains (sym (m .links)) (e .sound);
+                chains =
+                    subst (λ (y : S.Work). ChainsIn (y .now)) q
+                    (tested-keeps r ChainsIn
+                    (λ u y i c. chains-set (y .now .count) (y .now .wakes) (y .now .chains) (y .now .states) u 3 (λ z. omega (arith, i, z)) (λ z. omega arith) c)
+                    t s (e .chains));
+                entries =
+                    subst (λ (y : S.Work). Servable (y .queue)) q
+                    (tested-cases r t s (λ y. Servable (y .queue))
+                    (λ i c. servable-push (r .activation t) 1 [] (h .first .begins .fits .flags t) (omega arith) tt) (λ n. tt));
+              };
+          low = subst (λ (y : S.Work). y .now .running ≤ 64) q (tested-keeps r (λ y. y .running ≤ 64) (λ u y i c. c) t s (settled-low (h .first)));
+        }
+
+    module _ (o : Outcome) (f : Settled g x 0 o) where
+      -- what is told is what both servings came to
+      further-is : (cycles : List Cycle)
+          → R.reported (R.further (doneOf d) (record { now = viewOf (o .st); served = o .served; woken = o .woken; activated = o .activated })) 0 0
+          ≡ R.reported (R.again (rigOf g cycles) t (serve (rigOf g cycles) (workOf (w .st) (w .queue)))) 0 0
+      unfolding R.again
+      further-is cycles =
+          let r = rigOf g cycles in
+          let a = f .told cycles in
+          (λ i. record {
+            served = d .served + a i .served;
+            woken = d .woken + a i .woken;
+            activated = d .activated + a i .activated;
+            words = 0;
+            value = 0;
+          })
+          ∙ ap (λ (y : S.Work). R.reported (R.further (doneOf d) (serve r y)) 0 0) (m .is cycles)
+          ∙ ap (λ (y : S.Done). R.reported y 0 0) (some-again r t (h .some) (doneOf d) ∙ ap (R.again r t) (e .is cycles))
+
+      -- "the number of flags it served, which is at most 79"
+      pub again-small : Small d o
+      unfolding R.again
+      again-small =
+          let n : d .served + o .served ≤ 79 =
+          omega (arith, ap (λ (y : R.Report). y .served) (further-is []), again-le (rigOf g []) t (workOf (w .st) (w .queue)), h .first .begins .room) in
+          record {
+            served = n;
+            woken = omega (arith, n, e .small .0, f .small .0);
+            activated = omega (arith, n, e .small .1, f .small .1);
+            words = ap (λ (y : R.Report). y .words) (f .told []);
+          }
+
+      pub again-is : Settled g w t
+          (record { st = o .st; refusal = 0; served = d .served + o .served; woken = d .woken + o .woken; activated = d .activated + o .activated; words = 0; value = 0 })
+      unfolding R.again
+      again-is =
+          record {
+            now = λ cycles.
+                let r = rigOf g cycles in
+                f .now cycles
+                ∙ ap (λ (y : S.Work). dispatch r (serve r y .now)) (m .is cycles)
+                ∙ ap (λ (y : S.Done). dispatch r (y .now)) (some-again r t (h .some) (doneOf d) ∙ ap (R.again r t) (e .is cycles));
+            told = further-is;
+            small = (omega (arith, e .small .0, f .small .0), omega (arith, e .small .1, f .small .1));
+            accepted = refl;
+            sound = f .sound;
+            sized = f .sized;
+          }
 
 -- ---- what is asked holds of every accepted call
 
@@ -94,17 +210,7 @@ either false s t h k = k
 -- no call makes a task the running one: that is for the dispatch
 pub effect-low : (r : G.Rig) (s : S.State) → s .running ≤ 64 → (k : R.Call) → R.effect r s k .now .running ≤ 64
 unfolding R.effect R.scheduled R.finished R.terminated R.cancelled R.ticked wakeDue waitOn waitUntilCount activate
-effect-low r s h (R.schedule t) = go (met (r .present) (r .desired) t conds)
-  where
-    conds : List ℕ
-    conds = relax (r .present) (r .latched) (r .desired) t (s .conds)
-
-    w : S.Work
-    w = R.quiet (S.withTables s conds (set (s .states) t 1))
-
-    go : (b : Bool) → (cond b (activate r t w) w) .now .running ≤ 64
-    go true = h
-    go false = h
+effect-low r s h (R.schedule t) = tested-keeps r (λ y. y .running ≤ 64) (λ u y i c. c) t _ h
 effect-low r s h (R.cancel t) = h
 effect-low r s h (R.terminate t) = h
 effect-low r s h R.finish = omega arith
@@ -139,13 +245,17 @@ module _ (g : Rig) (cycles : List Cycle) (s : State) (h : SoundParts g cycles s)
       }
 
   -- ---- what is given is what the call owes
-  module _ (o : Outcome) (m : Settled g w o) where
+  module _ (o : Outcome) (m : Settled g w (R.ended (viewOf s) k) o) where
+    whole : R.again (rigOf g cycles) (R.ended (viewOf s) k) (serve (rigOf g cycles) (workOf (w .st) (w .queue))) ≡ R.settled (rigOf g cycles) (viewOf s) k
+    unfolding R.settled
+    whole = ap (λ (y : S.Work). R.again (rigOf g cycles) (R.ended (viewOf s) k) (serve (rigOf g cycles) y)) q
+
     pub next-is : viewOf (o .st) ≡ R.accepted (rigOf g cycles) (viewOf s) k .next
     unfolding R.accepted
-    next-is = m .now cycles ∙ ap (λ (y : S.Work). dispatch (rigOf g cycles) (serve (rigOf g cycles) y .now)) q
+    next-is = m .now cycles ∙ ap (λ (y : S.Done). dispatch (rigOf g cycles) (y .now)) whole
 
-    pub told-is : tellingOf o ≡ R.reported (serve (rigOf g cycles) (R.effect (rigOf g cycles) (viewOf s) k)) 0 0
-    told-is = m .told cycles ∙ ap (λ (y : S.Work). R.reported (serve (rigOf g cycles) y) 0 0) q
+    pub told-is : tellingOf o ≡ R.reported (R.settled (rigOf g cycles) (viewOf s) k) 0 0
+    told-is = m .told cycles ∙ ap (λ (y : S.Done). R.reported y 0 0) whole
 
     -- a call that answers only what the serving came to, and writes nothing
     pub settled-tells : Silent k → Tells g cycles s k o []
@@ -153,5 +263,5 @@ module _ (g : Rig) (cycles : List Cycle) (s : State) (h : SoundParts g cycles s)
     settled-tells z =
         let n = silent-output (rigOf g cycles) (R.accepted (rigOf g cycles) (viewOf s) k .next) k z in
         accepted-tells g cycles s k h p e o [] (m .accepted) next-is
-        (told-is ∙ ap (λ (y : R.Output). R.reported (serve (rigOf g cycles) (R.effect (rigOf g cycles) (viewOf s) k)) (y .words) (y .value)) (sym n))
+        (told-is ∙ ap (λ (y : R.Output). R.reported (R.settled (rigOf g cycles) (viewOf s) k) (y .words) (y .value)) (sym n))
         (λ i. sym n i .lent) (m .sound) (m .sized)

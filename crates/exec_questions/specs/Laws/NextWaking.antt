@@ -43,9 +43,9 @@ module _ (g : Rig) (cycles : List Cycle) (s : State) where
 
     -- the record is what it was, and v is told
     told : (v : ℕ) → v ≡ lowestWaking (viewOf s) → (o : Outcome) → o ≡ keptWith s v → Tells g cycles s R.nextWaking o []
-    unfolding R.effect R.refusal R.refusals R.decide R.output r
+    unfolding R.effect R.ended R.refusal R.refusals R.decide R.output r
     told v e o q =
-        kept-tells g cycles s R.nextWaking h refl tt refl v o q []
+        kept-tells g cycles s R.nextWaking h refl refl tt refl v o q []
         (λ i. record { words = 0; value = sym e i; lent = [] })
 
     front : Leaving 65 (s .links) (at (s .links .next) 65) (chainsOf (s .links))

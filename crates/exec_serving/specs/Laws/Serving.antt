@@ -157,7 +157,9 @@ module _ (g : Rig) (s₀ : State) (q₀ : Queue) where
               ∙ ap (more k m n) (serve-nil (rigOf g cycles) (viewOf s))
               ∙ (λ i. record { now = viewOf s; served = zero-right k i; woken = zero-right m i; activated = zero-right n i }));
           sound = h .sound;
+          chains = h .chains;
           few = omega (arith, h .room);
+          small = h .few;
         }
       where
         zero-right : (n : ℕ) → n + 0 ≡ n

@@ -99,4 +99,5 @@ module _ (g : Rig) (cycles : List Cycle) (h : Right g cycles) where
             let k = h .condition-numbers i (omega (arith, has-place (g .present) i n, h .shaped .present)) n in
             (k .0, omega (arith, k .1));
         line-present = h .line-has-condition;
+        line-position = λ k l. omega (arith, h .lines k l .position);
       }

@@ -49,6 +49,7 @@ settle-requires : tie.Need-settle-requires
 settle-requires c κs = settles (c .before .before .before .before .before .before .before .before .before .before .args .t1) (c .before .before .before .before .before .before .before .before .before .before .args .cycles) (c .before .before .before .before .before .before .before .before .before .before .args .t3) (sound (c .before)) (R.cancel (c .before .before .before .before .before .before .before .before .before .before .args .task)) tt (none (c .before)) (c .cancelled .result) (cancelled-work (c .before .before .before .before .before .before .before .before .before .before .args .t1) (c .before .before .before .before .before .before .before .before .before .before .args .cycles) (c .before .before .before .before .before .before .before .before .before .before .args .t3) (sound (c .before)) (c .cancelled .result) (c .before .before .before .before .before .before .before .before .before .before .args .task) (c .cancelled .ensures)) ((c .cancelled .ensures) .sound)
 
 returns-2 : tie.Need-returns-2
+unfolding R.ended
 returns-2 c = settled-tells (c .before .before .before .before .before .before .before .before .before .before .before .args .t1) (c .before .before .before .before .before .before .before .before .before .before .before .args .cycles) (c .before .before .before .before .before .before .before .before .before .before .before .args .t3) (sound (c .before .before)) (R.cancel (c .before .before .before .before .before .before .before .before .before .before .before .args .task)) tt (none (c .before .before)) (c .before .cancelled .result) (cancelled-work (c .before .before .before .before .before .before .before .before .before .before .before .args .t1) (c .before .before .before .before .before .before .before .before .before .before .before .args .cycles) (c .before .before .before .before .before .before .before .before .before .before .before .args .t3) (sound (c .before .before)) (c .before .cancelled .result) (c .before .before .before .before .before .before .before .before .before .before .before .args .task) (c .before .cancelled .ensures)) (c .settle .result) (c .settle .ensures) tt
 
 pub cancel-spec : {M : Type 1} → statement M

@@ -1,15 +1,16 @@
 use mathlib.Core.Path.{_≡_, _∙_}
 use mathlib.Core.List.{[]}
+use Prim.Native.Nat.{_<_, _≤_}
+use native.Mathlib.Omega.{arith}
 use borrow.Author.Needs.{needs}
 use Rattle.rules.specs.Calls as R
 use Rattle.exec_state.specs.View.{rigOf, viewOf}
 use Rattle.exec_sound.specs.Sound.{SoundParts}
-use Rattle.exec_sound.specs.Laws.Check.{running-low}
 use Rattle.exec_refusals.specs.Rows.{runRows}
 use Rattle.exec_outcome.specs.Laws.Meeting.{judged-sound, judged-none, judged-tells, silent-lent}
 use Rattle.exec_outcome.specs.Laws.Tables.{finish-table}
 use Rattle.exec_outcome.specs.Laws.Settling.{settles, settled-tells}
-use Rattle.exec_tasks.specs.Laws.Tasks.{finished-work, finished-links}
+use Rattle.exec_tasks.specs.Laws.Tasks.{runner-there, finished-work, finished-links}
 use Rattle.exec_tasks.proofs.finish.Statement.{statement}
 use Rattle.exec_tasks.proofs.finish.Tie as tie
 
@@ -24,11 +25,18 @@ sound c = judged-sound (c .before .before .before .args .rig) (c .before .before
 none : (c : tie.Else1) → 0 ≡ R.refusal (rigOf (c .before .before .before .args .rig) (c .before .before .before .args .cycles)) (viewOf (c .before .before .before .args .st)) (R.finish)
 none c = judged-none (c .before .before .before .args .rig) (c .before .before .before .args .cycles) (c .before .before .before .args .st) (c .before .before .sound .result) (c .before .before .sound .ensures) _ (c .before .of-run .result) (c .before .of-run .ensures) (c .if1 .left) ∙ table (c .before)
 
+-- somebody runs
+there : (c : tie.Else1) → (0 < c .before .before .before .args .st .running) × (c .before .before .before .args .st .running ≤ 64)
+there c = runner-there (c .before .before .before .args .rig) (c .before .before .before .args .cycles) (c .before .before .before .args .st) (sound c) (judged-none (c .before .before .before .args .rig) (c .before .before .before .args .cycles) (c .before .before .before .args .st) (c .before .before .sound .result) (c .before .before .sound .ensures) _ (c .before .of-run .result) (c .before .of-run .ensures) (c .if1 .left))
+
 sound-requires : tie.Need-sound-requires
 sound-requires c κs = search needs
 
 of-run-requires : tie.Need-of-run-requires
 of-run-requires c κs = search needs
+
+cast-t : tie.Need-cast-t
+cast-t c = search needs
 
 refused-requires : tie.Need-refused-requires
 refused-requires c κs = search needs
@@ -39,13 +47,26 @@ returns c =
     (c .refused .result) (c .refused .ensures) [] (silent-lent (R.finish) tt)
 
 finished-requires : tie.Need-finished-requires
-finished-requires c κs = running-low (c .before .before .before .args .rig) (c .before .before .before .args .cycles) (c .before .before .before .args .st) (sound c)
+finished-requires c κs = there (c .before) .1
 
-settle-requires : tie.Need-settle-requires
-settle-requires c κs = settles (c .before .before .before .before .args .rig) (c .before .before .before .before .args .cycles) (c .before .before .before .before .args .st) (sound (c .before)) R.finish tt (none (c .before)) (c .finished .result) (finished-work (c .before .before .before .before .args .rig) (c .before .before .before .before .args .cycles) (c .before .before .before .before .args .st) (sound (c .before)) (c .finished .result) (c .finished .ensures)) (finished-links (c .before .before .before .before .args .rig) (c .before .before .before .before .args .cycles) (c .before .before .before .before .args .st) (sound (c .before)) (c .finished .result) (c .finished .ensures))
+settle-again-requires : tie.Need-settle-again-requires
+settle-again-requires c κs =
+    let e = c .before .before in
+    let a = e .before .before .before .args in
+    let w = c .finished in
+    record {
+      first = settles (a .rig) (a .cycles) (a .st) (sound e) R.finish tt (none e) (w .result) (finished-work (a .rig) (a .cycles) (a .st) (sound e) (w .result) (w .ensures)) (finished-links (a .rig) (a .cycles) (a .st) (sound e) (w .result) (w .ensures));
+      some = omega (arith, there e .0);
+      there = omega (arith, there e .1);
+    }
 
 returns-2 : tie.Need-returns-2
-returns-2 c = settled-tells (c .before .before .before .before .before .args .rig) (c .before .before .before .before .before .args .cycles) (c .before .before .before .before .before .args .st) (sound (c .before .before)) R.finish tt (none (c .before .before)) (c .before .finished .result) (finished-work (c .before .before .before .before .before .args .rig) (c .before .before .before .before .before .args .cycles) (c .before .before .before .before .before .args .st) (sound (c .before .before)) (c .before .finished .result) (c .before .finished .ensures)) (c .settle .result) (c .settle .ensures) tt
+unfolding R.ended
+returns-2 c =
+    let e = c .before .before .before in
+    let a = e .before .before .before .args in
+    let w = c .before .finished in
+    settled-tells (a .rig) (a .cycles) (a .st) (sound e) R.finish tt (none e) (w .result) (finished-work (a .rig) (a .cycles) (a .st) (sound e) (w .result) (w .ensures)) (c .settle-again .result) (c .settle-again .ensures) tt
 
 pub finish-spec : {M : Type 1} → statement M
 finish-spec =
@@ -55,6 +76,7 @@ finish-spec =
     of-run-requires
     refused-requires
     returns
+    cast-t
     finished-requires
-    settle-requires
+    settle-again-requires
     returns-2)

@@ -50,6 +50,7 @@ settle-requires : tie.Need-settle-requires
 settle-requires c κs = settles (c .before .before .before .before .before .before .before .before .before .before .args .t1) (c .before .before .before .before .before .before .before .before .before .before .args .cycles) (c .before .before .before .before .before .before .before .before .before .before .args .t3) (sound (c .before)) (R.schedule (c .before .before .before .before .before .before .before .before .before .before .args .task)) tt (none (c .before)) (c .scheduled .result) (scheduled-work (c .before .before .before .before .before .before .before .before .before .before .args .t1) (c .before .before .before .before .before .before .before .before .before .before .args .cycles) (c .before .before .before .before .before .before .before .before .before .before .args .t3) (sound (c .before)) (c .scheduled .result) (c .before .before .before .before .before .before .before .before .before .before .args .task) (c .scheduled .ensures)) (scheduled-links (c .before .before .before .before .before .before .before .before .before .before .args .t1) (c .before .before .before .before .before .before .before .before .before .before .args .cycles) (c .before .before .before .before .before .before .before .before .before .before .args .t3) (sound (c .before)) (c .scheduled .result) (c .before .before .before .before .before .before .before .before .before .before .args .task) (c .scheduled .ensures))
 
 returns-2 : tie.Need-returns-2
+unfolding R.ended
 returns-2 c = settled-tells (c .before .before .before .before .before .before .before .before .before .before .before .args .t1) (c .before .before .before .before .before .before .before .before .before .before .before .args .cycles) (c .before .before .before .before .before .before .before .before .before .before .before .args .t3) (sound (c .before .before)) (R.schedule (c .before .before .before .before .before .before .before .before .before .before .before .args .task)) tt (none (c .before .before)) (c .before .scheduled .result) (scheduled-work (c .before .before .before .before .before .before .before .before .before .before .before .args .t1) (c .before .before .before .before .before .before .before .before .before .before .before .args .cycles) (c .before .before .before .before .before .before .before .before .before .before .before .args .t3) (sound (c .before .before)) (c .before .scheduled .result) (c .before .before .before .before .before .before .before .before .before .before .before .args .task) (c .before .scheduled .ensures)) (c .settle .result) (c .settle .ensures) tt
 
 pub schedule-spec : {M : Type 1} → statement M

@@ -1,9 +1,10 @@
 use mathlib.Core.Path.{_≡_, _∙_, ap}
 use mathlib.Core.Bool.{Bool}
 use mathlib.Core.List.{[]}
-use Prim.Native.Nat.{ℕ}
+use Prim.Native.Nat.{ℕ, _<_, _≤_}
 use lib.Dec.{ltb}
 use lib.ListN.{getD}
+use native.Mathlib.Omega.{arith}
 use borrow.Author.Needs.{needs}
 use Rattle.rules.specs.Calls as R
 use Rattle.exec_state.specs.View.{rigOf, viewOf}
@@ -28,6 +29,10 @@ sound c = judged-sound (c .before .before .before .before .before .before .befor
 none : (c : tie.Else1) → 0 ≡ R.refusal (rigOf (c .before .before .before .before .before .before .before .before .before .args .t1) (c .before .before .before .before .before .before .before .before .before .args .cycles)) (viewOf (c .before .before .before .before .before .before .before .before .before .args .t3)) (R.terminate (c .before .before .before .before .before .before .before .before .before .args .task))
 none c = judged-none (c .before .before .before .before .before .before .before .before .before .args .t1) (c .before .before .before .before .before .before .before .before .before .args .cycles) (c .before .before .before .before .before .before .before .before .before .args .t3) (c .before .before .before .before .before .before .before .before .sound .result) (c .before .before .before .before .before .before .before .before .sound .ensures) _ (c .before .of-task .result) (c .before .of-task .ensures) (c .if1 .left) ∙ table (c .before)
 
+-- the task that is named is there
+there : (c : tie.Else1) → (0 < c .before .before .before .before .before .before .before .before .before .args .task) × (c .before .before .before .before .before .before .before .before .before .args .task ≤ 64)
+there c = task-there (c .before .before .before .before .before .before .before .before .before .args .t1) (c .before .before .before .before .before .before .before .before .before .args .cycles) (c .before .before .before .before .before .before .before .before .before .args .t3) (sound c) (c .before .before .before .before .before .before .before .before .before .args .task) _ (judged-none (c .before .before .before .before .before .before .before .before .before .args .t1) (c .before .before .before .before .before .before .before .before .before .args .cycles) (c .before .before .before .before .before .before .before .before .before .args .t3) (c .before .before .before .before .before .before .before .before .sound .result) (c .before .before .before .before .before .before .before .before .sound .ensures) _ (c .before .of-task .result) (c .before .of-task .ensures) (c .if1 .left))
+
 sound-requires : tie.Need-sound-requires
 sound-requires c κs = search needs
 
@@ -46,13 +51,26 @@ returns c =
     (c .refused .result) (c .refused .ensures) [] (silent-lent (R.terminate (c .before .before .before .before .before .before .before .before .before .before .args .task)) tt)
 
 terminated-requires : tie.Need-terminated-requires
-terminated-requires c κs = (sound c .links, task-there (c .before .before .before .before .before .before .before .before .before .args .t1) (c .before .before .before .before .before .before .before .before .before .args .cycles) (c .before .before .before .before .before .before .before .before .before .args .t3) (sound c) (c .before .before .before .before .before .before .before .before .before .args .task) _ (judged-none (c .before .before .before .before .before .before .before .before .before .args .t1) (c .before .before .before .before .before .before .before .before .before .args .cycles) (c .before .before .before .before .before .before .before .before .before .args .t3) (c .before .before .before .before .before .before .before .before .sound .result) (c .before .before .before .before .before .before .before .before .sound .ensures) _ (c .before .of-task .result) (c .before .of-task .ensures) (c .if1 .left)))
+terminated-requires c κs = (sound c .links, there c)
 
-settle-requires : tie.Need-settle-requires
-settle-requires c κs = settles (c .before .before .before .before .before .before .before .before .before .before .args .t1) (c .before .before .before .before .before .before .before .before .before .before .args .cycles) (c .before .before .before .before .before .before .before .before .before .before .args .t3) (sound (c .before)) (R.terminate (c .before .before .before .before .before .before .before .before .before .before .args .task)) tt (none (c .before)) (c .terminated .result) (terminated-work (c .before .before .before .before .before .before .before .before .before .before .args .t1) (c .before .before .before .before .before .before .before .before .before .before .args .cycles) (c .before .before .before .before .before .before .before .before .before .before .args .t3) (sound (c .before)) (c .terminated .result) (c .before .before .before .before .before .before .before .before .before .before .args .task) (c .terminated .ensures)) ((c .terminated .ensures) .sound)
+settle-again-requires : tie.Need-settle-again-requires
+settle-again-requires c κs =
+    let e = c .before in
+    let a = e .before .before .before .before .before .before .before .before .before .args in
+    let w = c .terminated in
+    record {
+      first = settles (a .t1) (a .cycles) (a .t3) (sound e) (R.terminate (a .task)) tt (none e) (w .result) (terminated-work (a .t1) (a .cycles) (a .t3) (sound e) (w .result) (a .task) (w .ensures)) (w .ensures .sound);
+      some = omega (arith, there e .0);
+      there = omega (arith, there e .1);
+    }
 
 returns-2 : tie.Need-returns-2
-returns-2 c = settled-tells (c .before .before .before .before .before .before .before .before .before .before .before .args .t1) (c .before .before .before .before .before .before .before .before .before .before .before .args .cycles) (c .before .before .before .before .before .before .before .before .before .before .before .args .t3) (sound (c .before .before)) (R.terminate (c .before .before .before .before .before .before .before .before .before .before .before .args .task)) tt (none (c .before .before)) (c .before .terminated .result) (terminated-work (c .before .before .before .before .before .before .before .before .before .before .before .args .t1) (c .before .before .before .before .before .before .before .before .before .before .before .args .cycles) (c .before .before .before .before .before .before .before .before .before .before .before .args .t3) (sound (c .before .before)) (c .before .terminated .result) (c .before .before .before .before .before .before .before .before .before .before .before .args .task) (c .before .terminated .ensures)) (c .settle .result) (c .settle .ensures) tt
+unfolding R.ended
+returns-2 c =
+    let e = c .before .before in
+    let a = e .before .before .before .before .before .before .before .before .before .args in
+    let w = c .before .terminated in
+    settled-tells (a .t1) (a .cycles) (a .t3) (sound e) (R.terminate (a .task)) tt (none e) (w .result) (terminated-work (a .t1) (a .cycles) (a .t3) (sound e) (w .result) (a .task) (w .ensures)) (c .settle-again .result) (c .settle-again .ensures) tt
 
 pub terminate-spec : {M : Type 1} → statement M
 terminate-spec =
@@ -64,5 +82,5 @@ terminate-spec =
     refused-requires
     returns
     terminated-requires
-    settle-requires
+    settle-again-requires
     returns-2)

@@ -68,8 +68,8 @@ module _ (g : Rig) (cycles : List Cycle) (h : Right g cycles) (s : State) (b : B
         low = subst (λ (y : S.Work). y .now .running ≤ 64) (sym start-work) blank-low;
       }
 
-  pub began-is : (o : Outcome) → Settled g w o → Began g cycles o
-  unfolding R.start R.started
+  pub began-is : (o : Outcome) → Settled g w 0 o → Began g cycles o
+  unfolding R.start R.started R.again
   began-is o k =
       let e : viewOf (o .st) ≡ R.start (rigOf g cycles) =
       k .now cycles ∙ ap (λ (y : S.Work). dispatch (rigOf g cycles) (serve (rigOf g cycles) y .now)) start-work in

@@ -1,4 +1,4 @@
-use mathlib.Core.Path.{_≡_, sym, _∙_}
+use mathlib.Core.Path.{_≡_, refl, sym, _∙_}
 use mathlib.Core.List.{[]}
 use Prim.Native.Nat.{_+_}
 use native.Mathlib.Omega.{arith}
@@ -58,7 +58,8 @@ kept-requires : tie.Need-kept-requires
 kept-requires c κs = search needs
 
 returns-2 : tie.Need-returns-2
-returns-2 c = kept-tells (c .before .before .before .before .before .before .args .rig) (c .before .before .before .before .before .before .args .cycles) (c .before .before .before .before .before .before .args .st) (R.waitFor (c .before .before .before .before .before .before .args .many)) (sound (c .before .before)) (for-stays (c .before .before .before .before .before .before .args .rig) (c .before .before .before .before .before .before .args .cycles) (c .before .before .before .before .before .before .args .st) (sound (c .before .before)) (c .before .before .before .before .before .before .args .many) (c .before .if2 .taken)) tt (none (c .before .before)) 0 (c .kept .result) (c .kept .ensures) [] (silent-output (rigOf (c .before .before .before .before .before .before .args .rig) (c .before .before .before .before .before .before .args .cycles)) (viewOf (c .before .before .before .before .before .before .args .st)) (R.waitFor (c .before .before .before .before .before .before .args .many)) tt)
+unfolding R.ended
+returns-2 c = kept-tells (c .before .before .before .before .before .before .args .rig) (c .before .before .before .before .before .before .args .cycles) (c .before .before .before .before .before .before .args .st) (R.waitFor (c .before .before .before .before .before .before .args .many)) (sound (c .before .before)) (for-stays (c .before .before .before .before .before .before .args .rig) (c .before .before .before .before .before .before .args .cycles) (c .before .before .before .before .before .before .args .st) (sound (c .before .before)) (c .before .before .before .before .before .before .args .many) (c .before .if2 .taken)) refl tt (none (c .before .before)) 0 (c .kept .result) (c .kept .ensures) [] (silent-output (rigOf (c .before .before .before .before .before .before .args .rig) (c .before .before .before .before .before .before .args .cycles)) (viewOf (c .before .before .before .before .before .before .args .st)) (R.waitFor (c .before .before .before .before .before .before .args .many)) tt)
 
 cast-wait-until : tie.Need-cast-wait-until
 cast-wait-until c = omega (arith, count-there (c .before .before .before .before .before .args .st .running) (c .before .before .before .before .before .args .st .count + c .before .before .before .before .before .args .many) (quiet (c .before)))
@@ -73,6 +74,7 @@ settle-requires : tie.Need-settle-requires
 settle-requires c κs = settles (c .before .before .before .before .before .before .before .args .rig) (c .before .before .before .before .before .before .before .args .cycles) (c .before .before .before .before .before .before .before .args .st) (sound (c .before .before .before)) (R.waitFor (c .before .before .before .before .before .before .before .args .many)) tt (none (c .before .before .before)) (record { st = c .before .wait-until .result; queue = c .empty .result }) (work c) (c .before .wait-until .ensures .sound)
 
 returns-3 : tie.Need-returns-3
+unfolding R.ended
 returns-3 c = settled-tells (c .before .before .before .before .before .before .before .before .args .rig) (c .before .before .before .before .before .before .before .before .args .cycles) (c .before .before .before .before .before .before .before .before .args .st) (sound (c .before .before .before .before)) (R.waitFor (c .before .before .before .before .before .before .before .before .args .many)) tt (none (c .before .before .before .before)) (record { st = c .before .before .wait-until .result; queue = c .before .empty .result }) (work (c .before)) (c .settle .result) (c .settle .ensures) tt
 
 pub wait-for-spec : {M : Type 1} → statement M

@@ -1,4 +1,4 @@
-use mathlib.Core.Path.{_≡_, sym, _∙_, ap}
+use mathlib.Core.Path.{_≡_, sym, _∙_, ap, subst}
 use mathlib.Core.List.{[]}
 use Prim.Native.Nat.{ℕ}
 use lib.Dec.{eqb}
@@ -9,12 +9,12 @@ use Rattle.exec_state.specs.View.{rigOf, viewOf, workOf}
 use Rattle.exec_sound.specs.Sound.{SoundParts}
 use Rattle.exec_refusals.specs.Rows.{flagRows}
 use Rattle.exec_outcome.specs.Laws.Meeting.{judged-sound, judged-none, judged-tells, kept-tells, silent-lent, silent-output}
-use Rattle.exec_outcome.specs.Laws.Settling.{settles, settled-tells}
+use Rattle.exec_outcome.specs.Laws.Settling.{Settled, settles, settled-tells}
 use mathlib.Core.Bool.{_&&_}
 use Rattle.rules.specs.Waiting.{waitOn}
 use Rattle.rules_laws.specs.Acceptance.{somebody-runs}
 use Rattle.laws.specs.Bits.{bit}
-use Rattle.exec_waits.specs.Laws.Waits.{flagWait, wait-silent, wait-proper, wait-table, may-wait, flag-ok, wait-work, wait-stays}
+use Rattle.exec_waits.specs.Laws.Waits.{flagWait, wait-silent, wait-nobody, wait-proper, wait-table, may-wait, flag-ok, wait-work, wait-stays}
 use Rattle.exec_waits.proofs.wait_on.Statement.{statement}
 use Rattle.exec_waits.proofs.wait_on.Tie as tie
 
@@ -69,7 +69,7 @@ kept-requires c κs = search needs
 
 returns-2 : tie.Need-returns-2
 returns-2 c =
-    kept-tells (c .before .before .before .before .before .before .before .before .before .before .before .args .rig) (c .before .before .before .before .before .before .before .before .before .before .before .args .cycles) (c .before .before .before .before .before .before .before .before .before .before .before .args .t3) (flagWait (c .before .before .before .before .before .before .before .before .before .before .before .args .latched) (c .before .before .before .before .before .before .before .before .before .before .before .args .flag) (bit (c .before .before .before .before .before .before .before .before .before .before .before .args .value))) (sound (c .before .before .before .before .before .before .before .before)) (wait-stays (c .before .before .before .before .before .before .before .before .before .before .before .args .rig) (c .before .before .before .before .before .before .before .before .before .before .before .args .cycles) (c .before .before .before .before .before .before .before .before .before .before .before .args .t3) (sound (c .before .before .before .before .before .before .before .before)) (c .before .before .before .before .before .before .before .before .before .before .before .args .latched) (c .before .before .before .before .before .before .before .before .before .before .before .args .flag) (bit (c .before .before .before .before .before .before .before .before .before .before .before .args .value)) (there (c .before .before) ∙ c .before .if2 .taken)) (wait-proper (c .before .before .before .before .before .before .before .before .before .before .before .args .latched) (c .before .before .before .before .before .before .before .before .before .before .before .args .flag) (c .before .before .before .before .before .before .before .before .before .before .before .args .value)) (none (c .before .before .before .before .before .before .before .before)) 0 (c .kept .result) (c .kept .ensures) []
+    kept-tells (c .before .before .before .before .before .before .before .before .before .before .before .args .rig) (c .before .before .before .before .before .before .before .before .before .before .before .args .cycles) (c .before .before .before .before .before .before .before .before .before .before .before .args .t3) (flagWait (c .before .before .before .before .before .before .before .before .before .before .before .args .latched) (c .before .before .before .before .before .before .before .before .before .before .before .args .flag) (bit (c .before .before .before .before .before .before .before .before .before .before .before .args .value))) (sound (c .before .before .before .before .before .before .before .before)) (wait-stays (c .before .before .before .before .before .before .before .before .before .before .before .args .rig) (c .before .before .before .before .before .before .before .before .before .before .before .args .cycles) (c .before .before .before .before .before .before .before .before .before .before .before .args .t3) (sound (c .before .before .before .before .before .before .before .before)) (c .before .before .before .before .before .before .before .before .before .before .before .args .latched) (c .before .before .before .before .before .before .before .before .before .before .before .args .flag) (bit (c .before .before .before .before .before .before .before .before .before .before .before .args .value)) (there (c .before .before) ∙ c .before .if2 .taken)) (wait-nobody (viewOf (c .before .before .before .before .before .before .before .before .before .before .before .args .t3)) (c .before .before .before .before .before .before .before .before .before .before .before .args .latched) (c .before .before .before .before .before .before .before .before .before .before .before .args .flag) (bit (c .before .before .before .before .before .before .before .before .before .before .before .args .value))) (wait-proper (c .before .before .before .before .before .before .before .before .before .before .before .args .latched) (c .before .before .before .before .before .before .before .before .before .before .before .args .flag) (c .before .before .before .before .before .before .before .before .before .before .before .args .value)) (none (c .before .before .before .before .before .before .before .before)) 0 (c .kept .result) (c .kept .ensures) []
     (silent-output (rigOf (c .before .before .before .before .before .before .before .before .before .before .before .args .rig) (c .before .before .before .before .before .before .before .before .before .before .before .args .cycles)) (viewOf (c .before .before .before .before .before .before .before .before .before .before .before .args .t3)) (flagWait (c .before .before .before .before .before .before .before .before .before .before .before .args .latched) (c .before .before .before .before .before .before .before .before .before .before .before .args .flag) (bit (c .before .before .before .before .before .before .before .before .before .before .before .args .value))) (wait-silent (c .before .before .before .before .before .before .before .before .before .before .before .args .latched) (c .before .before .before .before .before .before .before .before .before .before .before .args .flag) (bit (c .before .before .before .before .before .before .before .before .before .before .before .args .value))))
 
 cast-wait-on : tie.Need-cast-wait-on
@@ -85,7 +85,7 @@ settle-requires : tie.Need-settle-requires
 settle-requires c κs = settles (c .before .before .before .before .before .before .before .before .before .before .before .before .args .rig) (c .before .before .before .before .before .before .before .before .before .before .before .before .args .cycles) (c .before .before .before .before .before .before .before .before .before .before .before .before .args .t3) (sound (c .before .before .before .before .before .before .before .before .before)) (flagWait (c .before .before .before .before .before .before .before .before .before .before .before .before .args .latched) (c .before .before .before .before .before .before .before .before .before .before .before .before .args .flag) (bit (c .before .before .before .before .before .before .before .before .before .before .before .before .args .value))) (wait-proper (c .before .before .before .before .before .before .before .before .before .before .before .before .args .latched) (c .before .before .before .before .before .before .before .before .before .before .before .before .args .flag) (c .before .before .before .before .before .before .before .before .before .before .before .before .args .value)) (none (c .before .before .before .before .before .before .before .before .before)) (record { st = c .before .wait-on .result; queue = c .empty .result }) (work c) (c .before .wait-on .ensures .sound)
 
 returns-3 : tie.Need-returns-3
-returns-3 c = settled-tells (c .before .before .before .before .before .before .before .before .before .before .before .before .before .args .rig) (c .before .before .before .before .before .before .before .before .before .before .before .before .before .args .cycles) (c .before .before .before .before .before .before .before .before .before .before .before .before .before .args .t3) (sound (c .before .before .before .before .before .before .before .before .before .before)) (flagWait (c .before .before .before .before .before .before .before .before .before .before .before .before .before .args .latched) (c .before .before .before .before .before .before .before .before .before .before .before .before .before .args .flag) (bit (c .before .before .before .before .before .before .before .before .before .before .before .before .before .args .value))) (wait-proper (c .before .before .before .before .before .before .before .before .before .before .before .before .before .args .latched) (c .before .before .before .before .before .before .before .before .before .before .before .before .before .args .flag) (c .before .before .before .before .before .before .before .before .before .before .before .before .before .args .value)) (none (c .before .before .before .before .before .before .before .before .before .before)) (record { st = c .before .before .wait-on .result; queue = c .before .empty .result }) (work (c .before)) (c .settle .result) (c .settle .ensures) (wait-silent (c .before .before .before .before .before .before .before .before .before .before .before .before .before .args .latched) (c .before .before .before .before .before .before .before .before .before .before .before .before .before .args .flag) (bit (c .before .before .before .before .before .before .before .before .before .before .before .before .before .args .value)))
+returns-3 c = settled-tells (c .before .before .before .before .before .before .before .before .before .before .before .before .before .args .rig) (c .before .before .before .before .before .before .before .before .before .before .before .before .before .args .cycles) (c .before .before .before .before .before .before .before .before .before .before .before .before .before .args .t3) (sound (c .before .before .before .before .before .before .before .before .before .before)) (flagWait (c .before .before .before .before .before .before .before .before .before .before .before .before .before .args .latched) (c .before .before .before .before .before .before .before .before .before .before .before .before .before .args .flag) (bit (c .before .before .before .before .before .before .before .before .before .before .before .before .before .args .value))) (wait-proper (c .before .before .before .before .before .before .before .before .before .before .before .before .before .args .latched) (c .before .before .before .before .before .before .before .before .before .before .before .before .before .args .flag) (c .before .before .before .before .before .before .before .before .before .before .before .before .before .args .value)) (none (c .before .before .before .before .before .before .before .before .before .before)) (record { st = c .before .before .wait-on .result; queue = c .before .empty .result }) (work (c .before)) (c .settle .result) (subst (λ (n : ℕ). Settled (c .before .before .before .before .before .before .before .before .before .before .before .before .before .args .rig) (record { st = c .before .before .wait-on .result; queue = c .before .empty .result }) n (c .settle .result)) (sym (wait-nobody (viewOf (c .before .before .before .before .before .before .before .before .before .before .before .before .before .args .t3)) (c .before .before .before .before .before .before .before .before .before .before .before .before .before .args .latched) (c .before .before .before .before .before .before .before .before .before .before .before .before .before .args .flag) (bit (c .before .before .before .before .before .before .before .before .before .before .before .before .before .args .value)))) (c .settle .ensures)) (wait-silent (c .before .before .before .before .before .before .before .before .before .before .before .before .before .args .latched) (c .before .before .before .before .before .before .before .before .before .before .before .before .before .args .flag) (bit (c .before .before .before .before .before .before .before .before .before .before .before .before .before .args .value)))
 
 pub wait-on-spec : {M : Type 1} → statement M
 wait-on-spec =

@@ -1,4 +1,4 @@
-use mathlib.Core.Path.{_≡_, sym, _∙_}
+use mathlib.Core.Path.{_≡_, refl, sym, _∙_}
 use mathlib.Core.List.{[]}
 use native.Mathlib.Omega.{arith}
 use lib.Dec.{ltb}
@@ -51,7 +51,8 @@ kept-requires : tie.Need-kept-requires
 kept-requires c κs = search needs
 
 returns-2 : tie.Need-returns-2
-returns-2 c = kept-tells (c .before .before .before .before .before .before .args .rig) (c .before .before .before .before .before .before .args .cycles) (c .before .before .before .before .before .before .args .st) (R.waitUntil (c .before .before .before .before .before .before .args .count)) (sound (c .before .before .before)) (until-stays (c .before .before .before .before .before .before .args .rig) (c .before .before .before .before .before .before .args .cycles) (c .before .before .before .before .before .before .args .st) (sound (c .before .before .before)) (c .before .before .before .before .before .before .args .count) (c .before .if2 .taken)) tt (none (c .before .before .before)) 0 (c .kept .result) (c .kept .ensures) [] (silent-output (rigOf (c .before .before .before .before .before .before .args .rig) (c .before .before .before .before .before .before .args .cycles)) (viewOf (c .before .before .before .before .before .before .args .st)) (R.waitUntil (c .before .before .before .before .before .before .args .count)) tt)
+unfolding R.ended
+returns-2 c = kept-tells (c .before .before .before .before .before .before .args .rig) (c .before .before .before .before .before .before .args .cycles) (c .before .before .before .before .before .before .args .st) (R.waitUntil (c .before .before .before .before .before .before .args .count)) (sound (c .before .before .before)) (until-stays (c .before .before .before .before .before .before .args .rig) (c .before .before .before .before .before .before .args .cycles) (c .before .before .before .before .before .before .args .st) (sound (c .before .before .before)) (c .before .before .before .before .before .before .args .count) (c .before .if2 .taken)) refl tt (none (c .before .before .before)) 0 (c .kept .result) (c .kept .ensures) [] (silent-output (rigOf (c .before .before .before .before .before .before .args .rig) (c .before .before .before .before .before .before .args .cycles)) (viewOf (c .before .before .before .before .before .before .args .st)) (R.waitUntil (c .before .before .before .before .before .before .args .count)) tt)
 
 wait-until-requires : tie.Need-wait-until-requires
 wait-until-requires c κs = may-wait (c .before .before .before .before .before .args .rig) (c .before .before .before .before .before .args .cycles) (c .before .before .before .before .before .args .st) (sound (c .before .before)) (somebody-runs (viewOf (c .before .before .before .before .before .args .st)) _ (sym (quiet (c .before .before))))
@@ -63,6 +64,7 @@ settle-requires : tie.Need-settle-requires
 settle-requires c κs = settles (c .before .before .before .before .before .before .before .args .rig) (c .before .before .before .before .before .before .before .args .cycles) (c .before .before .before .before .before .before .before .args .st) (sound (c .before .before .before .before)) (R.waitUntil (c .before .before .before .before .before .before .before .args .count)) tt (none (c .before .before .before .before)) (record { st = c .before .wait-until .result; queue = c .empty .result }) (work c) (c .before .wait-until .ensures .sound)
 
 returns-3 : tie.Need-returns-3
+unfolding R.ended
 returns-3 c = settled-tells (c .before .before .before .before .before .before .before .before .args .rig) (c .before .before .before .before .before .before .before .before .args .cycles) (c .before .before .before .before .before .before .before .before .args .st) (sound (c .before .before .before .before .before)) (R.waitUntil (c .before .before .before .before .before .before .before .before .args .count)) tt (none (c .before .before .before .before .before)) (record { st = c .before .before .wait-until .result; queue = c .before .empty .result }) (work (c .before)) (c .settle .result) (c .settle .ensures) tt
 
 pub wait-until-spec : {M : Type 1} → statement M

@@ -1,5 +1,5 @@
 -- The running task begins to wait.
-use mathlib.Core.Path.{_≡_, sym, _∙_, ap}
+use mathlib.Core.Path.{_≡_, refl, sym, _∙_, ap}
 use mathlib.Core.Logic.{_≢_}
 use mathlib.Core.Bool.{Bool, true, false, cond, _&&_, false≢true}
 use mathlib.Core.List.{List, []}
@@ -40,6 +40,12 @@ flagWait false f v = R.unlatched f v
 pub wait-silent : (b : Bool) (f v : ℕ) → Silent (flagWait b f v)
 wait-silent true f v = tt
 wait-silent false f v = tt
+
+-- nobody is tested after it
+pub wait-nobody : (s : S.State) (b : Bool) (f v : ℕ) → R.ended s (flagWait b f v) ≡ 0
+unfolding R.ended
+wait-nobody s true f v = refl
+wait-nobody s false f v = refl
 
 pub wait-proper : (b : Bool) (f : ℕ) (v : Bool) → P.Proper (flagWait b f (bit v))
 wait-proper true f v = bit-le v
