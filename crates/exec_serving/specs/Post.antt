@@ -54,4 +54,5 @@ pub record Emptied (g : Rig) (s : State) (q : Queue) (r : Done) : Type 0 where
   pub sound : HoldsChains (r .st .links)
   pub chains : ChainsIn (viewOf (r .st))
   pub few : r .served ≤ 79
+  -- each service wakes and activates at most 64, so that sums stay in range
   pub small : (r .woken ≤ 64 * r .served) × (r .activated ≤ 64 * r .served)

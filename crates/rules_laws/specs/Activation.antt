@@ -1,7 +1,7 @@
--- "A condition is tested for activation on schedule and on service of one of its flags." and, L3, "after finish and terminate": NO OTHER RULE
--- ACTIVATES. Over any call, a task that was not active before it and is after it was activated by its own schedule, or by the service of
--- a flag in one of its conditions; and then all its conditions were as desired. Of a finish and a terminate the same is said of what they
--- leave to the serving, and there the test is the third way.
+-- "A condition is tested for activation on schedule and on service of one of its flags.": NO OTHER RULE ACTIVATES.
+-- Over any call, a task that was not active before it and is after it was activated by its own schedule, or by the service of
+-- a flag in one of its conditions; and then all its conditions were as desired. L3's test is for a task that was active and that the call ended:
+-- such a task is active again by a service of one of its flags, or by the test (`settle-activates`).
 use mathlib.Core.Path.{_≡_, refl, sym, ap, _∙_, subst}
 use mathlib.Core.Logic.{_≢_, _⊎_, inl, inr, ⊎-elim}
 use mathlib.Core.Bool.{Bool, true, false, cond}
@@ -9,7 +9,7 @@ use mathlib.Core.List.{List, [], _∷_}
 use Prim.Native.Nat.{ℕ, zero, suc, _+_, _≤_, _<_}
 use native.Mathlib.Omega.{arith}
 use native.Mathlib.Nat.{le-refl}
-use borrow.Author.Tests.{eqb-true}
+use borrow.Author.Tests.{eqb-true, eqb-false}
 use lib.Dec.{eqb, leb}
 use lib.ListN.{length, getD, set}
 use lib.Seq.{getD-set-other}
@@ -27,7 +27,7 @@ use Rattle.rules.specs.Waiting.{waitOn, waitUntilCount, isDue, wakeDue}
 use Rattle.rules.specs.Family.{family, isMarked, cleared}
 use Rattle.rules.specs.Running.{dispatch}
 use Rattle.rules.specs.Calls.{Call, schedule, cancel, terminate, finish, tick, waitUntil, waitFor, latched, unlatched, signal, readFlag, readBlock, writeBlock, nextWaking}
-use Rattle.rules.specs.Calls.{tested, scheduled, finished, terminated, cancelled, ticked, effect, refusal, refusals, ended, again, settled, accepted, Step, step}
+use Rattle.rules.specs.Calls.{tested, scheduled, finished, terminated, cancelled, ticked, effect, refusal, refusals, notActive, ended, again, settled, accepted, Step, step}
 use Rattle.rules.specs.Proper.{Proper}
 use Rattle.rules.specs.Soundness.{Sound}
 use Rattle.rules_laws.specs.ConditionLaws.{met-is, names-is}
@@ -35,7 +35,7 @@ use Rattle.rules_laws.specs.Rousing.{rouse-one, rouse-same}
 use Rattle.rules_laws.specs.Offering.{called, offers-changed}
 use Rattle.rules_laws.specs.Serve.{load, serveFlag-load}
 use Rattle.rules_laws.specs.Good.{Good, Ready, clean-ready, serveFlag-clean, serve-good, tested-ready}
-use Rattle.rules_laws.specs.Acceptance.{somebody-runs}
+use Rattle.rules_laws.specs.Acceptance.{somebody-runs, named-is}
 use Rattle.rules_laws.specs.Refusals.{accepted-is, refused-is}
 use Rattle.rules_laws.specs.Steps.{effect-ready}
 use Rattle.rules_laws.specs.Testing.{tested-cases}
@@ -274,22 +274,44 @@ module _ (r : Rig) (s : State) (h : Sound r s) (t : ℕ) (i : active (stateOf s 
   effect-activates (writeBlock k area buffer) e = inl i
   effect-activates nextWaking e = inl i
 
+-- ---- who is ended by a call was active before it
+
+ended-active : (r : Rig) (s : State) → Sound r s → (k : Call) → refusal r s k ≡ 0 → ended s k ≢ 0 → active (stateOf s (ended s k)) ≡ 1
+unfolding ended refusal refusals
+ended-active r s h (schedule u) e n = absurd (n refl)
+ended-active r s h (cancel u) e n = absurd (n refl)
+ended-active r s h (terminate u) e n = busy (stateOf s u) (eqb-false (active (stateOf s u)) 0 (named-is r s u (notActive s u) e .right))
+ended-active r s h finish e n = ap active (h .runs .up n)
+ended-active r s h (tick buffer) e n = absurd (n refl)
+ended-active r s h (waitUntil c) e n = absurd (n refl)
+ended-active r s h (waitFor m) e n = absurd (n refl)
+ended-active r s h (latched f v) e n = absurd (n refl)
+ended-active r s h (unlatched f v) e n = absurd (n refl)
+ended-active r s h (signal f v) e n = absurd (n refl)
+ended-active r s h (readFlag f) e n = absurd (n refl)
+ended-active r s h (readBlock k area buffer) e n = absurd (n refl)
+ended-active r s h (writeBlock k area buffer) e n = absurd (n refl)
+ended-active r s h nextWaking e n = absurd (n refl)
+
 -- ---- THE THEOREM
 
 pub activated-by : (r : Rig) → RigOk r → (s : State) → Sound r s → (k : Call) → Proper k → (t : ℕ)
     → active (stateOf s t) ≡ 0 → active (stateOf (step r s k .next) t) ≡ 1
-    → BySchedule r s k t ⊎ (ByService r (Through r (ended s k) (effect r s k)) t ⊎ ByTest r (ended s k) (effect r s k) t)
+    → BySchedule r s k t ⊎ ByService r (Through r (ended s k) (effect r s k)) t
 unfolding accepted settled dispatch
 activated-by r ok s h k p t i n = go (refusal r s k) refl
   where
-    Ways : Type 0
-    Ways = BySchedule r s k t ⊎ (ByService r (Through r (ended s k) (effect r s k)) t ⊎ ByTest r (ended s k) (effect r s k) t)
-
     settles : refusal r s k ≡ 0 → active (stateOf (again r (ended s k) (serve r (effect r s k)) .now) t) ≡ 1
     settles e = ap (λ (x : Step). active (stateOf (x .next) t)) (sym (accepted-is r s k e)) ∙ n
 
-    go : (m : ℕ) → refusal r s k ≡ m → Ways
+    -- who was not active is not who is tested
+    untested : refusal r s k ≡ 0 → ByTest r (ended s k) (effect r s k) t → ⊥
+    untested e b =
+        omega (arith, i, ended-active r s h k e (λ q. b .some (b .ended ∙ q)), ap (λ (u : ℕ). active (stateOf s u)) (b .ended))
+
+    go : (m : ℕ) → refusal r s k ≡ m → BySchedule r s k t ⊎ ByService r (Through r (ended s k) (effect r s k)) t
     go zero e =
-        ⊎-elim (λ j. inr (settle-activates r ok (ended s k) (effect r s k) (effect-ready r ok s h k p e) t j (settles e))) (λ j. inl j)
-        (effect-activates r s h t i k e)
+        ⊎-elim
+        (λ j. inr (⊎-elim (λ b. b) (λ b. absurd (untested e b)) (settle-activates r ok (ended s k) (effect r s k) (effect-ready r ok s h k p e) t j (settles e))))
+        (λ j. inl j) (effect-activates r s h t i k e)
     go (suc m) e = absurd (omega (arith, i, n, ap (λ (x : Step). active (stateOf (x .next) t)) (refused-is r s k m e)))

@@ -304,7 +304,7 @@ byTest r zero s = 0
 byTest r (suc t) s = made inactive (s .states) (tested r (suc t) s .now .states)
 
 -- the numbers of a call that leaves w to the serving and ended task u, 0 for none
-pub record Tells (r : Rig) (u : ℕ) (w : Work) (d : Done) : Type 0 where
+pub record Sums (r : Rig) (u : ℕ) (w : Work) (d : Done) : Type 0 where
   pub woken : d .woken ≡ made waiting (w .now .states) (d .now .states)
   pub activated : d .activated + byTest r u (serve r w .now) ≡ made inactive (w .now .states) (d .now .states)
 
@@ -336,7 +336,7 @@ module _ (r : Rig) where
       omega arith
 
   -- "added over all services of a call", and no task twice
-  pub settle-made : (u : ℕ) (w : Work) → Tells r u w (again r u (serve r w))
+  pub settle-made : (u : ℕ) (w : Work) → Sums r u w (again r u (serve r w))
   unfolding again
   settle-made zero w = let m = serve-made r w in record { woken = m .woken; activated = omega (arith, m .activated) }
   settle-made (suc t) w =

@@ -18,9 +18,9 @@ use Rattle.rules.specs.Serving.{made, serve}
 use Rattle.rules.specs.Soundness.{IsChain}
 use Rattle.rules.specs.Calls.{terminate, finish, tick, signal, effect, ended, run, start}
 use Rattle.rules.specs.History.{Earlier, Sooner}
-use Rattle.rules_laws.specs.WhileServing.{Through}
 use Rattle.rules_laws.specs.Activation.{ByService, ByTest}
 use Rattle.rules_laws.specs.Heard.{WaitedOn, byTest}
+use Rattle.rules_laws.specs.Heard as H
 use Rattle.exec_family.specs.Anchors.{anchorOf}
 use Rattle.exec.specs.Sound.{rigIn, view, SoundRecord}
 use Rattle.runs.specs.Runs.{Made, MadeOn, callsOf, codeOf, servedOf, wokenOf, activatedOf, toldBy, historyIn}
@@ -115,7 +115,7 @@ leaves y m = effect (rigIn y) (view y) (m .call)
 
 -- what it comes through: the services of what it has queued, and, L3, those after the test of the task that it ended
 abbrev pub Comes : Exec → Made → Work → Type 0
-Comes y m = Through (rigIn y) (ended (view y) (m .call)) (leaves y m)
+Comes y m = H.Comes (rigIn y) (view y) (m .call)
 
 -- L3: that task, "once the queue is empty .. still inactive with all conditions as desired": it is activated by no service, and not counted
 abbrev pub ByTestIn : Exec → Made → ℕ → Type 0

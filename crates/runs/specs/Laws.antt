@@ -49,7 +49,7 @@ use Rattle.exec_sound.specs.Laws.RightRig.{rig-ok}
 use Rattle.exec.specs.Laws.Promises.{twelve-exactly, Answered, asked}
 use Rattle.exec.specs.Starting.{Started, noExec, brokenRig}
 use Rattle.runs.specs.Runs.{Made, MadeOn, Ran, callsOf, codeOf, servedOf, wokenOf, activatedOf, toldBy, AcceptedStart, noting, historyIn, SparedIn, NoneSoonerIn}
-use Rattle.runs.specs.Demands.{Stands, Chained, Activated, Bounded, Demand, Wakes, forwardIn, stateIn, wakeIn, OnTime, Told, leaves, Comes, ByTestIn, byTestIn, Hears, Heard, NobodyLeft, AtMost}
+use Rattle.runs.specs.Demands.{Stands, Chained, Activated, Bounded, Demand, Wakes, forwardIn, stateIn, wakeIn, OnTime, Told, leaves, Comes, byTestIn, Hears, Heard, NobodyLeft, AtMost}
 use Rattle.exec.specs.declared.Exec.{Exec}
 use Rattle.exec.specs.declared.Step.{Step}
 
@@ -348,10 +348,9 @@ module _ (g : Rig) (table : List (List ℕ)) (x : Exec) (s : AcceptedStart g tab
         }
 
     -- "A condition is tested for activation on schedule and on service of one of its flags.": a call that is made next and
-    -- activates a task does so by its schedule, or by a service of one of its flags, with all its conditions as desired; or, L3, by the test after a
-    -- finish or a terminate
+    -- activates a task does so by its schedule, or by a service of one of its flags, with all its conditions as desired
     pub activated-only : (m : Made) → MadeOn y m → (t : ℕ) → S.active (stateIn y t) ≡ 0 → S.active (stateIn (m .step .exec) t) ≡ 1
-        → BySchedule (rigIn y) (view y) (m .call) t ⊎ (ByService (rigIn y) (Comes y m) t ⊎ ByTestIn y m t)
+        → BySchedule (rigIn y) (view y) (m .call) t ⊎ ByService (rigIn y) (Comes y m) t
     activated-only m o t i n =
         let h = there .sound in
         let g = gives (rigIn y) (view y) y (record { sound = h; rig = refl; state = refl }) m o in
