@@ -45,23 +45,36 @@ static void put_back(algolmallet_record *copy, enum harm harm, const algolmallet
     memcpy((uint8_t *)copy + part.from, (const uint8_t *)record + part.from, part.length);
 }
 
-static void ask_harmed(const algolmallet_record *record, enum harm harm)
+/* The question that the line has. */
+static algolmallet_reply ask(algolmallet_record *copy, const struct script_line *line)
 {
+    return line->verb == 'H' ? algolmallet_next_waking(copy) : algolmallet_overruns(copy, line->number[1]);
+}
+
+static void ask_harmed(const algolmallet_record *record, const struct script_line *line)
+{
+    enum harm harm = line->number[0];
     algolmallet_record *copy = make_room_for_record();
     memcpy(copy, record, algolmallet_record_size());
     harm_copy(copy, harm);
-    algolmallet_reply reply = algolmallet_next_waking(copy);
+    algolmallet_reply reply = ask(copy, line);
     put_back(copy, harm, record);
-    algolmallet_reply again = algolmallet_next_waking(copy);
+    algolmallet_reply again = ask(copy, line);
     free(copy);
-    printf("H\t%" PRIu32 "\t%" PRIu32 "\t%" PRIu32 "\t%" PRIu32, reply.refusal, reply.served, reply.words, reply.value);
+    printf("%c\t%" PRIu32 "\t%" PRIu32 "\t%" PRIu32 "\t%" PRIu32, line->verb, reply.refusal, reply.served, reply.words, reply.value);
     printf("\t%" PRIu32 "\t%" PRIu32 "\t%" PRIu32 "\t%" PRIu32 "\n", reply.woken, reply.activated, again.refusal, again.value);
+}
+
+static bool is_question(const struct script_line *line)
+{
+    bool has_its_numbers = (line->verb == 'H' && line->numbers == 1) || (line->verb == 'P' && line->numbers == 2);
+    return has_its_numbers && line->number[0] < HARMS;
 }
 
 bool run_harmed_call(const algolmallet_record *record, const struct script_line *line)
 {
-    if (line->verb != 'H' || line->numbers != 1 || line->number[0] >= HARMS)
+    if (!is_question(line))
         return false;
-    ask_harmed(record, line->number[0]);
+    ask_harmed(record, line);
     return true;
 }

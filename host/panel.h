@@ -1,9 +1,11 @@
 /*
  * The panel's lines, for what was asked for after the bench runner's script:
  *
- *   V     "When does the bench next wake someone?" (request L4)
+ *   V         "When does the bench next wake someone?" (request L4)
+ *   O task    how many starts of the task came too soon (request L6)
  *
- * It prints what the other calls print and then, if a task waits on time, the lowest waking count of those that do.
+ * Each prints what the other calls print. Then V prints, if a task waits on time, the lowest waking count of those that do; O prints,
+ * if it is accepted, the task's number of overruns.
  */
 #ifndef HOST_PANEL_H
 #define HOST_PANEL_H
@@ -13,7 +15,7 @@
 #include "algolmallet.h"
 #include "script.h"
 
-/* Runs a line with the verb V and prints its answer; false, with nothing done, if it is none. */
+/* Runs a line with the verb V or O and prints its answer; false, with nothing done, if it is none. */
 bool run_panel_call(algolmallet_record *record, const struct script_line *line);
 
 #endif

@@ -3,7 +3,7 @@
  * Link with libalgolmallet.a, which `./install PREFIX` puts beside this header's folder (pkg-config algolmallet); in the repository it
  * is target/staticlib/libhost.a, which `rt staticlib host` proves and writes. It is for x86-64. The archive has the entries below and
  * nothing else that can be seen from outside, keeps no memory of its own, uses no heap, and needs of the host only
- *     memcpy memset
+ *     memcpy memmove memset
  * The words in quotes are the build paper's, or those of a request that came after it, where one is named.
  *
  * WHAT A HOST DOES. It keeps memory for one record, has algolmallet_start fill it from a rig file, and lends it to each
@@ -40,8 +40,8 @@ extern "C" {
 #endif
 
 /* The version of this header: first, second and third number, and all three as one, which rises. */
-#define ALGOLMALLET_VERSION "0.5.0"
-#define ALGOLMALLET_VERSION_NUMBER 5000 /* 1,000,000 times the first, 1,000 times the second, and the third */
+#define ALGOLMALLET_VERSION "0.6.0"
+#define ALGOLMALLET_VERSION_NUMBER 6000 /* 1,000,000 times the first, 1,000 times the second, and the third */
 
 /* The version of the archive: ALGOLMALLET_VERSION_NUMBER, if this header belongs to it. */
 uint32_t algolmallet_version(void);
@@ -57,7 +57,8 @@ uint32_t algolmallet_version(void);
 #define ALGOLMALLET_STACK_BYTES 184320
 
 /* Opaque: what is in it is the library's. A host may copy it as bytes, to keep a state and come back to it; the few bytes that
- * alignment leaves between fields hold anything, so equal states need not be equal bytes. */
+ * alignment leaves between fields hold anything, so equal states need not be equal bytes. A copy is of use to the same version of the library
+ * alone: a record of 0.6.0 is longer than one of 0.5.0, by each task's number of overruns. */
 typedef struct algolmallet_record algolmallet_record;
 
 /* The paper's refusal numbers, each "given exactly when". "For a call, 12 comes first, then the smallest number." */
@@ -71,7 +72,7 @@ enum algolmallet_refusal {
     ALGOLMALLET_OUT_OF_ORDER = 3,
     /* "a whole-file rule is broken (line 0)" */
     ALGOLMALLET_RULE_BROKEN = 4,
-    /* "any call on a record but the tick .., while no task is running"; algolmallet_next_waking needs none either */
+    /* "any call on a record but the tick .., while no task is running"; algolmallet_next_waking and algolmallet_overruns need none either */
     ALGOLMALLET_NOBODY_RUNS = 5,
     /* "no such task, flag or row" */
     ALGOLMALLET_NO_SUCH = 6,
@@ -104,7 +105,7 @@ typedef struct {
     uint32_t line;      /* of a start refused by 1 to 4: the rig file's line, 0 for the whole file; else 0 */
     uint32_t served;    /* flag changes that the call served, "at most 79" */
     uint32_t words;     /* bus words written by a tick */
-    uint32_t value;     /* of a flag read, 0 or 1; of algolmallet_next_waking a waking count, 0 for none; else 0 */
+    uint32_t value;     /* of a flag read, 0 or 1; of algolmallet_next_waking a waking count, 0 for none; of algolmallet_overruns the number; else 0 */
     uint32_t count;     /* the count after the call, as the record has it; 0 after a refused start */
     uint32_t running;   /* the running task after the call, as the record has it, 0 for none */
     uint32_t woken;     /* "how many waiting tasks" the call's services "made dispatchable" */
@@ -175,6 +176,13 @@ algolmallet_reply algolmallet_read_flag(algolmallet_record *r, uint32_t flag);
  * the head of the time chain; none exactly when no task so waits". 0 stands for none: a waking count is above the count, so never 0. "No
  * running task is needed." The record is as it was, and nothing is served. Refused by 12 alone. */
 algolmallet_reply algolmallet_next_waking(algolmallet_record *r);
+
+/* How many starts of the task came too soon (request L6). The reply's `value` is its "number of overruns: services of a minor-cycle flag in one of
+ * its conditions with the task already active before", waiting or dispatchable. Before is before that very service: the one that starts the task does
+ * not count, and one behind it in the same tick does. A service counts once for a task, however many of its conditions name the flag. "It stops at
+ * 65,535. Schedule sets it to 0" (and so does a start); "cancel, terminate and finish keep it". The call "reads it for any task", in any state, "with no
+ * running task needed". The record is as it was, and nothing is served. Refused by 12, 6. */
+algolmallet_reply algolmallet_overruns(algolmallet_record *r, uint32_t task);
 
 /* "Row k's block starts at word 33(k - 1) of the lent area: a tag word, then its data. The area has exactly 33 words a row;
  * the caller's buffer has exactly the row's words." Read "copies the data out"; write "stores the data and the count modulo

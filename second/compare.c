@@ -241,14 +241,16 @@ static unsigned print_seldom(const tally *t, const wishes *w)
 {
     unsigned n = 0;
     if (wants(w, INPUTS))
-        n += tally_missing(t, LEAST_HITS, stdout) + tally_panel_missing_off(&t->panel, LEAST_HITS, stdout);
+        n += tally_missing(t, LEAST_HITS, stdout) + tally_panel_missing_off(&t->panel, LEAST_HITS, stdout) +
+             tally_overruns_missing_off(&t->overruns, LEAST_HITS, stdout);
     if (wants(w, STREAMS))
         n += tally_stream_missing(&t->stream, LEAST_HITS, stdout);
     if (wants(w, ENTRIES))
         n += tally_missing_calls(t, "WDJ", LEAST_HITS, stdout) + tally_panel_missing_harmed(&t->panel, LEAST_HITS, stdout) +
-             tally_heard_missing_entries(&t->heard, LEAST_HITS, stdout);
+             tally_heard_missing_entries(&t->heard, LEAST_HITS, stdout) + tally_overruns_missing_harmed(&t->overruns, LEAST_HITS, stdout);
     if (wants(w, PANEL))
-        n += tally_panel_missing(&t->panel, LEAST_HITS, stdout) + tally_heard_missing_asked(&t->heard, LEAST_HITS, stdout);
+        n += tally_panel_missing(&t->panel, LEAST_HITS, stdout) + tally_heard_missing_asked(&t->heard, LEAST_HITS, stdout) +
+             tally_overruns_missing(&t->overruns, LEAST_HITS, stdout);
     return n;
 }
 
@@ -257,9 +259,9 @@ static int report(const comparison *k, const tally *t, const wishes *w)
     unsigned seldom = 0;
     tally_print(t, stdout);
     if (wants(w, ENTRIES) && !is_given(&w->entries))
-        printf("(W, D, J and H were run in this process alone: no --entries)\n");
+        printf("(W, D, J, H and P were run in this process alone: no --entries)\n");
     if (wants(w, PANEL) && !is_given(&w->panel))
-        printf("(V was run in this process alone: no --panel)\n");
+        printf("(V and O were run in this process alone: no --panel)\n");
     if (k->differences == 0 && w->count >= DEFAULT_COUNT)
         seldom = print_seldom(t, w);
     printf("seed %llu: %llu inputs, %u different%s\n", (unsigned long long)k->seed, (unsigned long long)t->inputs,

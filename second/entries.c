@@ -42,6 +42,9 @@ bool entries_judge(const uint8_t *line, size_t length, entries_call *out)
                out->words <= ENTRIES_ROOM_MAX;
     case 'H':
         return script_number(&at, end, &out->harm) && at == end && out->harm < HARMS;
+    case 'P':
+        return script_number(&at, end, &out->harm) && script_number(&at, end, &out->task) && at == end &&
+               out->harm < HARMS;
     default:
         return false;
     }
@@ -109,15 +112,21 @@ static void undo_harm(exec *e, enum harm harm, const exec *before)
     memcpy((uint8_t *)e + h.from, (const uint8_t *)before + h.from, h.length);
 }
 
+/* The question that the line has. */
+static answer ask(const exec *e, const entries_call *call)
+{
+    return call->verb == 'H' ? exec_next_waking(e) : exec_overruns(e, call->task);
+}
+
 static size_t run_harmed(const exec *e, const entries_call *call, answer *a, char *out)
 {
     static exec copy;
     char *at = out;
     copy = *e;
     do_harm(&copy, call->harm);
-    *a = exec_next_waking(&copy);
+    *a = ask(&copy, call);
     undo_harm(&copy, call->harm, e);
-    answer again = exec_next_waking(&copy);
+    answer again = ask(&copy, call);
     *at++ = call->verb;
     at = print_field(at, a->refusal);
     at = print_field(at, a->served);
@@ -131,12 +140,12 @@ static size_t run_harmed(const exec *e, const entries_call *call, answer *a, cha
     return (size_t)(at - out);
 }
 
-/* ---- All four ---- */
+/* ---- All five ---- */
 
 size_t entries_run(exec *e, entries_area *area, const entries_call *call, answer *a, char *out)
 {
     uint32_t check;
-    if (call->verb == 'H')
+    if (call->verb == 'H' || call->verb == 'P')
         return run_harmed(e, call, a, out);
     *a = call->verb == 'W' ? run_write(e, area, call, &check) : run_lent(e, area, call, &check);
     char *at = print_head(out, call->verb, a, e);

@@ -1,7 +1,7 @@
 /*
  * The entries that no line of the bench runner's script reaches: block write
  * and block read of the compool area, a tick with a buffer of any length, and
- * the next waking asked of records that are not sound.
+ * the panel's questions asked of records that are not sound.
  *
  * Input is as the runner's: a rig, the line RUN, script lines.  All lines of
  * the runner mean the same here and print the same.  There are also
@@ -15,6 +15,7 @@
  *                            that was harmed: 0 not at all, 1 by a refused
  *                            start, 2 all its bytes 0, 3 all 255, 4 the first
  *                            half of them 255, 5 the second half
+ *   P harm task              the task's overruns, asked of such a copy
  *
  * with tabs between the fields, `area` up to 4,096, `words` up to 64, `room`
  * up to 256, `harm` up to 5; larger numbers are of wrong shape (? alone).  The
@@ -29,8 +30,8 @@
  * its own words, is seen.  The check number of words w0, w1, ... starts as 0
  * and with each becomes (31 check + word) modulo 65,521.
  *
- * H prints verb, answer, flags served, words, value, woken and activated, as
- * they are told (a value of 0 for none), and then answer and value once more,
+ * H and P print verb, answer, flags served, words, value, woken and activated, as
+ * they are told (of H a value of 0 for none), and then answer and value once more,
  * asked of the copy when the harmed bytes have been put back: the question has
  * left the others as they were.  Count and running task are not printed: a
  * harmed record may have any.
@@ -53,19 +54,20 @@ typedef struct {
 
 void entries_fill_area(entries_area *area);
 
-/* What H does to its copy of the record. */
+/* What H and P do to their copy of the record. */
 enum harm { HARM_NONE, HARM_REFUSED_START, HARM_ZEROS, HARM_ALL, HARM_FIRST_HALF, HARM_SECOND_HALF, HARMS };
 
 typedef struct {
-    char verb;      /* W, D, J or H */
+    char verb;      /* W, D, J, H or P */
     uint32_t row;   /* W, D */
     uint32_t area;  /* W, D */
     uint32_t words; /* W, D: data words; J: room */
     uint32_t first; /* W */
-    uint32_t harm;  /* H */
+    uint32_t harm;  /* H, P */
+    uint32_t task;  /* P */
 } entries_call;
 
-/* Whether a line without its LF is one of the four. */
+/* Whether a line without its LF is one of the five. */
 bool entries_judge(const uint8_t *line, size_t length, entries_call *out);
 
 /* Makes the call and prints its line; answers the line's length. */

@@ -106,6 +106,8 @@ static void schedule(exec *e, serving *s, unsigned task)
 {
     if (!MUTATED(SCHEDULE_KEEPS))
         reset_unlatched(e, task);
+    if (!MUTATED(SCHEDULE_KEEPS_OVERRUNS))
+        e->overruns[task] = 0;
     e->state[task] = INACTIVE;
     if (exec_as_desired(e, task))
         activate(e, s, task);
@@ -159,6 +161,8 @@ static void uninvoke(exec *e, unsigned task, bool named)
         leave_line(e, task);
     if (MUTATED(CANCEL_RESETS))
         e->condition[task] = 0;
+    if (MUTATED(CANCEL_CLEARS_OVERRUNS))
+        e->overruns[task] = 0;
 }
 
 answer exec_cancel(exec *e, uint32_t task)
@@ -197,6 +201,10 @@ static void deactivate(exec *e, serving *s, unsigned task)
 {
     if (!MUTATED(TERMINATE_LEAVES_LINKED))
         leave_line(e, task);
+    if (MUTATED(FINISH_CLEARS_OVERRUNS) && task == e->running)
+        e->overruns[task] = 0;
+    if (MUTATED(TERMINATE_CLEARS_OVERRUNS) && task != e->running)
+        e->overruns[task] = 0;
     e->state[task] = INACTIVE;
     queue_activation(s, e, task, 0);
 }

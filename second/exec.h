@@ -49,6 +49,7 @@ typedef struct {
     uint8_t state[TASKS_MAX + 1];           /* enum task_state */
     uint8_t value[FLAGS_MAX + 1];           /* of each flag */
     uint16_t condition[TASKS_MAX + 1];      /* values of a task's conditions by position */
+    uint16_t overruns[TASKS_MAX + 1];       /* since its last schedule; stops at OVERRUNS_MAX */
     exec_wait wait[TASKS_MAX + 1];
     exec_line timed;   /* waiting on time: by waking count, then who began earlier */
     exec_line flagged; /* waiting on a flag, in order of beginning */
@@ -68,7 +69,7 @@ typedef struct {
     enum refusal refusal;
     uint8_t served;    /* flags served by this call */
     uint16_t words;    /* exec_tick: bus words written */
-    uint32_t value;    /* exec_read_flag: the flag's; exec_next_waking: the waking count, 0 for none */
+    uint32_t value;    /* exec_read_flag: the flag's; exec_next_waking: the waking count, 0 for none; exec_overruns: the number */
     uint8_t woken;     /* "how many waiting tasks" the services of this call "made dispatchable" (request L2) */
     uint8_t activated; /* "and how many" they "activated"; a schedule's own activation is no service's, nor is a test's */
     uint8_t heard;     /* services that added to either; not printed, the comparison counts sums by it */
@@ -94,6 +95,14 @@ answer exec_read_flag(exec *e, uint32_t flag);
  * task is needed; refused by 12 alone, for which both builds test the record.
  */
 answer exec_next_waking(const exec *e);
+
+/*
+ * "a number of overruns: services of a minor-cycle flag in one of its
+ * conditions with the task already active before", since the task's last
+ * schedule, up to OVERRUNS_MAX.  No running task is needed; refused by 12, then
+ * 6, and both builds test the record.
+ */
+answer exec_overruns(const exec *e, uint32_t task);
 
 /* `words` has room for `room` words, at least 128; words past those written stay. */
 answer exec_tick(exec *e, uint16_t *words, size_t room);

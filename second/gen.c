@@ -11,6 +11,8 @@ enum input_kind {
     SLEEPERS,
     LISTENERS,
     RUNS_AGAIN,
+    OVERRUNS,
+    STOPS,
     SERVES_79,
     SCRIPT_DAMAGED,
     LINE_SHAPE,
@@ -39,12 +41,16 @@ static const uint8_t kinds[] = {
 /* One round of kinds for the panel: right rigs, most of them with many tasks that wait on time, and two that are refused. */
 static const uint8_t panel_kinds[] = {
     SLEEPERS, SMALL, SLEEPERS, FAMILIES, SLEEPERS, SLEEPERS, MEDIUM, SLEEPERS, RESTARTS, SLEEPERS,
-    SLEEPERS, LISTENERS, SLEEPERS, RACES, RUNS_AGAIN, SLEEPERS, SCRIPT_DAMAGED, SLEEPERS, FUZZED, LINE_ORDER};
+    SLEEPERS, LISTENERS, SLEEPERS, RACES, RUNS_AGAIN, SLEEPERS, SCRIPT_DAMAGED, SLEEPERS, FUZZED, LINE_ORDER,
+    OVERRUNS, OVERRUNS, OVERRUNS, OVERRUNS};
 
-enum { ROUND = sizeof kinds, PANEL_ROUND = sizeof panel_kinds };
+/* One input in so many for the panel goes up to the stop of overruns; it is long. */
+enum { ROUND = sizeof kinds, PANEL_ROUND = sizeof panel_kinds, STOPS_EVERY = 500, STOPS_AT = 7 };
 
-/* Of a hundred lines, those before which lines are woven in: questions for the runner and for the panel; harmed ones. */
-enum { ASKED_RUNNER = 3, ASKED_PANEL = 40, ASKED_HARMED = 6 };
+/*
+ * Of a hundred lines, those before which lines are woven in: V for the runner and for the panel, H; and the same of O and P.
+ */
+enum { ASKED_RUNNER = 3, ASKED_PANEL = 40, ASKED_HARMED = 6, OVERRUNS_RUNNER = 1, OVERRUNS_PANEL = 12, OVERRUNS_HARMED = 6 };
 
 void gen_add_run(text *out)
 {
@@ -166,6 +172,20 @@ static void again_input(chance *c, text *out)
     played_input(c, &(purpose){gen_again_rig, gen_again_script, 100, 250}, out);
 }
 
+static void overruns_input(chance *c, text *out)
+{
+    played_input(c, &(purpose){gen_overruns_rig, gen_overruns_script, 100, 250}, out);
+}
+
+static void stops_input(chance *c, text *out)
+{
+    static rig r;
+    gen_stop_rig(c, &r);
+    gen_print_rig(&r, out);
+    gen_add_run(out);
+    gen_stop_script(c, &r, out);
+}
+
 static void full_serving_input(chance *c, text *out)
 {
     static rig r;
@@ -243,6 +263,8 @@ static const struct {
     [SLEEPERS] = {"sleepers", sleepers_input},
     [LISTENERS] = {"listeners", listeners_input},
     [RUNS_AGAIN] = {"tasks that run again", again_input},
+    [OVERRUNS] = {"overruns", overruns_input},
+    [STOPS] = {"overruns up to their stop", stops_input},
     [SERVES_79] = {"79 served", full_serving_input},
     [SCRIPT_DAMAGED] = {"damaged script", damaged_script_input},
     [LINE_SHAPE] = {"line of wrong shape", shape_input},
@@ -263,9 +285,14 @@ const char *gen_kind_name(uint64_t index)
     return kind >= RULE_BROKEN ? rig_rule_text[kind - RULE_BROKEN] : makers[kind].name;
 }
 
+static unsigned panel_kind(uint64_t index)
+{
+    return index % STOPS_EVERY == STOPS_AT ? STOPS : panel_kinds[index % PANEL_ROUND];
+}
+
 const char *gen_panel_name(uint64_t index)
 {
-    return makers[panel_kinds[index % PANEL_ROUND]].name;
+    return makers[panel_kind(index)].name;
 }
 
 /* Numbers of their own for what is woven in, so that the rest of an input is the same with or without it. */
@@ -274,9 +301,14 @@ static chance weaving_chance(uint64_t seed, uint64_t index)
     return chance_of(seed ^ UINT64_C(0x7765617665733131), index);
 }
 
+static chance overruns_chance(uint64_t seed, uint64_t index)
+{
+    return chance_of(seed ^ UINT64_C(0x6f76657272756e73), index);
+}
+
 void gen_input(uint64_t seed, uint64_t index, text *out)
 {
-    chance c = chance_of(seed, index), woven = weaving_chance(seed, index);
+    chance c = chance_of(seed, index), woven = weaving_chance(seed, index), more = overruns_chance(seed, index);
     unsigned kind = kinds[index % ROUND];
     size_t start = out->length;
     if (kind >= RULE_BROKEN)
@@ -284,28 +316,36 @@ void gen_input(uint64_t seed, uint64_t index, text *out)
     else
         makers[kind].make(&c, out);
     gen_weave(&woven, ASKED_RUNNER, add_question, start, out);
+    gen_weave(&more, OVERRUNS_RUNNER, add_overruns_question, start, out);
 }
 
 void gen_panel_input(uint64_t seed, uint64_t index, text *out)
 {
     uint64_t own = seed ^ UINT64_C(0x70616e656c733131);
-    chance c = chance_of(own, index), woven = weaving_chance(own, index);
+    chance c = chance_of(own, index), woven = weaving_chance(own, index), more = overruns_chance(own, index);
     size_t start = out->length;
-    makers[panel_kinds[index % PANEL_ROUND]].make(&c, out);
+    makers[panel_kind(index)].make(&c, out);
+    if (panel_kind(index) == STOPS) /* long enough as it is, and it asks where it matters */
+        return;
     gen_weave(&woven, ASKED_PANEL, add_question, start, out);
+    gen_weave(&more, OVERRUNS_PANEL, add_overruns_question, start, out);
 }
 
 void gen_entries_input(uint64_t seed, uint64_t index, text *out)
 {
     static rig r;
     uint64_t own = seed ^ UINT64_C(0x656e747269657331);
-    chance c = chance_of(own, index), woven = weaving_chance(own, index);
+    chance c = chance_of(own, index), woven = weaving_chance(own, index), more = overruns_chance(own, index);
     size_t start = out->length;
-    gen_rig(&c, (rig_size)(index % 3), &r);
+    if (index % 5 == 4)
+        gen_overruns_rig(&c, &r);
+    else
+        gen_rig(&c, (rig_size)(index % 3), &r);
     gen_print_rig(&r, out);
     gen_add_run(out);
     gen_entries_script(&c, &r, pick(&c, 200, 400), out);
     gen_weave(&woven, ASKED_HARMED, add_harmed_question, start, out);
+    gen_weave(&more, OVERRUNS_HARMED, add_harmed_overruns_question, start, out);
 }
 
 /* The first full-size rig of the seed that has all 1,024 A lines and all 64 rows. */

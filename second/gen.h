@@ -28,11 +28,11 @@ const char *gen_panel_name(uint64_t index);
 
 /* ---- Lines put between those of a script (gen_weave.c) ---- */
 
-/* Appends a line that leaves the record as it is. */
-typedef void line_adder(chance *c, text *out);
+/* Appends a line that leaves the record as it is; `tasks` is how many tasks the input's rig says that it has. */
+typedef void line_adder(chance *c, unsigned tasks, text *out);
 
-/* The panel's V, now and then with something behind the verb; H of entries.h. */
-line_adder add_question, add_harmed_question;
+/* The panel's V and O, now and then with wrong fields; H and P of entries.h. */
+line_adder add_question, add_overruns_question, add_harmed_question, add_harmed_overruns_question;
 
 /*
  * Adds such a line before so many of a hundred lines of the script of the input that begins at `start` of `out`.  The
@@ -91,6 +91,12 @@ void gen_listeners_rig(chance *c, rig *out);
 /* Tasks that run again when they finish or are terminated, or wait for what another's end undoes. */
 void gen_again_rig(chance *c, rig *out);
 
+/* Tasks that minor-cycle flags start: one or several, in conditions of their own or in two; and other conditions beside them. */
+void gen_overruns_rig(chance *c, rig *out);
+
+/* Two tasks with nearly all of 15 minor-cycle flags each, and all of these in every cycle: the soonest way to a number's stop. */
+void gen_stop_rig(chance *c, rig *out);
+
 /* 64 tasks and a cycle of 15 flags, whose tick can serve 79. */
 void gen_full_serving_rig(chance *c, rig *out);
 
@@ -134,6 +140,12 @@ void gen_listeners_script(chance *c, const rig *r, unsigned lines, text *out);
 
 /* Plays such a rig: its tasks finish, or wait for each other's activation flags to go off or on; task 1 terminates. */
 void gen_again_script(chance *c, const rig *r, unsigned lines, text *out);
+
+/* Plays an overruns rig: its tasks stay active over some ticks, or end, are cancelled and scheduled anew; O lines ask in between. */
+void gen_overruns_script(chance *c, const rig *r, unsigned lines, text *out);
+
+/* Ticks a stop rig past both numbers' stops, and asks around them; then ends, cancels and schedules those tasks. */
+void gen_stop_script(chance *c, const rig *r, text *out);
 
 /* Plays a growth rig: puts its tasks to waits of both kinds, then ticks, signals and reads by turns. */
 void gen_growth_script(chance *c, const rig *r, unsigned lines, text *out);

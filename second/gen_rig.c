@@ -535,6 +535,71 @@ void gen_again_rig(chance *c, rig *out)
     make_cycles(c, out, &m);
 }
 
+/* ---- Starts that come too soon ---- */
+
+/* A condition that a minor-cycle flag brings about. */
+static void add_minor_condition(rig *r, unsigned task, unsigned position, unsigned flag)
+{
+    add_condition(r, task, position, false, true);
+    add_one_flag(r, task, position, flag);
+}
+
+/* One to three of the minor-cycle flags start the task, each in one condition or in two. */
+static unsigned make_minor_conditions(chance *c, rig *r, const makings *m, unsigned task)
+{
+    unsigned flags = likely(c, 60) ? 1 : pick(c, 2, 3), first = pick(c, 0, m->minors - 1), position = 0;
+    for (unsigned i = 0; i < flags; i++) {
+        unsigned flag = m->minor[(first + i) % m->minors];
+        for (unsigned times = likely(c, 40) ? 2 : 1; times > 0; times--)
+            add_minor_condition(r, task, position++, flag);
+    }
+    return position;
+}
+
+/*
+ * Under task 1, which rests below all others, tasks that minor-cycle flags
+ * start; some have a condition besides that a plain flag or another task's
+ * activation undoes or brings about.  Nearly every cycle has flags, most have
+ * several.
+ */
+void gen_overruns_rig(chance *c, rig *out)
+{
+    unsigned minors = pick(c, 1, 4), density = pick(c, 50, 95);
+    makings m = {.tasks = pick(c, 3, 8)};
+    begin_below_first(c, out, &m, minors);
+    for (unsigned t = 2; t <= m.tasks; t++) {
+        unsigned position = likely(c, 90) ? make_minor_conditions(c, out, &m, t) : 0;
+        if (!likely(c, 35))
+            continue;
+        add_condition(out, t, position, likely(c, 90), likely(c, 15));
+        add_one_flag(out, t, position, m.other[pick(c, likely(c, 50) ? m.activations : 0, m.others - 1)]);
+    }
+    for (unsigned k = 0; k < CYCLES; k++)
+        for (unsigned f = 1; f <= out->flags; f++)
+            if (memchr(m.minor, (int)f, m.minors) != NULL && likely(c, density))
+                out->cycle[k].flag[out->cycle[k].flags++] = (uint8_t)f;
+    make_rows(c, out, SIZE_SMALL);
+}
+
+/* Flags 1 to 15 are in every cycle; task 2 has all of them, task 3 all but one, so that it passes its stop within a tick. */
+void gen_stop_rig(chance *c, rig *out)
+{
+    unsigned spared = pick(c, 1, CYCLE_FLAGS_MAX);
+    memset(out, 0, sizeof *out);
+    out->tasks = 3;
+    out->flags = CYCLE_FLAGS_MAX;
+    out->task[1] = (rig_task){.priority = 10};
+    for (unsigned t = 2; t <= out->tasks; t++) {
+        out->task[t] = (rig_task){.controller = 1, .priority = 20};
+        for (unsigned f = 1; f <= CYCLE_FLAGS_MAX; f++)
+            if (t == 2 || f != spared)
+                add_minor_condition(out, t, f, f);
+    }
+    for (unsigned k = 0; k < CYCLES; k++)
+        for (unsigned f = 1; f <= CYCLE_FLAGS_MAX; f++)
+            out->cycle[k].flag[out->cycle[k].flags++] = (uint8_t)f;
+}
+
 enum { TRIGGER_CYCLE = 1, FULL_CYCLE = 3 };
 
 /*

@@ -629,6 +629,134 @@ void gen_again_script(chance *c, const rig *r, unsigned lines, text *out)
     }
 }
 
+/* ---- Starts that come too soon ---- */
+
+/* The panel's O, which changes nothing. */
+static void ask_overruns(player *p, unsigned task)
+{
+    text_print(p->out, "O\t%u\n", task);
+}
+
+/* A task whose number is above 0, if there is one; else any. */
+static unsigned overrun_task(player *p)
+{
+    unsigned found = pick(p->c, 1, p->e.rig.tasks), seen = 0;
+    for (unsigned t = 1; t <= p->e.rig.tasks; t++)
+        if (p->e.overruns[t] > 0 && pick(p->c, 0, seen++) == 0)
+            found = t;
+    return found;
+}
+
+/* Strikes a task that was overrun, if it is the running one's, and asks for it; after a cancel it is mostly scheduled anew. */
+static bool strike_overrun(player *p)
+{
+    unsigned task = overrun_task(p);
+    if (p->e.rig.task[task].controller != p->e.running || p->e.state[task] < INACTIVE)
+        return false;
+    bool cancels = p->e.state[task] == INACTIVE || likely(p->c, 60);
+    call(p, cancels ? 'X' : 'Z', task, 0);
+    if (likely(p->c, 70))
+        ask_overruns(p, task);
+    if (!cancels || likely(p->c, 30))
+        return true;
+    call(p, 'S', task, 0);
+    if (likely(p->c, 70))
+        ask_overruns(p, task);
+    return true;
+}
+
+/* Task 1 of an overruns rig has all others ready, then strikes one, signals, or lets time go. */
+static void overruns_first(player *p)
+{
+    unsigned way = pick(p->c, 0, 99);
+    if (way < 40 && do_schedule(p))
+        return;
+    if (way < 60 && strike_overrun(p))
+        return;
+    if (way < 70 && do_signal(p))
+        return;
+    if (way < 80)
+        call(p, 'R', pick(p->c, 1, 2), 0);
+    else
+        call(p, 'K', 0, 0);
+}
+
+/* The others take their time, so that flags come while they are active. */
+static void overruns_other(player *p)
+{
+    unsigned way = pick(p->c, 0, 99), task = p->e.running;
+    if (way < 25) {
+        call(p, 'F', 0, 0);
+        if (likely(p->c, 50))
+            ask_overruns(p, task);
+    } else if (way < 55) {
+        sleep_a_while(p);
+    } else if (way < 63 && do_wait_flag(p)) {
+        return;
+    } else if (way < 70 && do_signal(p)) {
+        return;
+    } else {
+        call(p, 'K', 0, 0);
+    }
+}
+
+void gen_overruns_script(chance *c, const rig *r, unsigned lines, text *out)
+{
+    static player p;
+    play(&p, c, r, out);
+    for (unsigned i = 0; i < lines; i++) {
+        if (likely(c, 20))
+            ask_overruns(&p, overrun_task(&p));
+        else if (p.e.running == 0)
+            call(&p, 'K', 0, 0);
+        else if (p.e.running == 1)
+            overruns_first(&p);
+        else
+            overruns_other(&p);
+    }
+}
+
+/* Whether the number is so near its stop that one or two ticks more bring it there. */
+static bool is_near_stop(const player *p, unsigned task)
+{
+    return p->e.overruns[task] < OVERRUNS_MAX && p->e.overruns[task] + 3u * CYCLE_FLAGS_MAX >= OVERRUNS_MAX;
+}
+
+static void ask_both(player *p)
+{
+    ask_overruns(p, 2);
+    ask_overruns(p, 3);
+}
+
+void gen_stop_script(chance *c, const rig *r, text *out)
+{
+    static player p;
+    enum { STAYS = 40 }; /* ticks past both stops */
+    play(&p, c, r, out);
+    call(&p, 'S', 2, 0);
+    call(&p, 'S', 3, 0);
+    for (unsigned past = 0; past < STAYS; past += p.e.overruns[3] == OVERRUNS_MAX) {
+        call(&p, 'K', 0, 0);
+        if (past > 0 || is_near_stop(&p, 2) || is_near_stop(&p, 3) || likely(c, 1))
+            ask_both(&p);
+    }
+    call(&p, 'F', 0, 0); /* task 2, which the flags have start once more: it goes on from its stop */
+    ask_both(&p);
+    call(&p, 'R', COUNT_MAX / 2, 0);
+    call(&p, 'R', COUNT_MAX / 2, 0);
+    call(&p, 'X', 2, 0);
+    call(&p, 'Z', 3, 0);
+    ask_both(&p);
+    for (unsigned i = 0; i < 3 && p.e.running != 1; i++)
+        call(&p, 'R', COUNT_MAX / 2, 0);
+    call(&p, 'S', 2, 0);
+    ask_both(&p);
+    for (unsigned i = 0; i < 4; i++) {
+        call(&p, 'K', 0, 0);
+        ask_both(&p);
+    }
+}
+
 void gen_growth_script(chance *c, const rig *r, unsigned lines, text *out)
 {
     static player p;

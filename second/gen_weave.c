@@ -4,9 +4,11 @@
 #include "entries.h"
 #include "gen.h"
 #include "runner.h"
+#include "script.h"
 
-void add_question(chance *c, text *out)
+void add_question(chance *c, unsigned tasks, text *out)
 {
+    (void)tasks;
     static const char *const wrong[] = {"V\t", "V\t1", "V\t0", "V ", "VV", "V\r", "V\t1\t1", "v", " V"};
     if (likely(c, 90))
         text_print(out, "V\n");
@@ -14,8 +16,37 @@ void add_question(chance *c, text *out)
         text_print(out, "%s\n", wrong[pick(c, 0, sizeof wrong / sizeof wrong[0] - 1)]);
 }
 
-void add_harmed_question(chance *c, text *out)
+/* Mostly one of the rig's tasks; else 0, the next ones, or far above. */
+static unsigned task_asked(chance *c, unsigned tasks)
 {
+    static const unsigned far[] = {0, 0, 64, 65, 255, 256, 65536, UINT32_MAX};
+    if (likely(c, 85) && tasks > 0)
+        return pick(c, 1, tasks);
+    return likely(c, 50) ? tasks + pick(c, 1, 2) : far[pick(c, 0, sizeof far / sizeof far[0] - 1)];
+}
+
+void add_overruns_question(chance *c, unsigned tasks, text *out)
+{
+    static const char *const wrong[] = {"O", "O\t", "O\t1\t", "O\t1\t1", "O\t01", "O\t4294967296", "O 1", "O1", "OO\t1",
+                                        "O\t1\r", "O\t-1", "O\tx", "o\t1", "\tO\t1", "O\t\t1", "O\t1 "};
+    if (likely(c, 90))
+        text_print(out, "O\t%u\n", task_asked(c, tasks));
+    else
+        text_print(out, "%s\n", wrong[pick(c, 0, sizeof wrong / sizeof wrong[0] - 1)]);
+}
+
+void add_harmed_overruns_question(chance *c, unsigned tasks, text *out)
+{
+    unsigned harm = likely(c, 40) ? HARM_NONE : pick(c, HARM_NONE + 1, HARMS - 1);
+    if (likely(c, 97))
+        text_print(out, "P\t%u\t%u\n", harm, task_asked(c, tasks));
+    else
+        text_print(out, likely(c, 50) ? "P\t0\n" : "P\t6\t1\n");
+}
+
+void add_harmed_question(chance *c, unsigned tasks, text *out)
+{
+    (void)tasks;
     if (likely(c, 97))
         text_print(out, "H\t%u\n", pick(c, 0, HARMS - 1));
     else
@@ -35,16 +66,26 @@ static bool take_script(size_t start, text *out, text *script)
     return true;
 }
 
+/* The tasks that the line RIG tells, 0 if it is no such line. */
+static unsigned tasks_told(const uint8_t *file, size_t length)
+{
+    const uint8_t *at = file + 3, *end = file + length;
+    uint32_t edition, tasks;
+    bool told = length > 3 && memcmp(file, "RIG", 3) == 0 && script_number(&at, end, &edition) && script_number(&at, end, &tasks);
+    return told && tasks <= TASKS_MAX ? tasks : 0;
+}
+
 void gen_weave(chance *c, unsigned percent, line_adder *add, size_t start, text *out)
 {
     static text script;
     if (!take_script(start, out, &script))
         return;
+    unsigned tasks = tasks_told(out->bytes + start, out->length - start);
     for (size_t at = 0; at < script.length;) {
         const uint8_t *lf = memchr(script.bytes + at, '\n', script.length - at);
         size_t next = lf != NULL ? (size_t)(lf - script.bytes) + 1 : script.length;
         if (likely(c, percent))
-            add(c, out);
+            add(c, tasks, out);
         text_add(out, script.bytes + at, next - at);
         at = next;
     }

@@ -130,7 +130,34 @@
     M(114, AGAIN_STAYED, "a task that the test made active again goes on running among its equals") \
     M(115, AGAIN_RUNS_AHEAD, "a task that the test made active again goes on running whatever the others' rank") \
     M(116, AGAIN_UNCHOSEN, "a task that the test made active again is not chosen to run") \
-    M(117, CHOSEN_BEFORE_TEST, "who runs is chosen before the test, and goes on unless the task ranks higher")
+    M(117, CHOSEN_BEFORE_TEST, "who runs is chosen before the test, and goes on unless the task ranks higher") \
+    V(118, OVERRUNS_UNCOUNTED, "overruns are not counted, 0 is told of every task") \
+    V(119, STARTED_OVERRUNS, "a task that the very service activated is counted as overrun") \
+    V(120, CONDITIONS_OVERRUN, "a service counts once for each condition that names its flag") \
+    V(121, OVERRUNS_WRAP, "a number of overruns goes from 65,535 on to 0") \
+    V(122, STOP_SHORT, "a number of overruns stops at 65,534") \
+    V(123, SCHEDULE_KEEPS_OVERRUNS, "schedule leaves the number of overruns as it is") \
+    V(124, CANCEL_CLEARS_OVERRUNS, "cancel sets the number of overruns to 0") \
+    V(125, FINISH_CLEARS_OVERRUNS, "finish sets the number of overruns to 0") \
+    V(126, TERMINATE_CLEARS_OVERRUNS, "terminate sets the number of overruns to 0") \
+    V(127, ACTIVATION_CLEARS_OVERRUNS, "every activation sets the number of overruns to 0, not the schedule alone") \
+    V(128, ANY_FLAG_OVERRUNS, "services of plain and activation flags count too") \
+    V(129, WAITING_UNCOUNTED, "a waiting task is not counted as overrun") \
+    V(130, RUNNING_ALONE_COUNTED, "the running task alone is counted as overrun") \
+    V(131, INACTIVE_OVERRUNS, "an inactive task that the flag does not start is counted as overrun") \
+    V(132, UNINVOKED_OVERRUNS, "an uninvoked task is counted as overrun") \
+    V(133, EVERYBODY_OVERRUNS, "every active task is counted as overrun, whatever flags its conditions name") \
+    V(134, ACTIVE_BEFORE_CALL, "a task that an earlier service of the call activated is not counted as overrun") \
+    V(135, ONCE_A_CALL, "a call counts once for a task, however many of the task's flags it serves") \
+    V(136, OVERRUNS_NEED_TASK, "the number of overruns is refused by 5 while no task is running") \
+    V(137, OVERRUNS_NEED_CONTROLLER, "the number of overruns is refused by 7 to a task that does not control the named one") \
+    V(138, OVERRUNS_NEED_INVOKED, "the number of overruns of an uninvoked task is refused by 8") \
+    V(139, TASK_ZERO_TOLD, "the number of overruns of task 0 is told as 0") \
+    V(140, TASKS_ABOVE_TOLD, "the number of overruns of a task that the rig does not have is told as 0") \
+    V(141, SECOND_TASK_TAKEN, "an O line with a field too many is taken") \
+    V(142, NUMBER_ZERO_UNPRINTED, "a number of overruns that is 0 is not printed") \
+    E(143, UNSOUND_HAS_NO_OVERRUNS, "0 overruns are told of a record that is not sound") \
+    E(144, NO_SUCH_BEFORE_SOUND, "a task that there cannot be is refused by 6 before the record is found unsound")
 
 #define MUTANT_NAME(number, name, text) MUTANT_##name = number,
 enum { MUTANT_LIST(MUTANT_NAME, MUTANT_NAME, MUTANT_NAME, MUTANT_NAME, MUTANT_NAME, MUTANT_NAME) MUTANT_END };

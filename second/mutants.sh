@@ -41,7 +41,7 @@ where() {
     sed -n 's/^DIFFERENT: failing-\(.*\)/input \1/p; s/^FAIL \([^:]*\):.*/test "\1"/p; s/^LINE: \(.*\), \(.*\)/line \1 "\2"/p' "$1" | head -1
 }
 
-list=$(sed -n 's/^ *\([MEPSVW]\)(\([0-9]*\), [A-Z_]*, "\(.*\)").*/\1 \2 \3/p' mutant.h)
+list=$(sed -n 's/^ *\([MEPSVW]\)(\([0-9]*\), [A-Z0-9_]*, "\(.*\)").*/\1 \2 \3/p' mutant.h)
 while read -r letter number text; do
     log=$build/log-$number
     export MUTANT="$number"

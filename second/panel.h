@@ -5,12 +5,14 @@
  * Input, output and streaming are the runner's, and all its lines mean the
  * same here and print the same.  There is also
  *
- *   V     "When does the bench next wake someone?" (request L4)
+ *   V         "When does the bench next wake someone?" (request L4)
+ *   O task    how many starts of the task came too soon (request L6)
  *
- * alone on its line.  It prints verb, answer, count, running task, woken and
- * activated (both 0: nothing is served), and then the lowest waking count among
- * tasks waiting on time; nothing more if no task so waits.  The record stays as
- * it is.
+ * each alone on its line, with a tab between the fields.  Both print verb,
+ * answer, count, running task, woken and activated (both 0: nothing is served).
+ * Then V prints the lowest waking count among tasks waiting on time, nothing
+ * more if no task so waits; O, if accepted, the task's number of overruns, also
+ * if it is 0.  The record stays as it is.
  */
 #ifndef SECOND_PANEL_H
 #define SECOND_PANEL_H
@@ -22,7 +24,8 @@
 #include "exec.h"
 
 typedef struct {
-    char verb; /* V */
+    char verb;     /* V or O */
+    uint32_t task; /* O */
 } panel_call;
 
 /* Whether a line without its LF is one of the panel's own. */

@@ -22,7 +22,8 @@ enum {
     RIG_FILE_MAX = 40960,
     BLOCK_WORDS = 33,    /* a tag word, then up to 32 words of data */
     TICK_WORDS = 128,    /* the least buffer a tick is lent */
-    SERVED_MAX = 79      /* 15 minor-cycle flags and 64 activations */
+    SERVED_MAX = 79,     /* 15 minor-cycle flags and 64 activations */
+    OVERRUNS_MAX = 65535 /* where a task's number of overruns stops (request L6) */
 };
 
 #define COUNT_MAX UINT32_C(2147483647)

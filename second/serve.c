@@ -141,6 +141,8 @@ bool exec_as_desired(const exec *e, unsigned task)
 void activate(exec *e, serving *s, unsigned task)
 {
     make_dispatchable(e, task);
+    if (MUTATED(ACTIVATION_CLEARS_OVERRUNS))
+        e->overruns[task] = 0;
     if (!MUTATED(ACTIVATION_KEEPS))
         reset_unlatched(e, task);
     queue_activation(s, e, task, 1);
@@ -193,11 +195,6 @@ static void serve_flag(exec *e, serving *s, unsigned flag, unsigned value)
 }
 
 /* ---- Whom a service woke, and whom it activated ---- */
-
-/* The states of all tasks; those past the rig's are UNINVOKED. */
-typedef struct {
-    uint8_t of[TASKS_MAX];
-} task_states;
 
 static task_states states_now(const exec *e)
 {
@@ -262,6 +259,7 @@ void serve_one(exec *e, serving *s)
     task_states before = states_now(e);
     serve_flag(e, s, flag, value);
     count_heard(e, s, &before, flag, value);
+    count_overruns(e, s, &before, flag);
 }
 
 void serve_all(exec *e, serving *s)

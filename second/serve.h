@@ -21,6 +21,11 @@ typedef struct {
     } entry[QUEUE_ROOM];
 } serving;
 
+/* The states of all tasks; those past the rig's are UNINVOKED. */
+typedef struct {
+    uint8_t of[TASKS_MAX];
+} task_states;
+
 /* The running task begins to wait. */
 void wait_on_time(exec *e, uint32_t waking);
 void wait_on_flag(exec *e, uint32_t flag, bool value);
@@ -38,6 +43,9 @@ void queue_activation(serving *s, const exec *e, unsigned task, unsigned value);
 /* Serves what is next in the queue, which is not empty; serves until it is. */
 void serve_one(exec *e, serving *s);
 void serve_all(exec *e, serving *s);
+
+/* Counts the overruns of one service of the flag, by the tasks' states before it (overruns.c). */
+void count_overruns(exec *e, const serving *s, const task_states *before, unsigned flag);
 
 /* Unlatched conditions take the undesired value. */
 void reset_unlatched(exec *e, unsigned task);

@@ -69,6 +69,13 @@ static bool values_hold(const exec *e)
            all_zero(e->condition + tasks + 1, (TASKS_MAX - tasks) * sizeof e->condition[0]);
 }
 
+/* A number of overruns has 16 bits, so it is never above its stop; who is no task has none. */
+static bool overruns_hold(const exec *e)
+{
+    unsigned tasks = e->rig.tasks;
+    return e->overruns[0] == 0 && all_zero(e->overruns + tasks + 1, (TASKS_MAX - tasks) * sizeof e->overruns[0]);
+}
+
 /* An activation flag is on exactly while its task is active. */
 static bool activations_agree(const exec *e)
 {
@@ -173,6 +180,6 @@ bool exec_sound(const exec *e)
 {
     flag_set minor;
     return judge_rig(&e->rig, &minor) == RULE_KEPT && kinds_agree(e, &minor) && places_agree(e) &&
-           e->count <= COUNT_MAX && states_hold(e) && values_hold(e) && activations_agree(e) &&
-           waits_hold(e) && running_holds(e);
+           e->count <= COUNT_MAX && states_hold(e) && values_hold(e) && overruns_hold(e) &&
+           activations_agree(e) && waits_hold(e) && running_holds(e);
 }

@@ -14,6 +14,7 @@ typedef struct {
     exec e, before;
     char wait_verb[TASKS_MAX + 1]; /* that began the task's wait; 0 if it does not wait */
     panel_waits waits;
+    overruns_history overruns;
     bool told; /* whether the last line with woken and activated told one that is not 0 */
     entries_area area;
     text *output;
@@ -101,6 +102,7 @@ static void count_call(run *r, const script_call *call, const answer *a)
     count_waits(r, call);
     tally_heard_call(&r->t->heard, call, &r->before, &r->e, a);
     tally_again_call(&r->t->again, ended_by(r, call), &r->before, &r->e, a);
+    tally_overruns_call(&r->overruns, call, &r->before, &r->e);
     tally_panel_waits(&r->waits, &r->before, &r->e, r->before.running, strchr("XZ", call->verb) != NULL);
 }
 
@@ -115,6 +117,8 @@ static size_t run_entries_call(run *r, const entries_call *call, char *out)
     r->t->call[(unsigned char)call->verb][a.refusal]++;
     if (call->verb == 'H')
         tally_panel_harmed(&r->t->panel, call, &a);
+    else if (call->verb == 'P')
+        tally_overruns_harmed(&r->t->overruns, call, &r->e, &a);
     else
         tally_heard_line(&r->t->heard, &r->told, call->verb, &a);
     if (call->verb == 'J' && a.refusal == ACCEPTED) {
@@ -130,7 +134,10 @@ static size_t run_panel_call(run *r, const panel_call *call, char *out)
     answer a;
     size_t n = panel_run(&r->e, call, &a, out);
     r->t->call[(unsigned char)call->verb][a.refusal]++;
-    tally_panel_answer(&r->t->panel, &r->waits, &r->e, &a);
+    if (call->verb == 'V')
+        tally_panel_answer(&r->t->panel, &r->waits, &r->e, &a);
+    else
+        tally_overruns_answer(&r->t->overruns, &r->overruns, call->task, &r->e, &a);
     tally_heard_line(&r->t->heard, &r->told, call->verb, &a);
     return n;
 }
@@ -159,8 +166,10 @@ static size_t run_line(run *r, const uint8_t *line, size_t length, bool whole, l
         return printed;
     if (!whole || !script_judge(line, length, &call)) {
         r->t->call['?'][BAD_SHAPE]++;
-        if (whole)
+        if (whole) {
             tally_panel_wrong(&r->t->panel, line, length, taken == PANEL_LINES);
+            tally_overruns_wrong(&r->t->overruns, line, length, taken == PANEL_LINES);
+        }
         return print_wrong_line(out);
     }
     r->before = r->e;
@@ -220,7 +229,8 @@ static const struct {
     {'F', "finish", "e"},          {'K', "tick", ""},                {'U', "wait until", "ei"},
     {'R', "wait cycles", "ei"},    {'L', "wait latched", "efg"},     {'N', "wait unlatched", "efg"},
     {'G', "signal", "efg"},        {'Q', "read flag", "efg"},        {'W', "block write", "efj"},
-    {'D', "block read", "efj"},    {'J', "tick, any room", "j"},     {'V', "next waking", ""}};
+    {'D', "block read", "efj"},    {'J', "tick, any room", "j"},     {'V', "next waking", ""},
+    {'O', "overruns", "f"}};
 
 enum { VERBS = sizeof verbs / sizeof verbs[0] };
 
@@ -275,6 +285,7 @@ void tally_print(const tally *t, FILE *to)
     tally_panel_print(&t->panel, to);
     tally_heard_print(&t->heard, to);
     tally_again_print(&t->again, to);
+    tally_overruns_print(&t->overruns, to);
 }
 
 /* ---- What was hit too seldom ---- */

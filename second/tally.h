@@ -14,6 +14,7 @@
 #include "rig.h"
 #include "tally_again.h"
 #include "tally_heard.h"
+#include "tally_overruns.h"
 #include "tally_panel.h"
 #include "tally_stream.h"
 
@@ -37,6 +38,7 @@ typedef struct {
     panel_tally panel;
     heard_tally heard;
     again_tally again;
+    overruns_tally overruns;
 } tally;
 
 /* Which lines a program takes: the runner's alone, or those of entries.h or panel.h besides. */

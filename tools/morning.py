@@ -25,11 +25,12 @@ CALLS = {
     "G": "signal %s=%s",
     "Q": "read flag %s",
     "V": "next waking",
+    "O": "overruns of %s",
 }
 
 NOT_A_CALL = "?"
 
-OF_VALUES = "QV"  # verbs that ask, and are answered by one number
+OF_VALUES = "QVO"  # verbs that ask, and are answered by one number
 NO_VALUE = {"V": "none"}  # how it is told that an accepted question was answered by no number
 
 OF_TASKS = "SXZ"
@@ -51,6 +52,7 @@ REFUSALS_OF_VERB = {
     ("S", 6): "no such task",
     ("X", 6): "no such task",
     ("Z", 6): "no such task",
+    ("O", 6): "no such task",
     ("S", 7): "the caller is not its controller",
     ("X", 7): "the caller is not its controller",
     ("Z", 7): "the caller is not its controller",

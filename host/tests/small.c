@@ -25,6 +25,7 @@ int main(void)
         printf("count %u, running task %u, %u bus words\n", reply.count, reply.running, reply.words);
     }
     printf("the next waking is at count %u\n", algolmallet_next_waking(record).value); /* 0 for none */
+    printf("%u starts of task 1 came too soon\n", algolmallet_overruns(record, 1).value);
     free(record);
     return 0;
 }

@@ -52,6 +52,7 @@ void heard_tests(void);
 void again_tests(void);
 void sound_tests(void);
 void panel_tests(void);
+void overruns_tests(void);
 void runner_tests(void);
 void gen_tests(void);
 

@@ -141,6 +141,7 @@ int main(int argc, char **argv)
     again_tests();
     sound_tests();
     panel_tests();
+    overruns_tests();
     runner_tests();
     gen_tests();
     printf("%u passed, %u failed\n", passed, failed);

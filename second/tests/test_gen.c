@@ -24,9 +24,9 @@ static void same_seed_same_input(void)
 static void right_rigs_are_right(void)
 {
     static rig r;
-    for (unsigned i = 0; i < 600; i++) {
+    for (unsigned i = 0; i < 720; i++) {
         chance c = chance_of(6, i);
-        switch (i % 10) {
+        switch (i % 12) {
         case 3:
             gen_restarting_rig(&c, &r);
             break;
@@ -48,8 +48,14 @@ static void right_rigs_are_right(void)
         case 9:
             gen_again_rig(&c, &r);
             break;
+        case 10:
+            gen_overruns_rig(&c, &r);
+            break;
+        case 11:
+            gen_stop_rig(&c, &r);
+            break;
         default:
-            gen_rig(&c, (rig_size)(i % 10), &r);
+            gen_rig(&c, (rig_size)(i % 12), &r);
             break;
         }
         CHECK_IS(rig_broken_rule(&r), RULE_KEPT);
@@ -120,6 +126,7 @@ static void rounds_of_inputs(void)
         CHECK_IS(t.call[verb][NOT_SOUND], 0); /* 12 never follows from an accepted start */
     CHECK_IS(t.most_served, SERVED_MAX);
     CHECK(t.panel.off > 0 && t.panel.counts == 0);
+    CHECK(t.overruns.off > 0 && t.overruns.zero + t.overruns.above_zero == 0);
     CHECK_IS(tally_heard_missing(&t.heard, 1, stdout), 0);
     CHECK_IS(tally_again_missing(&t.again, 1, stdout), 0);
 }
@@ -143,6 +150,10 @@ static void rounds_for_the_panel(void)
     CHECK(t.panel.counts > 0 && t.panel.nones > 0 && t.panel.nobody_runs > 0 && t.panel.fields > 0);
     CHECK(t.panel.several > 0 && t.panel.overtaken > 0 && t.panel.struck > 0);
     CHECK(t.heard.asked_next > 0);
+    CHECK_IS(t.call['O'][ACCEPTED], t.overruns.zero + t.overruns.above_zero);
+    CHECK_IS(t.call['O'][NO_SUCH], t.overruns.task_0 + t.overruns.too_high);
+    CHECK_IS(t.call['O'][NOT_SOUND] + t.overruns.off, 0);
+    CHECK_IS(tally_overruns_missing(&t.overruns, 1, stdout), 0);
 }
 
 static void rounds_of_entries(void)
@@ -153,6 +164,7 @@ static void rounds_of_entries(void)
     for (unsigned harm = HARM_NONE; harm < HARMS; harm++)
         CHECK(t.panel.harmed[harm] > 0);
     CHECK_IS(tally_heard_missing_entries(&t.heard, 1, stdout), 0);
+    CHECK_IS(tally_overruns_missing_harmed(&t.overruns, 1, stdout), 0);
 }
 
 /* Where nothing was hit, everything is missed: a comparison that never meets it does not pass. */
@@ -160,6 +172,7 @@ static void unhit_counters_are_missed(void)
 {
     static const heard_tally none;
     static const again_tally never, left = {.left = 1};
+    static const overruns_tally untold;
     FILE *said = tmpfile();
     CHECK(said != NULL);
     if (said == NULL)
@@ -169,6 +182,9 @@ static void unhit_counters_are_missed(void)
     CHECK_IS(tally_heard_missing_entries(&none, 1, said), 2);
     CHECK_IS(tally_again_missing(&never, 1, said), 18);
     CHECK_IS(tally_again_missing(&left, 0, said), 1);
+    CHECK_IS(tally_overruns_missing(&untold, 1, said), 14);
+    CHECK_IS(tally_overruns_missing_off(&untold, 1, said), 1);
+    CHECK_IS(tally_overruns_missing_harmed(&untold, 1, said), 7);
     fclose(said);
 }
 

@@ -202,7 +202,7 @@ static void example_rigs(void)
     snprintf(panel, sizeof panel, "%s/panel", rigs_folder);
     CHECK(check_examples(MODE_RUN, rigs_folder) >= 4);
     CHECK(check_examples(MODE_PANEL, rigs_folder) >= 4);
-    CHECK(check_examples(MODE_PANEL, panel) >= 1);
+    CHECK(check_examples(MODE_PANEL, panel) >= 2);
 }
 
 void runner_tests(void)

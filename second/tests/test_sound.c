@@ -37,6 +37,7 @@ static void every_call_refuses(void)
     CHECK_IS(exec_signal(&bad, 9, true).refusal, NOT_SOUND);
     CHECK_IS(exec_read_flag(&bad, 9).refusal, NOT_SOUND);
     CHECK_IS(exec_next_waking(&bad).refusal, NOT_SOUND);
+    CHECK_IS(exec_overruns(&bad, 9).refusal, NOT_SOUND);
     CHECK_IS(exec_tick(&bad, words, 0).refusal, NOT_SOUND);
     CHECK_IS(exec_write_block(&bad, 9, area, 0, data, 0).refusal, NOT_SOUND);
     CHECK_IS(exec_read_block(&bad, 9, area, 0, data, 0).refusal, NOT_SOUND);
@@ -82,6 +83,9 @@ static void broken_states(void)
     DAMAGED(bad.value[0] = 1);
     DAMAGED(bad.value[5] = 1);
     DAMAGED(bad.value[2] = 0); /* the activation flag of an active task */
+    DAMAGED(bad.overruns[0] = 1);
+    DAMAGED(bad.overruns[5] = 65535); /* the rig has four tasks */
+    DAMAGED(bad.overruns[64] = 1);
     DAMAGED(bad.condition[4] = 2);
     DAMAGED(bad.condition[1] = 1);
     DAMAGED(bad.condition[64] = 1);

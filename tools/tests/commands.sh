@@ -48,6 +48,7 @@ helps() {
     expect 0 'After F and Z, once all flags are served, the task that ended is tested again' ./bench --help
     expect 0 '^Panel:   V ' ./bench --panel --help
     expect 0 '^Panel:   V ' ./bench --help --panel
+    expect 0 '^         O task ' ./bench --panel --help
     expect_in 0 '^0$' './bench --help | grep -c "^Panel:" || true'
     for command in second/build/compare second/build/gen second/build/runner; do
         expect 0 "^usage: ${command##*/}" "$command" --help
@@ -75,6 +76,11 @@ runs() {
     expect_in 0 '^0$' './bench rigs/panel/waking.rig | grep -c "^V" || true'
     expect_in 0 '^same$' 'cmp <(./bench --panel rigs/morning.rig) rigs/morning.out && echo same'
     expect 0 'next waking  *accepted  *0  *none  *0  *0  *3$' ./bench --table --panel rigs/panel/waking.rig
+    expect 0 "^O${tab}0${tab}4${tab}0${tab}0${tab}0${tab}1$" ./bench --panel rigs/panel/overruns.rig
+    expect 0 "^O${tab}6${tab}8${tab}2${tab}0${tab}0$" ./bench --panel rigs/panel/overruns.rig
+    expect_in 0 '^0$' './bench rigs/panel/overruns.rig | grep -c "^O" || true'
+    expect 0 'overruns of 2  *accepted  *5  *1  *0  *0  *4$' ./bench --table --panel rigs/panel/overruns.rig
+    expect 0 'overruns of 0  *6: no such task  *8  *2  *0  *0$' ./bench --table --panel rigs/panel/overruns.rig
     expect 1 "^START${tab}3${tab}6$" ./bench --panel rigs/broken/order.rig
     expect 0 '^right' ./rigcheck rigs/morning-rig.rig
     expect_in 0 '^right' './rigcheck < rigs/morning-rig.rig'

@@ -35,8 +35,8 @@ fn alone(panel: bool, v: u8) -> Said
     Said::Wrong
 }
 
-fn with_number(v: u8, n: u32) -> Said
-    ensures { λ r. ⌜ r ≡ withNumber v n ⌝ }
+fn with_number(panel: bool, v: u8, n: u32) -> Said
+    ensures { λ r. ⌜ r ≡ withNumber panel v n ⌝ }
 {
     if v == b'S' {
         return Said::Schedule(n);
@@ -55,6 +55,9 @@ fn with_number(v: u8, n: u32) -> Said
     }
     if v == b'Q' {
         return Said::Ask(n);
+    }
+    if v == b'O' {
+        return of_panel(panel, Said::Overruns(n));
     }
     Said::Wrong
 }
@@ -91,7 +94,7 @@ pub fn read_line(panel: bool, line: &[u8]) -> Said
         return Said::Wrong;
     }
     if q == e {
-        return with_number(v, n as u32);
+        return with_number(panel, v, n as u32);
     }
     let b = q + 1;
     let t = text::find(line, b, e, bench_script::TAB);

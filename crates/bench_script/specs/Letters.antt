@@ -43,6 +43,10 @@ askVerb = 81
 abbrev pub nextWakingVerb : ℕ
 nextWakingVerb = 86
 
+-- and `O` task, its number of overruns
+abbrev pub overrunsVerb : ℕ
+overrunsVerb = 79
+
 -- "any other script line .. prints ? alone"
 abbrev pub question : ℕ
 question = 63

@@ -6,9 +6,9 @@ use mathlib.Core.List.{List, [], _∷_}
 use lib.Dec.{ltb, eqb}
 use Rattle.decimal.specs.Decimal.{cap, number}
 use Rattle.text.specs.Split.{split}
-use Rattle.bench_script.specs.Letters.{tab, scheduleVerb, cancelVerb, terminateVerb, finishVerb, tickVerb, untilVerb, cyclesVerb, latchedVerb, unlatchedVerb, signalVerb, askVerb, nextWakingVerb}
+use Rattle.bench_script.specs.Letters.{tab, scheduleVerb, cancelVerb, terminateVerb, finishVerb, tickVerb, untilVerb, cyclesVerb, latchedVerb, unlatchedVerb, signalVerb, askVerb, nextWakingVerb, overrunsVerb}
 use Rattle.bench_script.specs.declared.Said.{Said}
-use Rattle.bench_script.specs.declared.Said.the-variants.{Schedule, Cancel, Terminate, Finish, Tick, Until, Cycles, Latched, Unlatched, Signal, Ask, NextWaking, Wrong}
+use Rattle.bench_script.specs.declared.Said.the-variants.{Schedule, Cancel, Terminate, Finish, Tick, Until, Cycles, Latched, Unlatched, Signal, Ask, NextWaking, Overruns, Wrong}
 
 -- a verb is one letter; 0 is none
 unfoldable pub verbOf : List ℕ → ℕ
@@ -27,15 +27,16 @@ alone panel v =
     (cond (eqb v tickVerb) Tick
     (cond (eqb v nextWakingVerb) (ofPanel panel NextWaking) Wrong))
 
--- "S, X, Z task (schedule, cancel, terminate)", "U count; R cycles", "Q flag"
-unfoldable pub withNumber : ℕ → ℕ → Said
-withNumber v n =
+-- "S, X, Z task (schedule, cancel, terminate)", "U count; R cycles", "Q flag"; of the panel O
+unfoldable pub withNumber : Bool → ℕ → ℕ → Said
+withNumber panel v n =
     cond (eqb v scheduleVerb) (Schedule n)
     (cond (eqb v cancelVerb) (Cancel n)
     (cond (eqb v terminateVerb) (Terminate n)
     (cond (eqb v untilVerb) (Until n)
     (cond (eqb v cyclesVerb) (Cycles n)
-    (cond (eqb v askVerb) (Ask n) Wrong)))))
+    (cond (eqb v askVerb) (Ask n)
+    (cond (eqb v overrunsVerb) (ofPanel panel (Overruns n)) Wrong))))))
 
 -- "L or N flag value (latched, unlatched wait); G flag value"
 unfoldable pub withValue : ℕ → ℕ → Bool → Said
@@ -45,7 +46,7 @@ withValue v f b = cond (eqb v latchedVerb) (Latched f b) (cond (eqb v unlatchedV
 unfoldable pub fieldsSay : Bool → List (List ℕ) → Said
 fieldsSay panel [] = Wrong
 fieldsSay panel (v ∷ []) = alone panel (verbOf v)
-fieldsSay panel (v ∷ n ∷ []) = cond (ltb (number n) cap) (withNumber (verbOf v) (number n)) Wrong
+fieldsSay panel (v ∷ n ∷ []) = cond (ltb (number n) cap) (withNumber panel (verbOf v) (number n)) Wrong
 fieldsSay panel (v ∷ f ∷ b ∷ []) =
     cond (ltb (number f) cap && ltb (number b) 2) (withValue (verbOf v) (number f) (eqb (number b) 1)) Wrong
 fieldsSay panel (v ∷ f ∷ b ∷ x ∷ xs) = Wrong

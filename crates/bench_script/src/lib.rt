@@ -37,6 +37,7 @@ pub enum Said {
     Signal(u32, bool),
     Ask(u32),
     NextWaking,
+    Overruns(u32),
     Wrong,
 }
 

@@ -7,7 +7,7 @@ use Prim.Native.Nat.{ℕ}
 use lib.Dec.{eqb}
 use lib.ListN.{take}
 use Rattle.rules.specs.Calls as R
-use Rattle.bench_script.specs.Letters.{tickVerb, askVerb, nextWakingVerb}
+use Rattle.bench_script.specs.Letters.{tickVerb, askVerb, nextWakingVerb, overrunsVerb}
 use Rattle.bench_script.specs.Output.{ifAny, lineText}
 
 -- "Its lent buffer has at least 128 words"
@@ -19,12 +19,13 @@ abbrev pub extraRoom : ℕ
 extraRoom = 1408
 
 -- "bus words or the flag's value": of a tick (K) the words that it wrote, of a reading (Q) the value; of the panel's V "the lowest
--- waking count; nothing if no task waits on time"
+-- waking count; nothing if no task waits on time", of O the number of overruns, 0 too
 unfoldable pub extra : ℕ → R.Report → List ℕ → List ℕ
 extra verb report words =
     cond (eqb verb tickVerb) (take (report .words) words)
     (cond (eqb verb askVerb) (report .value ∷ [])
-    (cond (eqb verb nextWakingVerb) (ifAny (report .value)) []))
+    (cond (eqb verb nextWakingVerb) (ifAny (report .value))
+    (cond (eqb verb overrunsVerb) (report .value ∷ []) [])))
 
 -- the numbers that every answer has: "answer (0 accepted), count, running task (0 none)", woken and activated. A refused answer's report is
 -- `nothing`: "a refusal shows 0 and 0".

@@ -9,7 +9,8 @@ ghost use Rattle.bench_script.specs.Output.{fieldsText, turnRoom};
 ghost use Rattle.exec.specs.Call.{reportOf, answerOf, ProperAnswer};
 ghost use Rattle.bench_show.specs.Shown.{extraRoom, extra, textOf, wordsLent};
 
-// Bus words of a tick, the value of a flag that was read, the lowest waking count if there is one, nothing of any other call.
+// Bus words of a tick, the value of a flag that was read, the lowest waking count if there is one, a task's number of overruns, nothing of
+// any other call.
 fn put_extra(verb: u8, report: Report, words: &[u16], out: &mut [u8], at: usize) -> usize
     requires { ⌜ (length (now words) ≤ wordsLent) × (at + extraRoom ≤ length (now out)) ⌝ }
     ensures { λ r. ⌜ Wrote (now (out .entry)) at (fieldsText (extra verb (reportOf report) (now (words .entry)))) (now (out .exit)) r ⌝ }
@@ -23,6 +24,9 @@ fn put_extra(verb: u8, report: Report, words: &[u16], out: &mut [u8], at: usize)
     }
     if verb == b'V' {
         return bench_script::put_if_any(out, at, report.value);
+    }
+    if verb == b'O' {
+        return bench_script::put_field(out, at, report.value);
     }
     at
 }

@@ -38,6 +38,7 @@ fn letter(said: Said) -> u8
         Said::Signal(f, v) => b'G',
         Said::Ask(f) => b'Q',
         Said::NextWaking => b'V',
+        Said::Overruns(t) => b'O',
         Said::Wrong => b'?',
     }
 }
@@ -59,6 +60,7 @@ fn ask(e: Exec, said: Said, words: &mut [u16]) -> Step
         Said::Signal(f, v) => e.signal(f, v),
         Said::Ask(f) => e.read_flag(f),
         Said::NextWaking => e.next_waking(),
+        Said::Overruns(t) => e.overruns(t),
         Said::Wrong => Step {
             exec: e,
             answer: Answer::Refused(WRONG_SHAPE),

@@ -26,6 +26,7 @@ noState =
       cond = replicate conditionPlaces 0;
       state = replicate taskPlaces 0;
       wake = replicate taskPlaces 0;
+      overruns = replicate taskPlaces 0;
       links = record { next = replicate nodes 0; prev = replicate nodes 0; on = replicate taskPlaces 0 };
       running = 0;
     }

@@ -146,4 +146,14 @@ impl Exec {
         let st = self.st;
         self.after(exec_questions::next_waking(rig, cycles, st))
     }
+
+    // How many of the task's starts came too soon. The value that is told is its number of overruns.
+    pub fn overruns(self, task: u32) -> Step
+        ensures { λ r. ⌜ Meets self (Call.readOverruns task) r [] ⌝ }
+    {
+        let rig = self.rig;
+        let cycles = self.cycles;
+        let st = self.st;
+        self.after(exec_questions::overruns(rig, cycles, st, task))
+    }
 }

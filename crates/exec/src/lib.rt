@@ -59,6 +59,7 @@ pub fn none() -> Exec
             cond: [0; CONDITIONS],
             state: [0; TASK_PLACES],
             wake: [0; TASK_PLACES],
+            overruns: [0; TASK_PLACES],
             links: Links {
                 next: [0; NODES],
                 prev: [0; NODES],

@@ -17,7 +17,9 @@ pub fn tick(rig: Rig, cycles: [Cycle; CYCLES], st: State, out: &mut [u16]) -> Ou
     if n != 0 {
         return exec_outcome::refused(st, n);
     }
-    let mut o = exec_outcome::settle(rig, exec_waking::ticked(st, cycles));
+    let w = exec_waking::ticked(st, cycles);
+    let cycle = exec_waking::cycle_at(cycles, w.st.count);
+    let mut o = exec_outcome::settle_in(rig, cycle, w);
     let rows = rig.row;
     let words = compool::bus_words(rows, rig.rows as usize, rig.master, o.st.count, out);
     o.words = words as u32;

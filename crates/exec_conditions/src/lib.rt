@@ -3,6 +3,7 @@
 use rig_tables::CONDITIONS;
 use rig_tables::LINES;
 use rig_tables::POSITIONS;
+use rig_tables::TASK_PLACES;
 ghost use mathlib.Core.Path.{_≡_};
 ghost use mathlib.Core.Bool.{cond, not, _&&_, _||_};
 ghost use Prim.Native.Nat.{_+_, _-_, _≤_};
@@ -10,7 +11,7 @@ ghost use lib.Dec.{eqb};
 ghost use Rattle.rig_tables.specs.Tests.{at};
 ghost use Rattle.laws.specs.Any.{any};
 ghost use Rattle.rules.specs.Conditions.{relax, met, drive, names};
-ghost use Rattle.exec_conditions.specs.Lines.{Lines, past};
+ghost use Rattle.exec_conditions.specs.Lines.{Lines, marked, past};
 
 const INACTIVE: u8 = 1;
 
@@ -83,8 +84,8 @@ pub fn met<'a>(
     true
 }
 
-// Every condition with an A line of the flag f, of the first n, takes v. Few lines are of one flag: sixteen are passed
-// over at once.
+// Every condition with an A line of the flag f, of the first n, takes v, and its task is marked in `named`: who has the flag in a
+// condition is known from this one pass. Few lines are of one flag: sixteen are passed over at once.
 pub fn drive<'a>(
     lineTask: &'a [u8; LINES],
     linePos: &'a [u8; LINES],
@@ -93,18 +94,19 @@ pub fn drive<'a>(
     f: u8,
     v: u8,
     cond: &mut [u8; CONDITIONS],
+    named: &mut [u8; TASK_PLACES],
 )
     requires { ⌜ Lines n (now lineTask) (now linePos) ⌝ }
-    ensures { λ r. ⌜ now (cond .exit) ≡ drive n (at (now (lineTask .entry))) (at (now (linePos .entry))) (at (now (lineFlag .entry))) f v (now (cond .entry)) ⌝ }
+    ensures { λ r. ⌜ (now (cond .exit) ≡ drive n (at (now (lineTask .entry))) (at (now (linePos .entry))) (at (now (lineFlag .entry))) f v (now (cond .entry))) × (now (named .exit) ≡ marked n (at (now (lineTask .entry))) (at (now (lineFlag .entry))) f (now (named .entry))) ⌝ }
 {
     let mut k: usize = 0;
     while k + BLOCK <= n {
         if named_from(lineFlag, k, f) {
-            drive_from(lineTask, linePos, lineFlag, k, BLOCK, f, v, cond);
+            drive_from(lineTask, linePos, lineFlag, k, BLOCK, f, v, cond, named);
         }
         k = k + BLOCK;
     }
-    drive_from(lineTask, linePos, lineFlag, k, n - k, f, v, cond);
+    drive_from(lineTask, linePos, lineFlag, k, n - k, f, v, cond, named);
 }
 
 // The same of m lines from line k on.
@@ -117,9 +119,10 @@ fn drive_from<'a>(
     f: u8,
     v: u8,
     cond: &mut [u8; CONDITIONS],
+    named: &mut [u8; TASK_PLACES],
 )
     requires { ⌜ Lines (k + m) (now lineTask) (now linePos) ⌝ }
-    ensures { λ r. ⌜ now (cond .exit) ≡ drive m (past k (now (lineTask .entry))) (past k (now (linePos .entry))) (past k (now (lineFlag .entry))) f v (now (cond .entry)) ⌝ }
+    ensures { λ r. ⌜ (now (cond .exit) ≡ drive m (past k (now (lineTask .entry))) (past k (now (linePos .entry))) (past k (now (lineFlag .entry))) f v (now (cond .entry))) × (now (named .exit) ≡ marked m (past k (now (lineTask .entry))) (past k (now (lineFlag .entry))) f (now (named .entry))) ⌝ }
 {
     let mut i: usize = 0;
     while i < m {
@@ -128,6 +131,7 @@ fn drive_from<'a>(
             let t = lineTask[l] as usize;
             let p = linePos[l] as usize;
             cond[POSITIONS * t + p] = v;
+            named[t] = 1;
         }
         i = i + 1;
     }

@@ -1,5 +1,5 @@
-// The waits of the running task, and the question when the next wait for a count ends, on a record that is lent to be changed where it
-// stands, in the form of crate exec_lent.
+// The waits of the running task, and the questions (when the next wait for a count ends, how many of a task's starts came too soon), on a
+// record that is lent to be changed where it stands, in the form of crate exec_lent.
 use exec::Answer;
 use exec::Exec;
 ghost use mathlib.Core.List.{[]};
@@ -44,6 +44,15 @@ pub fn next_waking(e: &mut Exec) -> Answer
     ensures { λ r. ⌜ Meets (now (e .entry)) Call.nextWaking (stepOf (now (e .exit)) r) [] ⌝ }
 {
     let s = (*e).next_waking();
+    *e = s.exec;
+    s.answer
+}
+
+// How many of the task's starts came too soon.
+pub fn overruns(e: &mut Exec, task: u32) -> Answer
+    ensures { λ r. ⌜ Meets (now (e .entry)) (Call.readOverruns task) (stepOf (now (e .exit)) r) [] ⌝ }
+{
+    let s = (*e).overruns(task);
     *e = s.exec;
     s.answer
 }

@@ -1,10 +1,12 @@
 // What a call comes to: the state after it, its refusal's number, and what it tells.
 use exec_state::State;
 use exec_state::Work;
+use rig::Cycle;
 use rig::Rig;
+use rig_tables::CYCLE_FLAGS;
 ghost use mathlib.Core.Path.{_≡_};
 ghost use Rattle.exec_outcome.specs.Outcome.{refusedBy, keptWith};
-ghost use Rattle.exec_outcome.specs.Laws.Settling.{Settles, SettlesAgain, Settled};
+ghost use Rattle.exec_outcome.specs.Laws.Settling.{Settles, SettlesAgain, emptyCycle, Settled};
 
 // The refusal's number is 0 for an accepted call. Told are the flags served, how many waiting tasks that made dispatchable and how
 // many it activated, the bus words and a value. What a refused call tells is 0, and its state is as it was.
@@ -48,16 +50,18 @@ pub fn kept(st: State, value: u32) -> Outcome
     }
 }
 
-// What a call has queued is served, and then it is decided who runs.
-pub fn settle(rig: Rig, w: Work) -> Outcome
+// What a call has queued is served, and then it is decided who runs. Of the flags that are served, those of the cycle are
+// minor-cycle flags.
+pub fn settle_in(rig: Rig, cycle: Cycle, w: Work) -> Outcome
     requires { ⌜ Settles rig w ⌝ }
-    ensures { λ r. ⌜ Settled rig w 0 r ⌝ }
+    ensures { λ r. ⌜ Settled rig cycle w 0 r ⌝ }
 {
     let st = w.st;
     let queue = w.queue;
     let d = exec_serving::serve(
         st,
         queue,
+        cycle,
         rig.lines as usize,
         &rig.present,
         &rig.latched,
@@ -82,16 +86,31 @@ pub fn settle(rig: Rig, w: Work) -> Outcome
     }
 }
 
+// A call other than the tick serves no minor-cycle flag.
+pub fn settle(rig: Rig, w: Work) -> Outcome
+    requires { ⌜ Settles rig w ⌝ }
+    ensures { λ r. ⌜ Settled rig emptyCycle w 0 r ⌝ }
+{
+    let cycle = Cycle {
+        flags: [0; CYCLE_FLAGS],
+    };
+    settle_in(rig, cycle, w)
+}
+
 // "After finish and terminate": once what is queued is served, task t is tested again, and what that queues is served too.
 pub fn settle_again(rig: Rig, w: Work, t: usize) -> Outcome
     requires { ⌜ SettlesAgain rig w t ⌝ }
-    ensures { λ r. ⌜ Settled rig w t r ⌝ }
+    ensures { λ r. ⌜ Settled rig emptyCycle w t r ⌝ }
 {
     let st = w.st;
     let queue = w.queue;
+    let cycle = Cycle {
+        flags: [0; CYCLE_FLAGS],
+    };
     let d = exec_serving::serve(
         st,
         queue,
+        cycle,
         rig.lines as usize,
         &rig.present,
         &rig.latched,

@@ -1,1 +1,2 @@
 pub mod NextWaking
+pub mod Overruns

@@ -7,7 +7,8 @@ use lib.Dec.{eqb, leb, ltb}
 use Rattle.chains.specs.Held.{at}
 use Rattle.rig.specs.declared.Cycle.{Cycle}
 use Rattle.rig.specs.declared.Row.{Row}
-use Rattle.rules.specs.Calls.{Refusal, row, decide, noSuch, isMinor, isActivation, lastCount}
+use Rattle.rules.specs.Rig.{isMinor}
+use Rattle.rules.specs.Calls.{Refusal, row, decide, noSuch, isActivation, lastCount}
 use Rattle.rules_laws.specs.Refusals.{decide-here, decide-next}
 use Rattle.compool.specs.View.{rowsOf}
 use Rattle.exec_queue.specs.View.{minorOf}
@@ -49,6 +50,10 @@ taskRows running tasks controller t wrong =
 -- a tick, with a buffer of so many words
 abbrev pub tickRows : ℕ → ℕ → List Refusal
 tickRows count words = row pastCount (leb lastCount count) ∷ row wrongLength (ltb words tickWords) ∷ []
+
+-- a question on a task
+abbrev pub askedRows : ℕ → ℕ → List Refusal
+askedRows tasks t = row noneSuch (noSuch tasks t) ∷ []
 
 -- "The area has exactly 33 words a row; the caller's buffer has exactly the row's words", by lengths
 abbrev pub wrongLengths : ℕ → List Row → ℕ → ℕ → ℕ → Bool

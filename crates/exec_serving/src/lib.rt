@@ -3,6 +3,7 @@ use chains::NODES;
 use exec_queue::Queue;
 use exec_state::FLAG_CHAINS;
 use exec_state::State;
+use rig::Cycle;
 use rig::Rig;
 use rig_tables::CONDITIONS;
 use rig_tables::LINES;
@@ -13,7 +14,7 @@ ghost use Prim.Native.Nat.{_<_};
 ghost use lib.Dec.{eqb};
 ghost use lib.ListN.{getD};
 ghost use Rattle.exec_offers.specs.Set.{withTables};
-ghost use Rattle.exec_serving.specs.Post.{Begins, Emptied};
+ghost use Rattle.exec_serving.specs.Post.{Begins, CountsSoon, Emptied};
 ghost use Rattle.exec_serving.specs.Set.{withPlaces};
 
 // A state, how many flags were served on the way to it, how many waiting tasks that made dispatchable, and how many it activated.
@@ -32,12 +33,28 @@ fn waited(next: &[u16; NODES], c: usize) -> bool
     next[c] != c as u16
 }
 
+// Those whose start comes too soon have one overrun more: of the flags that are served, those of the cycle are minor-cycle flags.
+fn count_soon<'a>(
+    cycle: Cycle,
+    f: u8,
+    named: &'a [u8; TASK_PLACES],
+    state: &'a [u8; TASK_PLACES],
+    overruns: &mut [u16; TASK_PLACES],
+)
+    ensures { λ r. ⌜ CountsSoon cycle f (now (named .entry)) (now (state .entry)) (now (overruns .entry)) (now (overruns .exit)) ⌝ }
+{
+    if exec_queue::in_cycle(cycle, f) {
+        exec_overruns::count(named, state, overruns);
+    }
+}
+
 // The last queued is taken off and served, until the queue is empty. The states are a local: two fields of one struct cannot
 // be lent at once, and a call by value would copy the state for each flag. The links are copied only where somebody waits.
 // The rig's tables are lent: the rig by value would be copied twice.
 pub fn serve<'a>(
     mut st: State,
     queue: Queue,
+    cycle: Cycle,
     n: usize,
     present: &'a [u8; CONDITIONS],
     latched: &'a [u8; CONDITIONS],
@@ -48,7 +65,7 @@ pub fn serve<'a>(
     activation: &'a [u8; TASK_PLACES],
 ) -> Done
     requires { ⌜ Begins n (now lineTask) (now linePos) (now activation) st queue ⌝ }
-    ensures { λ r. ⌜ ((g : Rig) → Emptied (withTables (now (present .entry)) (now (latched .entry)) (now (desired .entry)) (now (lineTask .entry)) (now (lineFlag .entry)) (now (activation .entry)) n (withPlaces (now (linePos .entry)) g)) st queue r) ⌝ }
+    ensures { λ r. ⌜ ((g : Rig) → Emptied (withTables (now (present .entry)) (now (latched .entry)) (now (desired .entry)) (now (lineTask .entry)) (now (lineFlag .entry)) (now (activation .entry)) n (withPlaces (now (linePos .entry)) g)) cycle st queue r) ⌝ }
 {
     let mut state = st.state;
     let mut q = queue;
@@ -61,7 +78,9 @@ pub fn serve<'a>(
         let v = q.value[j];
         q.n = j;
         st.value[f as usize] = v;
-        exec_conditions::drive(lineTask, linePos, lineFlag, n, f, v, &mut st.cond);
+        let mut who: [u8; TASK_PLACES] = [0; TASK_PLACES];
+        exec_conditions::drive(lineTask, linePos, lineFlag, n, f, v, &mut st.cond, &mut who);
+        count_soon(cycle, f, &who, &state, &mut st.overruns);
         let c = FLAG_CHAINS + 2 * (f as usize) + (v as usize);
         if waited(&st.links.next, c) {
             let roused = exec_waking::wake(st.links, &mut state, c);

@@ -42,6 +42,7 @@ fn tables_ok<'a>(
     cond: &'a [u8; CONDITIONS],
     state: &'a [u8; TASK_PLACES],
     wake: &'a [u32; TASK_PLACES],
+    overruns: &'a [u16; TASK_PLACES],
     on: &'a [u16; TASK_PLACES],
     running: u8,
 ) -> bool
@@ -49,7 +50,7 @@ fn tables_ok<'a>(
     ensures { λ r.
         ⌜
         r
-        ≡ allOf (tableTestsOf tasks flags (now (controller .entry)) (now (priority .entry)) (now (privileged .entry)) (now (activation .entry)) (now (present .entry)) count (now (value .entry)) (now (cond .entry)) (now (state .entry)) (now (wake .entry)) (now (on .entry)) running)
+        ≡ allOf (tableTestsOf tasks flags (now (controller .entry)) (now (priority .entry)) (now (privileged .entry)) (now (activation .entry)) (now (present .entry)) count (now (value .entry)) (now (cond .entry)) (now (state .entry)) (now (wake .entry)) (now (overruns .entry)) (now (on .entry)) running)
         ⌝ }
 {
     let many = tasks as usize;
@@ -71,6 +72,9 @@ fn tables_ok<'a>(
         return false;
     }
     if !sound_tables::empty(wake, many) {
+        return false;
+    }
+    if !sound_tables::overruns(overruns, many) {
         return false;
     }
     if !sound_tasks::flags(activation, state, value, many) {
@@ -144,6 +148,7 @@ pub fn sound(rig: Rig, cycles: [Cycle; CYCLES], st: State) -> bool
         &st.cond,
         &st.state,
         &st.wake,
+        &st.overruns,
         &st.links.on,
         st.running,
     ) {

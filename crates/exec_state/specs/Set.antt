@@ -6,25 +6,28 @@ use Rattle.rig.specs.declared.Rig.{Rig}
 use Rattle.exec_state.specs.declared.State.{State}
 
 abbrev pub putCount : State → ℕ → State
-putCount s v = record { count = v; value = s .value; cond = s .cond; state = s .state; wake = s .wake; links = s .links; running = s .running }
+putCount s v = record { count = v; value = s .value; cond = s .cond; state = s .state; wake = s .wake; overruns = s .overruns; links = s .links; running = s .running }
 
 abbrev pub putValue : State → List ℕ → State
-putValue s v = record { count = s .count; value = v; cond = s .cond; state = s .state; wake = s .wake; links = s .links; running = s .running }
+putValue s v = record { count = s .count; value = v; cond = s .cond; state = s .state; wake = s .wake; overruns = s .overruns; links = s .links; running = s .running }
 
 abbrev pub putCond : State → List ℕ → State
-putCond s v = record { count = s .count; value = s .value; cond = v; state = s .state; wake = s .wake; links = s .links; running = s .running }
+putCond s v = record { count = s .count; value = s .value; cond = v; state = s .state; wake = s .wake; overruns = s .overruns; links = s .links; running = s .running }
 
 abbrev pub putState : State → List ℕ → State
-putState s v = record { count = s .count; value = s .value; cond = s .cond; state = v; wake = s .wake; links = s .links; running = s .running }
+putState s v = record { count = s .count; value = s .value; cond = s .cond; state = v; wake = s .wake; overruns = s .overruns; links = s .links; running = s .running }
 
 abbrev pub putWake : State → List ℕ → State
-putWake s v = record { count = s .count; value = s .value; cond = s .cond; state = s .state; wake = v; links = s .links; running = s .running }
+putWake s v = record { count = s .count; value = s .value; cond = s .cond; state = s .state; wake = v; overruns = s .overruns; links = s .links; running = s .running }
+
+abbrev pub putOverruns : State → List ℕ → State
+putOverruns s v = record { count = s .count; value = s .value; cond = s .cond; state = s .state; wake = s .wake; overruns = v; links = s .links; running = s .running }
 
 abbrev pub putLinks : State → Links → State
-putLinks s v = record { count = s .count; value = s .value; cond = s .cond; state = s .state; wake = s .wake; links = v; running = s .running }
+putLinks s v = record { count = s .count; value = s .value; cond = s .cond; state = s .state; wake = s .wake; overruns = s .overruns; links = v; running = s .running }
 
 abbrev pub putRunning : State → ℕ → State
-putRunning s v = record { count = s .count; value = s .value; cond = s .cond; state = s .state; wake = s .wake; links = s .links; running = v }
+putRunning s v = record { count = s .count; value = s .value; cond = s .cond; state = s .state; wake = s .wake; overruns = s .overruns; links = s .links; running = v }
 
 -- what the dispatch looks at
 abbrev pub withRanks : List ℕ → List ℕ → Rig → Rig

@@ -44,6 +44,7 @@ viewOf s =
       conds = s .cond;
       states = s .state;
       wakes = s .wake;
+      overruns = s .overruns;
       chains = byName (chainsOf (s .links));
       running = s .running;
     }

@@ -33,6 +33,7 @@ pub struct State {
     pub cond: [u8; CONDITIONS],
     pub state: [u8; TASK_PLACES],
     pub wake: [u32; TASK_PLACES],
+    pub overruns: [u16; TASK_PLACES],
     pub links: Links,
     pub running: u8,
 }
@@ -55,6 +56,7 @@ impl State {
             cond: [0; CONDITIONS],
             state: [0; TASK_PLACES],
             wake: [0; TASK_PLACES],
+            overruns: [0; TASK_PLACES],
             links: links,
             running: 0,
         }
@@ -142,13 +144,14 @@ impl State {
         Work { st: self, queue: q }
     }
 
-    // Task t is inactive with its unlatched conditions undesired, and then tested.
+    // Task t is inactive with its unlatched conditions undesired and with no overruns, and then tested.
     pub fn scheduled(mut self, rig: Rig, t: usize) -> Work
         requires { ⌜ t ≤ 64 ⌝ }
         ensures { λ r. ⌜ Scheduled self rig t r ⌝ }
     {
         exec_conditions::relax(&rig.present, &rig.latched, &rig.desired, t, &mut self.cond);
         self.state[t] = INACTIVE;
+        self.overruns[t] = 0;
         self.tested(rig, t)
     }
 }

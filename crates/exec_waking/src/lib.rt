@@ -7,8 +7,11 @@ use exec_state::TIME_CHAIN;
 use exec_state::Work;
 use rig::Cycle;
 use rig_tables::TASK_PLACES;
-ghost use Prim.Native.Nat.{_<_};
+ghost use mathlib.Core.Path.{_≡_};
+ghost use Prim.Native.Nat.{_<_, _%_};
+ghost use lib.ListN.{getD};
 ghost use Rattle.chains.specs.Held.{HoldsChains};
+ghost use Rattle.rig.specs.Rules.{noCycle};
 ghost use Rattle.exec_waking.specs.Post.{Timed, TickOk, Rouses, WokenDue, Ticked};
 
 // "64 minor cycles a major frame"
@@ -59,6 +62,14 @@ pub fn wake_due(mut st: State) -> State
     st
 }
 
+// The cycle of the count.
+pub fn cycle_at(cycles: [Cycle; rig_tables::CYCLES], count: u32) -> Cycle
+    ensures { λ r. ⌜ r ≡ getD cycles (count % 64) noCycle ⌝ }
+{
+    let i = (count % CYCLES) as usize;
+    cycles[i]
+}
+
 // The count rises by one, the tasks due at it become dispatchable, and the cycle's list is queued.
 pub fn ticked(mut st: State, cycles: [Cycle; rig_tables::CYCLES]) -> Work
     requires { ⌜ HoldsChains (st .links) ⌝ }
@@ -67,8 +78,7 @@ pub fn ticked(mut st: State, cycles: [Cycle; rig_tables::CYCLES]) -> Work
 {
     let count = st.count + 1;
     st.count = count;
-    let i = (count % CYCLES) as usize;
-    let cycle = cycles[i];
+    let cycle = cycle_at(cycles, count);
     let q = Queue::of_cycle(cycle);
     let s = wake_due(st);
     Work { st: s, queue: q }

@@ -196,6 +196,16 @@ pub extern "C" fn algolmallet_next_waking(e: &mut Exec) -> Reply
     s.reply
 }
 
+// How many of the task's starts came too soon. The value is its number of overruns; no running task is needed. The record is what it was.
+#[no_mangle]
+pub extern "C" fn algolmallet_overruns(e: &mut Exec, task: u32) -> Reply
+    ensures { λ r. ⌜ Replies (now (e .entry)) (Call.readOverruns task) (codedOf (now (e .exit)) r) [] ⌝ }
+{
+    let s = host_replies::told((*e).overruns(task));
+    *e = s.exec;
+    s.reply
+}
+
 // The monitor's side of the bus: words that it hears, taken apart and judged. No record is needed.
 #[no_mangle]
 pub extern "C" fn algolmallet_command_fields(word: u16) -> CommandNumbers

@@ -2,11 +2,11 @@
 ghost use mathlib.Core.Path.{_≡_};
 ghost use Rattle.host_layout.specs.Library.{recordSize, recordAlign, version};
 
-const RECORD_SIZE: usize = 10788;
+const RECORD_SIZE: usize = 10920;
 
 const RECORD_ALIGN: usize = 4;
 
-const VERSION: u32 = 5000;
+const VERSION: u32 = 6000;
 
 // The version, of which the header has the same number.
 pub fn version_number() -> u32

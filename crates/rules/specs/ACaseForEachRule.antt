@@ -3,26 +3,27 @@
 use mathlib.Core.Path.{_≡_, refl}
 use mathlib.Core.List.{List, [], _∷_, _++_}
 use Prim.Native.Nat.{ℕ, zero, suc}
-use lib.ListN.{replicate}
+use lib.ListN.{replicate, take}
 use Rattle.laws.specs.Iter.{iter}
 use Rattle.laws.specs.All.{all}
 use Rattle.laws.specs.Any.{any}
 use Rattle.laws.specs.Tables.{total, over}
 use Rattle.laws.specs.Put.{put}
 use Rattle.word_parts.specs.Packed.{commandWord}
-use Rattle.rules.specs.Rig.{Rig}
-use Rattle.rules.specs.State.{blank}
+use Rattle.rules.specs.Rig.{Rig, inCycle, isMinor}
+use Rattle.rules.specs.State.{withOverruns, blank}
 use Rattle.rules.specs.Conditions.{relax, met, drive, names}
-use Rattle.rules.specs.Serving.{activate, takes, rouse, wake, ready, offer, offers, serveFlag, made, serving, serve}
+use Rattle.rules.specs.Serving.{activate, tooSoon, mostOverruns, oneMore, overrun, takes, rouse, wake, ready, offer, offers, serveFlag, made, serving, serve}
 use Rattle.rules.specs.Waiting.{waitOn, waitUntilCount, leave, wakeDue}
 use Rattle.rules.specs.Family.{family, cleared, deserted, offs}
 use Rattle.rules.specs.Running.{best, chosen, dispatch}
 use Rattle.rules.specs.Bus.{written, copied, rowWords, busWords}
 use Rattle.rules.specs.NextWaking.{lowestWaking}
-use Rattle.rules.specs.Calls.{schedule, cancel, terminate, finish, tick, waitUntil, waitFor, latched, unlatched, signal, readFlag, readBlock, writeBlock, nextWaking}
-use Rattle.rules.specs.Calls.{scheduled, finished, terminated, cancelled, cycleQueue, ticked, effect, decide, noSuch, inCycle, isMinor, isActivation, lastCount, wrongBlock, refusals, refusal, wordsAt, lent, output, tested, ended, again, settled, accepted, after, step, run, started, start}
+use Rattle.rules.specs.Calls.{schedule, cancel, terminate, finish, tick, waitUntil, waitFor, latched, unlatched, signal, readFlag, readBlock, writeBlock, nextWaking, readOverruns}
+use Rattle.rules.specs.Calls.{scheduled, finished, terminated, cancelled, cycleQueue, ticked, effect, decide, noSuch, isActivation, lastCount, wrongBlock, refusals, refusal, wordsAt, lent, output, tested, ended, again, settled, accepted, after, step, run, started, start}
+use Rattle.rules.specs.Overruns.{servingEvents, serveEvents, againEvents, schedulingOf, acceptedEvents, eventsIf, eventsFrom, startEvents, eventsOf, overrunsCounted}
 use Rattle.rules.specs.Scripts.{TaskLine, MinorLine, T, C, A, M, B, ofTask, ofCondition, numbers, ofLine, ofCycle, rig, tick₀, startAt, seen, Case, shown, case, caseAt, bench, morningCalls}
-use Rattle.rules.specs.Scripts.{runs, answers, serves, hears, writes, reads, lends, sends, stateIs, conditionIs, valueIs, waitFlag, waitTime, _and_}
+use Rattle.rules.specs.Scripts.{runs, answers, serves, hears, writes, reads, lends, sends, stateIs, conditionIs, valueIs, overrunsIs, waitFlag, waitTime, _and_}
 
 -- ---- rigs that several cases use
 
@@ -886,6 +887,128 @@ the-last-task-wakes =
     (reads and runs)
     (0 ∷ 64 ∷ 0 ∷ 1 ∷ 3 ∷ 1 ∷ [])
 
+-- ---- L6: "Count the starts that came too soon."
+
+-- task 2, of a given priority, has a condition on flag 1, a minor-cycle flag of cycles 1, 2 and 3
+pulsed : ℕ → Rig
+pulsed priority =
+    rig 2 4 1 (T 1 0 10 0 0 ∷ T 2 1 priority 0 0 ∷ []) (C 2 0 0 1 ∷ []) (A 2 0 1 ∷ []) (M 1 1 ∷ M 2 1 ∷ M 3 1 ∷ []) []
+
+-- The first service activates task 2, and does not count; each that follows counts, also of a task that runs for the second time because its
+-- condition stood when it was terminated. "cancel, terminate .. keep it", "Schedule sets it to 0". Seen: the state of 2, its number, that of task 1
+pub starts-that-came-too-soon : Case
+starts-that-came-too-soon =
+    case (pulsed 5)
+    (schedule 2 ∷ tick₀ ∷ tick₀ ∷ terminate 2 ∷ tick₀ ∷ terminate 2 ∷ terminate 2 ∷ cancel 2 ∷ schedule 2 ∷ [])
+    (stateIs 2 and overrunsIs 2 and overrunsIs 1)
+    (
+    1 ∷ 0 ∷ 0 ∷
+    3 ∷ 0 ∷ 0 ∷
+    3 ∷ 1 ∷ 0 ∷
+    3 ∷ 1 ∷ 0 ∷
+    3 ∷ 2 ∷ 0 ∷
+    3 ∷ 2 ∷ 0 ∷
+    1 ∷ 2 ∷ 0 ∷
+    0 ∷ 2 ∷ 0 ∷
+    1 ∷ 0 ∷ 0 ∷ []
+    )
+
+-- "finish" keeps it too. Task 2 runs, its condition stands when it finishes, so that it runs again and finishes again
+pub finish-keeps-its-overruns : Case
+finish-keeps-its-overruns =
+    case (pulsed 20)
+    (schedule 2 ∷ tick₀ ∷ tick₀ ∷ finish ∷ finish ∷ [])
+    (stateIs 2 and overrunsIs 2 and runs)
+    (
+    1 ∷ 0 ∷ 1 ∷
+    3 ∷ 0 ∷ 2 ∷
+    3 ∷ 1 ∷ 2 ∷
+    3 ∷ 1 ∷ 2 ∷
+    1 ∷ 1 ∷ 1 ∷ []
+    )
+
+-- "already active before": who waits is active
+pub overrun-while-it-waits : Case
+overrun-while-it-waits =
+    case (pulsed 20)
+    (schedule 2 ∷ tick₀ ∷ waitUntil 9 ∷ tick₀ ∷ [])
+    (stateIs 2 and overrunsIs 2)
+    (1 ∷ 0 ∷ 3 ∷ 0 ∷ 2 ∷ 0 ∷ 2 ∷ 1 ∷ [])
+
+-- a service counts once, though two conditions of the task have the flag
+pub once-a-service : Case
+once-a-service =
+    case
+    (rig 2 4 1 (T 1 0 10 0 0 ∷ T 2 1 5 0 0 ∷ []) (C 2 0 0 1 ∷ C 2 1 0 1 ∷ []) (A 2 0 1 ∷ A 2 1 1 ∷ []) (M 1 1 ∷ M 2 1 ∷ []) [])
+    (schedule 2 ∷ tick₀ ∷ tick₀ ∷ [])
+    (stateIs 2 and overrunsIs 2)
+    (1 ∷ 0 ∷ 3 ∷ 0 ∷ 3 ∷ 1 ∷ [])
+
+-- "before" is before that very service: in the second tick flag 2 is served first and activates task 2, and flag 1 then comes too soon
+pub activated-by-an-earlier-service : Case
+activated-by-an-earlier-service =
+    case
+    (rig 2 4 1 (T 1 0 10 0 0 ∷ T 2 1 5 0 0 ∷ []) (C 2 0 0 1 ∷ C 2 1 0 1 ∷ []) (A 2 0 1 ∷ A 2 1 2 ∷ []) (M 1 1 ∷ M 2 1 ∷ M 2 2 ∷ []) [])
+    (schedule 2 ∷ tick₀ ∷ tick₀ ∷ [])
+    (stateIs 2 and overrunsIs 2)
+    (1 ∷ 0 ∷ 1 ∷ 0 ∷ 3 ∷ 1 ∷ [])
+
+-- "of a minor-cycle flag": neither plain flag 1 nor the activation flag 3 of task 3, which are in a condition of task 2, is counted, nor flag 2, which is
+-- a minor-cycle flag in none
+pub no-other-flags-count : Case
+no-other-flags-count =
+    case
+    (rig 3 4 1 (T 1 0 10 0 0 ∷ T 2 1 5 0 0 ∷ T 3 1 4 0 3 ∷ []) (C 2 0 0 1 ∷ []) (A 2 0 1 ∷ A 2 0 3 ∷ []) (M 1 2 ∷ []) [])
+    (schedule 2 ∷ signal 1 1 ∷ signal 1 1 ∷ schedule 3 ∷ tick₀ ∷ [])
+    (serves and stateIs 2 and overrunsIs 2)
+    (
+    0 ∷ 1 ∷ 0 ∷
+    1 ∷ 3 ∷ 0 ∷
+    1 ∷ 3 ∷ 0 ∷
+    1 ∷ 3 ∷ 0 ∷
+    1 ∷ 3 ∷ 0 ∷ []
+    )
+
+-- "It stops at 65,535."
+pub overruns-stop : Case
+overruns-stop =
+    record {
+      on = pulsed 5;
+      first = withOverruns (run (pulsed 5) (start (pulsed 5)) (schedule 2 ∷ tick₀ ∷ [])) (0 ∷ 0 ∷ 65534 ∷ replicate 62 0);
+      calls = tick₀ ∷ tick₀ ∷ [];
+      look = overrunsIs 2;
+      shows = 65535 ∷ 65535 ∷ [];
+    }
+
+-- task 64 is counted like any other
+pub the-last-task-overruns : Case
+the-last-task-overruns =
+    case (rig 64 128 1 (T 1 0 10 0 0 ∷ T 64 1 5 0 0 ∷ []) (C 64 15 0 1 ∷ []) (A 64 15 128 ∷ []) (M 1 128 ∷ M 2 128 ∷ []) [])
+    (schedule 64 ∷ tick₀ ∷ tick₀ ∷ readOverruns 64 ∷ readOverruns 63 ∷ [])
+    (reads and overrunsIs 64)
+    (0 ∷ 0 ∷ 0 ∷ 0 ∷ 0 ∷ 1 ∷ 1 ∷ 1 ∷ 0 ∷ 1 ∷ [])
+
+-- "A call reads it for any task, with no running task needed. Refusals: 12, then 6." In the end both wait and nobody runs. Seen: the answer, what is
+-- told, who runs
+pub overruns-are-read : Case
+overruns-are-read =
+    case (pulsed 20)
+    (readOverruns 2 ∷ schedule 2 ∷ tick₀ ∷ tick₀ ∷ readOverruns 2 ∷ readOverruns 1 ∷ waitUntil 9 ∷ waitUntil 9 ∷ readOverruns 2 ∷ readOverruns 3 ∷ readOverruns 0 ∷ [])
+    (answers and reads and runs)
+    (
+    0 ∷ 0 ∷ 1 ∷
+    0 ∷ 0 ∷ 1 ∷
+    0 ∷ 0 ∷ 2 ∷
+    0 ∷ 0 ∷ 2 ∷
+    0 ∷ 1 ∷ 2 ∷
+    0 ∷ 0 ∷ 2 ∷
+    0 ∷ 0 ∷ 1 ∷
+    0 ∷ 0 ∷ 0 ∷
+    0 ∷ 1 ∷ 0 ∷
+    6 ∷ 0 ∷ 0 ∷
+    6 ∷ 0 ∷ 0 ∷ []
+    )
+
 -- ---- refusals: the smallest number, and nothing is written
 
 -- nobody runs: every call but the tick, whatever else is wrong with it
@@ -987,6 +1110,11 @@ refused-10-area =
     (answers and lends)
     (10 ∷ replicate 32 5 ++ 10 ∷ replicate 34 5 ++ 10 ∷ replicate 33 5 ++ 10 ∷ 7 ∷ 8 ∷ 9 ∷ 10 ∷ 7 ∷ 8 ∷ [])
 
+-- ---- L6: what the history counts of task 2, "since the last schedule": in starts-that-came-too-soon, up to each call
+
+pub countedAfter : ℕ → ℕ
+countedAfter n = overrunsCounted (pulsed 5) 2 (eventsOf (pulsed 5) (take n (starts-that-came-too-soon .calls)))
+
 -- ---- the statement
 
 abbrev pub Holds : Case → Type 0
@@ -1069,6 +1197,15 @@ pub cases-hold :
     × Holds asked-while-nobody-runs
     × Holds waiting-on-a-flag-is-not-on-time
     × Holds the-last-task-wakes
+    × Holds starts-that-came-too-soon
+    × Holds finish-keeps-its-overruns
+    × Holds overrun-while-it-waits
+    × Holds once-a-service
+    × Holds activated-by-an-earlier-service
+    × Holds no-other-flags-count
+    × Holds overruns-stop
+    × Holds the-last-task-overruns
+    × Holds overruns-are-read
     × Holds refused-5-first
     × Holds refused-6-no-such
     × Holds refused-7-not-the-controller
@@ -1080,5 +1217,15 @@ pub cases-hold :
     × Holds refused-9-last-tick
     × Holds refused-10-tick
     × Holds refused-10-area
-unfolding tasksFrom flagsFrom largest lone pair quad line remembering forgetting asking bench morningCalls rows stopped-and-started stopped-and-started-by-the-test thirty-two-is-written-as-zero equal-rank-takes-nothing phase-against-the-count-after-the-tick cancel-strikes-every-descendant cancel-strikes-grandchildren unlatched-waits-for-the-next-service latched-conditions-remember conditions-are-driven-while-the-task-runs conditions-are-driven-while-the-task-waits schedule-relaxes undesired-of-off-is-on position-fifteen-counts no-line-no-condition activation-relaxes tested-again-after-finish-and-terminate tested-once-the-queue-is-empty active-already-at-the-test the-test-is-served-on the-most-that-a-finish-serves the-most-that-a-terminate-serves who-is-active-is-not-activated only-its-own-flags-activate-a-task all-conditions-as-desired one-condition-of-two-flags finish-wakes-who-waits-for-the-off finish-leaves-the-conditions terminate-takes-out-of-a-flag-chain terminate-takes-out-of-the-time-chain terminate-leaves-the-conditions cancel-touches-no-condition cancel-leaves-unlatched-conditions cancel-queues-off-for-the-active-only cancel-serves-the-highest-off-first last-queued-first activation-by-rising-number only-the-value-waited-for-wakes all-who-wait-wake served-numbers a-signal-says-whom-it-woke a-signal-says-whom-it-activated added-over-all-services services-alone-count heard-in-the-morning the-last-task-hears wait-until-a-count wait-for-cycles no-wait-at-or-below-the-count latched-wait-takes-the-value-there time-chain-in-order flag-chains-in-order cycle-of-the-count start-schedules-task-1 higher-rank-takes-the-processor lowest-number-first stayed-throughout active-again-is-chosen-anew active-again-is-outranked privileged-above-all-others privileged-above-the-highest-priority rows-in-order due-at-its-phase due-at-the-last-phase write-touches-no-other-word read-copies-the-data the-last-task the-last-task-is-activated the-last-flag the-last-row the-last-block the-lowest-waking-count asked-while-nobody-runs waiting-on-a-flag-is-not-on-time the-last-task-wakes lowestWaking refused-5-first refused-6-no-such refused-7-not-the-controller refused-7-flags refused-8-states refused-8-active refused-9-waking-count refused-9-waking-sum refused-9-last-tick refused-10-tick refused-10-area ofTask ofCondition numbers ofLine ofCycle rig tick₀ startAt seen shown runs answers serves hears writes reads lends sends stateIs conditionIs valueIs waitFlag waitTime _and_ iter all any total over put commandWord blank relax met drive names activate takes rouse wake ready offer offers serveFlag made serving serve waitOn waitUntilCount leave wakeDue family cleared deserted offs best chosen dispatch written copied rowWords busWords tested scheduled finished terminated cancelled cycleQueue ticked effect ended again settled decide noSuch inCycle isMinor isActivation lastCount wrongBlock refusals refusal wordsAt lent output accepted after step run started start
-cases-hold = (refl, refl, refl, refl, refl, refl, refl, refl, refl, refl, refl, refl, refl, refl, refl, refl, refl, refl, refl, refl, refl, refl, refl, refl, refl, refl, refl, refl, refl, refl, refl, refl, refl, refl, refl, refl, refl, refl, refl, refl, refl, refl, refl, refl, refl, refl, refl, refl, refl, refl, refl, refl, refl, refl, refl, refl, refl, refl, refl, refl, refl, refl, refl, refl, refl, refl, refl, refl, refl, refl, refl, refl, refl, refl, refl, refl, refl, refl, refl, refl, refl, refl, refl, refl, refl, refl)
+unfolding tasksFrom flagsFrom largest pulsed lone pair quad line remembering forgetting asking bench morningCalls rows stopped-and-started stopped-and-started-by-the-test thirty-two-is-written-as-zero equal-rank-takes-nothing phase-against-the-count-after-the-tick cancel-strikes-every-descendant cancel-strikes-grandchildren unlatched-waits-for-the-next-service latched-conditions-remember conditions-are-driven-while-the-task-runs conditions-are-driven-while-the-task-waits schedule-relaxes undesired-of-off-is-on position-fifteen-counts no-line-no-condition activation-relaxes tested-again-after-finish-and-terminate tested-once-the-queue-is-empty active-already-at-the-test the-test-is-served-on the-most-that-a-finish-serves the-most-that-a-terminate-serves who-is-active-is-not-activated only-its-own-flags-activate-a-task all-conditions-as-desired one-condition-of-two-flags finish-wakes-who-waits-for-the-off finish-leaves-the-conditions terminate-takes-out-of-a-flag-chain terminate-takes-out-of-the-time-chain terminate-leaves-the-conditions cancel-touches-no-condition cancel-leaves-unlatched-conditions cancel-queues-off-for-the-active-only cancel-serves-the-highest-off-first last-queued-first activation-by-rising-number only-the-value-waited-for-wakes all-who-wait-wake served-numbers a-signal-says-whom-it-woke a-signal-says-whom-it-activated added-over-all-services services-alone-count heard-in-the-morning the-last-task-hears wait-until-a-count wait-for-cycles no-wait-at-or-below-the-count latched-wait-takes-the-value-there time-chain-in-order flag-chains-in-order cycle-of-the-count start-schedules-task-1 higher-rank-takes-the-processor lowest-number-first stayed-throughout active-again-is-chosen-anew active-again-is-outranked privileged-above-all-others privileged-above-the-highest-priority rows-in-order due-at-its-phase due-at-the-last-phase write-touches-no-other-word read-copies-the-data the-last-task the-last-task-is-activated the-last-flag the-last-row the-last-block the-lowest-waking-count asked-while-nobody-runs waiting-on-a-flag-is-not-on-time the-last-task-wakes lowestWaking starts-that-came-too-soon finish-keeps-its-overruns overrun-while-it-waits once-a-service activated-by-an-earlier-service no-other-flags-count overruns-stop the-last-task-overruns overruns-are-read refused-5-first refused-6-no-such refused-7-not-the-controller refused-7-flags refused-8-states refused-8-active refused-9-waking-count refused-9-waking-sum refused-9-last-tick refused-10-tick refused-10-area ofTask ofCondition numbers ofLine ofCycle rig tick₀ startAt seen shown runs answers serves hears writes reads lends sends stateIs conditionIs valueIs overrunsIs waitFlag waitTime _and_ iter all any total over put commandWord blank relax met drive names activate tooSoon mostOverruns oneMore overrun takes rouse wake ready offer offers serveFlag made serving serve waitOn waitUntilCount leave wakeDue family cleared deserted offs best chosen dispatch written copied rowWords busWords tested scheduled finished terminated cancelled cycleQueue ticked effect ended again settled decide noSuch inCycle isMinor isActivation lastCount wrongBlock refusals refusal wordsAt lent output accepted after step run started start
+cases-hold = (refl, refl, refl, refl, refl, refl, refl, refl, refl, refl, refl, refl, refl, refl, refl, refl, refl, refl, refl, refl, refl, refl, refl, refl, refl, refl, refl, refl, refl, refl, refl, refl, refl, refl, refl, refl, refl, refl, refl, refl, refl, refl, refl, refl, refl, refl, refl, refl, refl, refl, refl, refl, refl, refl, refl, refl, refl, refl, refl, refl, refl, refl, refl, refl, refl, refl, refl, refl, refl, refl, refl, refl, refl, refl, refl, refl, refl, refl, refl, refl, refl, refl, refl, refl, refl, refl, refl, refl, refl, refl, refl, refl, refl, refl, refl)
+
+-- and the history counts what the record has
+pub history-counts :
+    (countedAfter 2 ≡ 0)
+    × (countedAfter 3 ≡ 1)
+    × (countedAfter 5 ≡ 2)
+    × (countedAfter 8 ≡ 2)
+    × (countedAfter 9 ≡ 0)
+unfolding countedAfter pulsed starts-that-came-too-soon servingEvents serveEvents againEvents schedulingOf acceptedEvents eventsIf eventsFrom startEvents eventsOf overrunsCounted ofTask ofCondition numbers ofLine ofCycle rig tick₀ startAt seen shown runs answers serves hears writes reads lends sends stateIs conditionIs valueIs overrunsIs waitFlag waitTime _and_ iter all any total over put commandWord blank relax met drive names activate tooSoon mostOverruns oneMore overrun takes rouse wake ready offer offers serveFlag made serving serve waitOn waitUntilCount leave wakeDue family cleared deserted offs best chosen dispatch written copied rowWords busWords tested scheduled finished terminated cancelled cycleQueue ticked effect ended again settled decide noSuch inCycle isMinor isActivation lastCount wrongBlock refusals refusal wordsAt lent output accepted after step run started start
+history-counts = (refl, refl, refl, refl, refl)

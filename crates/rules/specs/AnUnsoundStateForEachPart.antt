@@ -13,9 +13,9 @@ use Rattle.laws.specs.All.{all}
 use Rattle.laws.specs.Any.{any}
 use Rattle.laws.specs.Tables.{total, over}
 use Rattle.rules.specs.Rig.{Rig, placeOf}
-use Rattle.rules.specs.State.{Chain, timeChain, chainOf, sameChain, withChain, State, withCount, withValues, withTables, withChains, withWakes, withRunning, blank}
+use Rattle.rules.specs.State.{Chain, timeChain, chainOf, sameChain, withChain, State, withCount, withValues, withTables, withChains, withWakes, withOverruns, withRunning, blank}
 use Rattle.rules.specs.Conditions.{relax, met, drive, names}
-use Rattle.rules.specs.Serving.{activate, takes, rouse, wake, ready, offer, offers, serveFlag, serving, serve}
+use Rattle.rules.specs.Serving.{activate, tooSoon, mostOverruns, oneMore, overrun, takes, rouse, wake, ready, offer, offers, serveFlag, serving, serve}
 use Rattle.rules.specs.Waiting.{waitUntilCount}
 use Rattle.rules.specs.Running.{best, chosen, dispatch}
 use Rattle.rules.specs.Calls.{schedule, waitUntil, tested, scheduled, effect, ended, again, settled, decide, noSuch, lastCount, refusals, refusal, output, accepted, after, step, run, started, start}
@@ -35,7 +35,7 @@ four =
 unfoldable pub calm : State
 calm = run four (start four) (schedule 4 ∷ schedule 2 ∷ schedule 3 ∷ waitUntil 5 ∷ waitUntil 7 ∷ [])
 
--- one task's state, one flag's value, one condition's value, one waking count, one chain changed
+-- one task's state, one flag's value, one condition's value, one waking count, one number of overruns, one chain changed
 unfoldable pub stateTo : ℕ → ℕ → State
 stateTo t v = withTables calm (calm .conds) (set (calm .states) t v)
 
@@ -47,6 +47,9 @@ conditionTo i v = withValues calm (calm .flags) (set (calm .conds) i v)
 
 unfoldable pub wakeTo : ℕ → ℕ → State
 wakeTo t c = withWakes calm (set (calm .wakes) t c)
+
+unfoldable pub overrunsTo : ℕ → ℕ → State
+overrunsTo t n = withOverruns calm (set (calm .overruns) t n)
 
 unfoldable pub chainTo : Chain → List ℕ → State
 chainTo c l = withChains calm (calm .states) (withChain (calm .chains) c l)
@@ -96,7 +99,11 @@ pub each-part-counts :
     × Unsound (flagTo 5 1)
     × Unsound (wakeTo 5 9)
     × Unsound (conditionTo (placeOf 4 1) 1)
-unfolding four calm stateTo flagTo conditionTo wakeTo chainTo threeIn ofTask ofCondition numbers ofLine ofCycle rig iter all any total over blank relax met drive names activate takes rouse wake ready offer offers serveFlag serving serve waitUntilCount best chosen dispatch tested scheduled effect ended again settled decide noSuch lastCount refusals refusal output accepted after step run started start
+    -- L6: "bounded in soundness"; 0 for tasks above the rig's count, and for none
+    × Unsound (overrunsTo 2 65536)
+    × Unsound (overrunsTo 5 1)
+    × Unsound (overrunsTo 0 1)
+unfolding four calm stateTo flagTo conditionTo wakeTo overrunsTo chainTo threeIn ofTask ofCondition numbers ofLine ofCycle rig iter all any total over blank relax met drive names activate tooSoon mostOverruns oneMore overrun takes rouse wake ready offer offers serveFlag serving serve waitUntilCount best chosen dispatch tested scheduled effect ended again settled decide noSuch lastCount refusals refusal output accepted after step run started start
 each-part-counts = (
   (λ h. let z : 4 ≤ 3 = h .tasks .small 4 in omega arith),
   (λ h. let z : 2147483648 ≤ 2147483647 = h .range in omega arith),
@@ -121,4 +128,7 @@ each-part-counts = (
   (λ h. let z : (1 ≤ 5) × (5 ≤ 4) = h .flags .within 5 (λ q. omega arith) in omega (arith, z .1)),
   (λ h. let z : (1 ≤ 5) × (5 ≤ 4) = h .wakes .within 5 (λ q. omega arith) in omega (arith, z .1)),
   (λ h. let z : _≡_ {A = ℕ} 0 1 = h .conds .within (placeOf 4 1) (λ q. omega arith) in omega arith),
+  (λ h. let z : 65536 ≤ 65535 = h .overruns .small 2 in omega arith),
+  (λ h. let z : (1 ≤ 5) × (5 ≤ 4) = h .overruns .within 5 (λ q. omega arith) in omega (arith, z .1)),
+  (λ h. let z : (1 ≤ 0) × (0 ≤ 4) = h .overruns .within 0 (λ q. omega arith) in omega (arith, z .0)),
 )

@@ -8,8 +8,8 @@ use Rattle.laws.specs.Iter.{iter}
 use Rattle.laws.specs.Any.{any}
 use Rattle.laws.specs.Put.{put}
 use Rattle.rules.specs.Sizes.{mostTasks, minorCycles, flagsACycle, tickWords}
-use Rattle.rules.specs.Rig.{Rig}
-use Rattle.rules.specs.State.{State, Entry, Work, Done, stateOf, valueOf, withCount, withTables, withChains, withRunning, active, on, off, uninvoked, inactive, blank}
+use Rattle.rules.specs.Rig.{Rig, isMinor}
+use Rattle.rules.specs.State.{State, Entry, Work, Done, stateOf, valueOf, overrunsOf, withCount, withTables, withChains, withOverruns, withRunning, active, on, off, uninvoked, inactive, blank}
 use Rattle.rules.specs.Conditions.{relax, met}
 use Rattle.rules.specs.Serving.{push, activate, serve}
 use Rattle.rules.specs.Waiting.{waitOn, waitUntilCount, leave, wakeDue}
@@ -22,6 +22,7 @@ use Rattle.rules.specs.NextWaking.{lowestWaking}
 -- lent buffer holds.
 --   tick: its buffer; readBlock, writeBlock: row, area, the caller's buffer
 --   nextWaking: "When does the bench next wake someone?"
+--   readOverruns: how many of a task's starts came too soon
 pub data Call : Type 0 where
   schedule cancel terminate : ℕ → Call
   finish : Call
@@ -31,6 +32,7 @@ pub data Call : Type 0 where
   readFlag : ℕ → Call
   readBlock writeBlock : ℕ → List ℕ → List ℕ → Call
   nextWaking : Call
+  readOverruns : ℕ → Call
 
 -- ---- what each call does before its queue is served
 
@@ -43,11 +45,17 @@ unfoldable pub tested : Rig → ℕ → State → Work
 tested r t s =
     cond (eqb (stateOf s t) inactive && met (r .present) (r .desired) t (s .conds)) (activate r t (quiet s)) (quiet s)
 
--- "Schedule: unlatched conditions take the undesired value; inactive; if all conditions are as desired, none included,
--- the task is activated."
+-- "Schedule: unlatched conditions take the undesired value; inactive"; and of its overruns (L6): "Schedule sets it to 0; cancel,
+-- terminate and finish keep it."
+abbrev pub asScheduled : Rig → State → ℕ → State
+asScheduled r s t =
+    withOverruns
+    (withTables s (relax (r .present) (r .latched) (r .desired) t (s .conds)) (set (s .states) t inactive))
+    (set (s .overruns) t 0)
+
+-- ".. if all conditions are as desired, none included, the task is activated."
 unfoldable pub scheduled : Rig → State → ℕ → Work
-scheduled r s t =
-    tested r t (withTables s (relax (r .present) (r .latched) (r .desired) t (s .conds)) (set (s .states) t inactive))
+scheduled r s t = tested r t (asScheduled r s t)
 
 -- "Finish (the running task): inactive, activation flag queued off."
 unfoldable pub finished : Rig → State → Work
@@ -107,6 +115,7 @@ effect r s (readFlag f) = quiet s
 effect r s (readBlock k area buffer) = quiet s
 effect r s (writeBlock k area buffer) = quiet s
 effect r s nextWaking = quiet s
+effect r s (readOverruns t) = quiet s
 
 -- ---- L3: what is queued is served, and "after finish and terminate" there is more
 
@@ -126,6 +135,7 @@ ended s (readFlag f) = 0
 ended s (readBlock k area buffer) = 0
 ended s (writeBlock k area buffer) = 0
 ended s nextWaking = 0
+ended s (readOverruns t) = 0
 
 -- a serving after another: their numbers are added
 abbrev pub further : Done → Done → Done
@@ -173,20 +183,6 @@ noSuch many n = eqb n 0 || ltb many n
 -- 7: "caller is not the named task's controller". The caller is the running task.
 abbrev pub notController : Rig → State → ℕ → Bool
 notController r s t = not (eqb (r .controller t) (s .running))
-
--- "Flags on M lines are minor-cycle flags"
-abbrev pub inCycleOne : (ℕ → ℕ) → ℕ → ℕ → Bool
-inCycleOne flags f i = eqb (flags i) f
-
-unfoldable pub inCycle : (ℕ → ℕ) → ℕ → Bool
-inCycle flags f = any flagsACycle (inCycleOne flags f)
-
-abbrev pub minorOne : (ℕ → ℕ → ℕ) → ℕ → ℕ → Bool
-minorOne minor f c = inCycle (minor c) f
-
--- 7: "wait on or reading of a minor-cycle flag"
-unfoldable pub isMinor : (ℕ → ℕ → ℕ) → ℕ → Bool
-isMinor minor f = any minorCycles (minorOne minor f)
 
 -- the flag is a task's activation flag
 abbrev pub activationOne : (ℕ → ℕ) → ℕ → ℕ → Bool
@@ -240,6 +236,8 @@ refusals r s (writeBlock k area buffer) =
     row 5 (nobodyRuns s) ∷ row 6 (noSuch (r .rows) k) ∷ row 10 (wrongBlock r k area buffer) ∷ []
 -- "No running task is needed. Refusals: 12 alone."
 refusals r s nextWaking = []
+-- "A call reads it for any task, with no running task needed. Refusals: 12, then 6."
+refusals r s (readOverruns t) = row 6 (noSuch (r .tasks) t) ∷ []
 
 unfoldable pub refusal : Rig → State → Call → ℕ
 refusal r s k = decide (refusals r s k)
@@ -292,6 +290,7 @@ lent (readFlag f) = []
 lent (readBlock k area buffer) = buffer
 lent (writeBlock k area buffer) = area
 lent nextWaking = []
+lent (readOverruns t) = []
 
 -- what an accepted call that left state s puts out beside the flags it served: how many bus words, the flag's value or a question's
 -- answer, and what the lent buffer holds after it
@@ -321,6 +320,7 @@ output r s (readBlock k area buffer) = record { words = 0; value = 0; lent = cop
 output r s (writeBlock k area buffer) = record { words = 0; value = 0; lent = written (s .count) k area buffer }
 -- "the lowest waking count among tasks waiting on time", 0 for none
 output r s nextWaking = record { words = 0; value = lowestWaking s; lent = [] }
+output r s (readOverruns t) = record { words = 0; value = overrunsOf s t; lent = [] }
 
 -- ---- a step, a run, the start
 

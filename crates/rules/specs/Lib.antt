@@ -19,4 +19,5 @@ pub mod Proper
 pub mod History
 pub mod Waking
 pub mod Reasons
+pub mod Overruns
 pub mod Laws

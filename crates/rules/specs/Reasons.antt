@@ -9,7 +9,7 @@ use Rattle.rules.specs.Sizes.{mostTasks, minorCycles, flagsACycle, tickW
 use Rattle.rules.specs.Rig.{Rig}
 use Rattle.rules.specs.State.{State, stateOf, active, uninvoked}
 use Rattle.rules.specs.Bus.{areaWords, blockWords}
-use Rattle.rules.specs.Calls.{lastCount, Call, schedule, cancel, terminate, finish, tick, waitUntil, waitFor, latched, unlatched, signal, readFlag, readBlock, writeBlock, nextWaking}
+use Rattle.rules.specs.Calls.{lastCount, Call, schedule, cancel, terminate, finish, tick, waitUntil, waitFor, latched, unlatched, signal, readFlag, readBlock, writeBlock, nextWaking, readOverruns}
 
 -- what each number says of a call; ⊥ where the call cannot meet it
 pub record Reasons : Type 1 where
@@ -87,6 +87,8 @@ reasons r s (readBlock k area buffer) = blocking r s k area buffer
 reasons r s (writeBlock k area buffer) = blocking r s k area buffer
 -- "No running task is needed. Refusals: 12 alone."
 reasons r s nextWaking = record { five = ⊥; six = ⊥; seven = ⊥; eight = ⊥; nine = ⊥; ten = ⊥ }
+-- "A call reads it for any task, with no running task needed. Refusals: 12, then 6."
+reasons r s (readOverruns t) = record { five = ⊥; six = NoSuch (r .tasks) t; seven = ⊥; eight = ⊥; nine = ⊥; ten = ⊥ }
 
 -- "For a call, .. the smallest number": number n is given exactly when its reason holds and none before it
 pub record Exactly (n : ℕ) (w : Reasons) : Type 0 where

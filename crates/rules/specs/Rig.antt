@@ -1,7 +1,10 @@
 -- THE RIG as the rules see it: what a rig file says, by number.
 -- Tasks and flags are numbered from 1, and a place that the file does not fill reads as 0.
+use mathlib.Core.Bool.{Bool}
 use Prim.Native.Nat.{ℕ, _+_, _*_}
-use Rattle.rules.specs.Sizes.{positions}
+use lib.Dec.{eqb}
+use Rattle.laws.specs.Any.{any}
+use Rattle.rules.specs.Sizes.{positions, minorCycles, flagsACycle}
 
 -- "B, sender, its sub-address, receiver, its sub-address, words, period, phase"
 pub record Row : Type 0 where
@@ -41,3 +44,16 @@ pub record Rig : Type 0 where
 -- "up to 16 conditions a task at positions 0 to 15": the place of a condition in a table of all of them
 abbrev pub placeOf : ℕ → ℕ → ℕ
 placeOf task position = positions * task + position
+
+-- "Flags on M lines are minor-cycle flags"
+abbrev pub inCycleOne : (ℕ → ℕ) → ℕ → ℕ → Bool
+inCycleOne flags f i = eqb (flags i) f
+
+unfoldable pub inCycle : (ℕ → ℕ) → ℕ → Bool
+inCycle flags f = any flagsACycle (inCycleOne flags f)
+
+abbrev pub minorOne : (ℕ → ℕ → ℕ) → ℕ → ℕ → Bool
+minorOne minor f c = inCycle (minor c) f
+
+unfoldable pub isMinor : (ℕ → ℕ → ℕ) → ℕ → Bool
+isMinor minor f = any minorCycles (minorOne minor f)

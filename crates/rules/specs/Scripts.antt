@@ -5,7 +5,7 @@ use Prim.Native.Nat.{ℕ}
 use lib.Dec.{eqb}
 use lib.ListN.{length, getD, replicate, take}
 use Rattle.rules.specs.Rig.{Rig, Row, placeOf}
-use Rattle.rules.specs.State.{timeChain, chainOf, State, withCount, stateOf, valueOf}
+use Rattle.rules.specs.State.{timeChain, chainOf, State, withCount, stateOf, valueOf, overrunsOf}
 use Rattle.rules.specs.Calls.{Call, schedule, finish, tick, waitFor, Step, step, start}
 
 -- ---- a rig, as its file says it
@@ -98,7 +98,7 @@ seen look r s (k ∷ ks) =
 
 -- looks: who runs; the answer's number; how many flags were served; whom that woke and activated; how many bus words were written; the value that was
 -- read; the lent buffer; the bus words in it; the state of a task; the value of its condition at a position; the value of a
--- flag; who waits in a chain, from its front, and a 0 behind them
+-- flag; a task's number of overruns; who waits in a chain, from its front, and a 0 behind them
 unfoldable pub runs : Step → List ℕ
 runs p = p .next .running ∷ []
 
@@ -131,6 +131,9 @@ conditionIs t n p = getD (p .next .conds) (placeOf t n) 0 ∷ []
 
 unfoldable pub valueIs : ℕ → Step → List ℕ
 valueIs f p = valueOf (p .next) f ∷ []
+
+unfoldable pub overrunsIs : ℕ → Step → List ℕ
+overrunsIs t p = overrunsOf (p .next) t ∷ []
 
 unfoldable pub waitFlag : ℕ → ℕ → Step → List ℕ
 waitFlag f v p = p .next .chains (chainOf f v) ++ 0 ∷ []

@@ -2,13 +2,13 @@
 use mathlib.Core.Bool.{Bool, cond, _&&_}
 use mathlib.Core.List.{List, [], _∷_}
 use Prim.Native.Nat.{ℕ, zero, suc, _+_}
-use lib.Dec.{eqb}
+use lib.Dec.{eqb, ltb}
 use lib.ListN.{length, set}
 use Rattle.laws.specs.Iter.{iter}
 use Rattle.laws.specs.Tables.{over}
 use Rattle.rules.specs.Sizes.{mostTasks}
-use Rattle.rules.specs.Rig.{Rig}
-use Rattle.rules.specs.State.{Chain, chainOf, withChain, State, Entry, Work, Done, stateOf, withValues, withTables, withChains, inactive, waiting, dispatchable, on}
+use Rattle.rules.specs.Rig.{Rig, isMinor}
+use Rattle.rules.specs.State.{Chain, chainOf, withChain, State, Entry, Work, Done, stateOf, overrunsOf, withValues, withTables, withChains, withOverruns, active, inactive, waiting, dispatchable, on}
 use Rattle.rules.specs.Conditions.{relax, met, drive, names}
 
 -- "queued"; activation flag 0 is none, and queues nothing
@@ -27,12 +27,40 @@ activate r t w =
       queue = push (r .activation t) on (w .queue);
     }
 
--- "Serving: the last queued is taken off first. The flag takes the value; every condition with that flag takes it"
+-- ---- L6: "Each task gains a number of overruns"
+
+-- "services of a minor-cycle flag in one of its conditions with the task already active before": flag f is served, s is the state
+-- before that service
+unfoldable pub tooSoon : Rig → ℕ → State → ℕ → Bool
+tooSoon r f s t =
+    eqb (active (stateOf s t)) on && (names (r .lines) (r .lineTask) (r .lineFlag) t f && isMinor (r .minor) f)
+
+-- "It stops at 65,535."
+unfoldable pub mostOverruns : ℕ
+mostOverruns = 65535
+
+unfoldable pub oneMore : ℕ → ℕ
+oneMore n = cond (ltb n mostOverruns) (suc n) n
+
+-- of task i + 1: a service counts once, however many of its conditions have the flag
+abbrev pub overrunOne : Rig → ℕ → State → ℕ → List ℕ → List ℕ
+overrunOne r f s i l = cond (tooSoon r f s (i + 1)) (set l (i + 1) (oneMore (overrunsOf s (i + 1)))) l
+
+-- the numbers of all tasks after the service
+unfoldable pub overrun : Rig → ℕ → State → List ℕ
+overrun r f s = iter mostTasks (overrunOne r f s) (s .overruns)
+
+-- ---- serving
+
+-- "Serving: the last queued is taken off first. The flag takes the value; every condition with that flag takes it"; and those whose
+-- start comes too soon are counted
 unfoldable pub takes : Rig → Entry → State → State
 takes r e s =
-    withValues s
+    withOverruns
+    (withValues s
     (set (s .flags) (e .flag) (e .value))
-    (drive (r .lines) (r .lineTask) (r .linePos) (r .lineFlag) (e .flag) (e .value) (s .conds))
+    (drive (r .lines) (r .lineTask) (r .linePos) (r .lineFlag) (e .flag) (e .value) (s .conds)))
+    (overrun r (e .flag) s)
 
 -- "tasks waiting on that flag and value become dispatchable": all of a chain, which is then empty
 unfoldable pub rouse : List ℕ → List ℕ → List ℕ

@@ -14,6 +14,7 @@ use Rattle.laws.specs.Order.{Sorted}
 use Rattle.rules.specs.Sizes.{mostFlags, taskPlaces, flagPlaces, conditionPlaces}
 use Rattle.rules.specs.Rig.{Rig}
 use Rattle.rules.specs.State.{Chain, timeChain, chainOf, State, stateOf, valueOf, active, uninvoked, waiting, dispatchable, on}
+use Rattle.rules.specs.Serving.{mostOverruns}
 use Rattle.rules.specs.Running.{rank}
 use Rattle.rules.specs.Calls.{lastCount}
 
@@ -35,7 +36,7 @@ pub record Tasks (r : Rig) (l : List ℕ) : Type 0 where
   pub within : Within (r .tasks) l
   pub tree : Tree (r .controller) l
 
--- ---- the tables of flag values, of condition values, of waking counts
+-- ---- the tables of flag values, of condition values, of waking counts, of overruns
 
 pub record Flags (r : Rig) (l : List ℕ) : Type 0 where
   pub sized : length l ≡ flagPlaces
@@ -51,6 +52,12 @@ pub record Conds (r : Rig) (l : List ℕ) : Type 0 where
 
 pub record WakingCounts (r : Rig) (l : List ℕ) : Type 0 where
   pub sized : length l ≡ taskPlaces
+  pub within : Within (r .tasks) l
+
+-- L6: "It is in the record, bounded in soundness"
+pub record Overruns (r : Rig) (l : List ℕ) : Type 0 where
+  pub sized : length l ≡ taskPlaces
+  pub small : (t : ℕ) → getD l t 0 ≤ mostOverruns
   pub within : Within (r .tasks) l
 
 -- ---- the chains: "waiting tasks and links agree as demand 3 says", each chain lists exactly who waits there, once
@@ -106,6 +113,7 @@ pub record Sound (r : Rig) (s : State) : Type 0 where
   pub flags : Flags r (s .flags)
   pub conds : Conds r (s .conds)
   pub wakes : WakingCounts r (s .wakes)
+  pub overruns : Overruns r (s .overruns)
   pub chains : Chains (s .count) (s .wakes) (s .chains) (s .states)
   -- "activation flags agree with task states"
   pub agree : (t : ℕ) → r .activation t ≢ 0 → valueOf s (r .activation t) ≡ active (stateOf s t)

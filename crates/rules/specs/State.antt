@@ -52,6 +52,7 @@ withChain chains c l d = cond (sameChain d c) l (chains d)
 -- count: minor cycles since the start
 -- flags: the value of each flag; conds: the value of each condition, by its place
 -- states: the state of each task; wakes: the waking count of a task that waits for one
+-- overruns (L6): of each task, how often a start came too soon
 -- chains: who waits, by the chain, in the order in which a chain is read forward
 -- running: the running task, 0 for none
 pub record State : Type 0 where
@@ -60,6 +61,7 @@ pub record State : Type 0 where
   pub conds : List ℕ
   pub states : List ℕ
   pub wakes : List ℕ
+  pub overruns : List ℕ
   pub chains : Chain → List ℕ
   pub running : ℕ
 
@@ -71,6 +73,9 @@ valueOf s f = getD (s .flags) f 0
 
 abbrev pub wakeOf : State → ℕ → ℕ
 wakeOf s t = getD (s .wakes) t 0
+
+abbrev pub overrunsOf : State → ℕ → ℕ
+overrunsOf s t = getD (s .overruns) t 0
 
 -- what is queued: a flag and the value that it is to take
 pub record Entry : Type 0 where
@@ -94,27 +99,31 @@ pub record Done : Type 0 where
 
 abbrev pub withCount : State → ℕ → State
 withCount s n =
-    record { count = n; flags = s .flags; conds = s .conds; states = s .states; wakes = s .wakes; chains = s .chains; running = s .running }
+    record { count = n; flags = s .flags; conds = s .conds; states = s .states; wakes = s .wakes; overruns = s .overruns; chains = s .chains; running = s .running }
 
 abbrev pub withValues : State → List ℕ → List ℕ → State
 withValues s f c =
-    record { count = s .count; flags = f; conds = c; states = s .states; wakes = s .wakes; chains = s .chains; running = s .running }
+    record { count = s .count; flags = f; conds = c; states = s .states; wakes = s .wakes; overruns = s .overruns; chains = s .chains; running = s .running }
 
 abbrev pub withTables : State → List ℕ → List ℕ → State
 withTables s c l =
-    record { count = s .count; flags = s .flags; conds = c; states = l; wakes = s .wakes; chains = s .chains; running = s .running }
+    record { count = s .count; flags = s .flags; conds = c; states = l; wakes = s .wakes; overruns = s .overruns; chains = s .chains; running = s .running }
 
 abbrev pub withChains : State → List ℕ → (Chain → List ℕ) → State
 withChains s l x =
-    record { count = s .count; flags = s .flags; conds = s .conds; states = l; wakes = s .wakes; chains = x; running = s .running }
+    record { count = s .count; flags = s .flags; conds = s .conds; states = l; wakes = s .wakes; overruns = s .overruns; chains = x; running = s .running }
 
 abbrev pub withWakes : State → List ℕ → State
 withWakes s w =
-    record { count = s .count; flags = s .flags; conds = s .conds; states = s .states; wakes = w; chains = s .chains; running = s .running }
+    record { count = s .count; flags = s .flags; conds = s .conds; states = s .states; wakes = w; overruns = s .overruns; chains = s .chains; running = s .running }
+
+abbrev pub withOverruns : State → List ℕ → State
+withOverruns s l =
+    record { count = s .count; flags = s .flags; conds = s .conds; states = s .states; wakes = s .wakes; overruns = l; chains = s .chains; running = s .running }
 
 abbrev pub withRunning : State → ℕ → State
 withRunning s n =
-    record { count = s .count; flags = s .flags; conds = s .conds; states = s .states; wakes = s .wakes; chains = s .chains; running = n }
+    record { count = s .count; flags = s .flags; conds = s .conds; states = s .states; wakes = s .wakes; overruns = s .overruns; chains = s .chains; running = n }
 
 -- "Start: count 0, flags and conditions off, all tasks uninvoked"
 unfoldable pub blank : State
@@ -125,6 +134,7 @@ blank =
       conds = replicate conditionPlaces 0;
       states = replicate taskPlaces 0;
       wakes = replicate taskPlaces 0;
+      overruns = replicate taskPlaces 0;
       chains = λ (c : Chain). [];
       running = 0;
     }

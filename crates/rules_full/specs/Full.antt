@@ -11,16 +11,16 @@ use Rattle.laws.specs.Any.{any}
 use Rattle.laws.specs.Tables.{total, over}
 use Rattle.laws.specs.Put.{put}
 use Rattle.word_parts.specs.Packed.{commandWord}
-use Rattle.rules.specs.Rig.{Rig}
+use Rattle.rules.specs.Rig.{Rig, inCycle, isMinor}
 use Rattle.rules.specs.State.{State, blank}
 use Rattle.rules.specs.Conditions.{relax, met, drive, names}
-use Rattle.rules.specs.Serving.{activate, takes, rouse, wake, ready, offer, offers, serveFlag, serving, serve}
+use Rattle.rules.specs.Serving.{activate, tooSoon, mostOverruns, oneMore, overrun, takes, rouse, wake, ready, offer, offers, serveFlag, serving, serve}
 use Rattle.rules.specs.Waiting.{waitOn, waitUntilCount, leave, wakeDue}
 use Rattle.rules.specs.Family.{family, cleared, deserted, offs}
 use Rattle.rules.specs.Running.{best, chosen, dispatch}
 use Rattle.rules.specs.Bus.{written, copied, rowWords, busWords}
 use Rattle.rules.specs.Calls.{Call, schedule, finish}
-use Rattle.rules.specs.Calls.{tested, scheduled, finished, terminated, cancelled, cycleQueue, ticked, effect, ended, again, settled, decide, noSuch, inCycle, isMinor, isActivation, lastCount, wrongBlock, refusals, refusal, wordsAt, lent, output, accepted, after, step, run, started, start}
+use Rattle.rules.specs.Calls.{tested, scheduled, finished, terminated, cancelled, cycleQueue, ticked, effect, ended, again, settled, decide, noSuch, isActivation, lastCount, wrongBlock, refusals, refusal, wordsAt, lent, output, accepted, after, step, run, started, start}
 use Rattle.rules.specs.Scripts.{B, tick₀}
 
 -- Task t has priority 10, activation flag t, controller 1 and one unlatched condition, at position 0, which desires on: for
@@ -58,5 +58,5 @@ before = run full (start full) (tick₀ ∷ schedules 2 63 ++ finish ∷ [])
 
 -- the second tick activates all 64, one after the other, and serves their flags and the 15 of its cycle
 pub reached : (step full before tick₀ .answer .report .served ≡ 79) × (step full before tick₀ .next .running ≡ 1)
-unfolding full schedules before tick₀ iter all any total over put commandWord blank relax met drive names activate takes rouse wake ready offer offers serveFlag serving serve waitOn waitUntilCount leave wakeDue family cleared deserted offs best chosen dispatch written copied rowWords busWords tested scheduled finished terminated cancelled cycleQueue ticked effect ended again settled decide noSuch inCycle isMinor isActivation lastCount wrongBlock refusals refusal wordsAt lent output accepted after step run started start
+unfolding full schedules before tick₀ iter all any total over put commandWord blank relax met drive names activate tooSoon mostOverruns oneMore overrun takes rouse wake ready offer offers serveFlag serving serve waitOn waitUntilCount leave wakeDue family cleared deserted offs best chosen dispatch written copied rowWords busWords tested scheduled finished terminated cancelled cycleQueue ticked effect ended again settled decide noSuch inCycle isMinor isActivation lastCount wrongBlock refusals refusal wordsAt lent output accepted after step run started start
 reached = (refl, refl)

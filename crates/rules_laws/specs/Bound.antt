@@ -15,13 +15,12 @@ use Rattle.laws.specs.Tables.{total, over}
 use Rattle.laws.specs.Laws.Tables.{over-set, over-store, over-length, over-le, in-range}
 use Rattle.laws.specs.Members.{keep}
 use Rattle.rules.specs.Rig.{Rig}
-use Rattle.rules.specs.State.{timeChain, State, Work, Done, Entry, active, valueOf, withTables, blank}
-use Rattle.rules.specs.Conditions.{relax}
+use Rattle.rules.specs.State.{timeChain, State, Work, Done, Entry, active, valueOf, blank}
 use Rattle.rules.specs.Serving.{push, isInactive, inactives, activate, serve}
 use Rattle.rules.specs.Waiting.{waitOn, waitUntilCount, wakeDue, isDue}
 use Rattle.rules.specs.Family.{family, isMarked, clearOne, cleared, offOne, offs}
-use Rattle.rules.specs.Calls.{Call, schedule, cancel, terminate, finish, tick, waitUntil, waitFor, latched, unlatched, signal, readFlag, readBlock, writeBlock, nextWaking}
-use Rattle.rules.specs.Calls.{scheduled, finished, terminated, cancelled, ticked, queueOne, cycleQueue, quiet, effect, refusal, accepted, after, step, started}
+use Rattle.rules.specs.Calls.{Call, schedule, cancel, terminate, finish, tick, waitUntil, waitFor, latched, unlatched, signal, readFlag, readBlock, writeBlock, nextWaking, readOverruns}
+use Rattle.rules.specs.Calls.{asScheduled, scheduled, finished, terminated, cancelled, ticked, queueOne, cycleQueue, quiet, effect, refusal, accepted, after, step, started}
 use Rattle.rules_laws.specs.Serve.{load, push-length, served-le, serve-nil}
 use Rattle.rules_laws.specs.Testing.{tested-cases, settled-le}
 use Rattle.rules_laws.specs.Lengths.{rouse-length}
@@ -128,7 +127,7 @@ module _ (r : Rig) (s : State) (z : length (s .states) ≡ 65) where
       (λ n. light w zero-le (stored t 1))
     where
       w : Work
-      w = quiet (withTables s (relax (r .present) (r .latched) (r .desired) t (s .conds)) (set (s .states) t 1))
+      w = quiet (asScheduled r s t)
 
   pub effect-load : (k : Call) → load (effect r s k) ≤ 79
   unfolding effect terminated finished ticked wakeDue waitOn waitUntilCount
@@ -148,6 +147,7 @@ module _ (r : Rig) (s : State) (z : length (s .states) ≡ 65) where
   effect-load (readBlock k area buffer) = light (quiet s) zero-le z
   effect-load (writeBlock k area buffer) = light (quiet s) zero-le z
   effect-load nextWaking = light (quiet s) zero-le z
+  effect-load (readOverruns t) = light (quiet s) zero-le z
 
   -- THE BOUND: "Each call answers with the number of flags it served, which is at most 79."
   pub served-79 : (k : Call) → step r s k .answer .report .served ≤ 79
@@ -171,4 +171,4 @@ start-served r =
     (λ n. omega (arith, ap (λ (d : Done). d .served) (serve-nil r x)))
   where
     x : State
-    x = withTables blank (relax (r .present) (r .latched) (r .desired) 1 (blank .conds)) (set (blank .states) 1 1)
+    x = asScheduled r blank 1

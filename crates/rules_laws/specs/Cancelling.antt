@@ -155,6 +155,7 @@ module _ (r : Rig) (ok : RigOk r) (s : State) (g : Good r s []) (t : ℕ) where
               flags = g .flags;
               conds = g .conds;
               wakes = g .wakes;
+              overruns = g .overruns;
               chains = chains-desert (s .count) (s .wakes) (s .chains) (s .states) marks (g .chains);
               agree = agrees;
               fine = offs-fine r ok marks l;

@@ -12,16 +12,15 @@ use Rattle.laws.specs.Members.{In, keep}
 use Rattle.laws.specs.Laws.Members.{in-keep}
 use Rattle.rules.specs.Rig.{Rig}
 use Rattle.rules.specs.RigOk.{RigOk}
-use Rattle.rules.specs.State.{Chain, timeChain, State, Entry, stateOf, active, withTables}
-use Rattle.rules.specs.Conditions.{relax}
+use Rattle.rules.specs.State.{Chain, timeChain, State, Entry, stateOf, active}
 use Rattle.rules.specs.Serving.{push}
 use Rattle.rules.specs.Waiting.{waitOn, waitUntilCount, isDue, wakeDue}
-use Rattle.rules.specs.Calls.{scheduled, finished, terminated, queueOne, cycleQueue, ticked, quiet}
+use Rattle.rules.specs.Calls.{asScheduled, scheduled, finished, terminated, queueOne, cycleQueue, ticked, quiet}
 use Rattle.rules.specs.Soundness.{WakingCounts, Chains}
 use Rattle.rules_laws.specs.Queued.{Fine, fine-push, look, look-other, look-absent, absent, Agree, rest-absent, rest-one}
 use Rattle.rules_laws.specs.Agreement.{restate, same-active}
 use Rattle.rules_laws.specs.Rousing.{rouse-same}
-use Rattle.rules_laws.specs.TableLaws.{tasks-move, tasks-invoke, tasks-rouse, conds-relax, wakes-set}
+use Rattle.rules_laws.specs.TableLaws.{tasks-move, tasks-invoke, tasks-rouse, conds-relax, wakes-set, overruns-set}
 use Rattle.rules_laws.specs.WaitingLaws.{chains-due, chains-set, chains-flag, chains-time, chains-leave}
 use Rattle.rules_laws.specs.Good.{Good, Ready, tested-ready}
 
@@ -34,13 +33,14 @@ module _ (r : Rig) (ok : RigOk r) (s : State) (g : Good r s []) where
 
   -- an uninvoked task becomes inactive, its unlatched conditions undesired
   scheduled-good : (t : ℕ) → 1 ≤ t → t ≤ r .tasks → (t ≢ 1 → stateOf s (r .controller t) ≢ 0) → stateOf s t ≡ 0
-      → Good r (withTables s (relax (r .present) (r .latched) (r .desired) t (s .conds)) (set (s .states) t 1)) []
+      → Good r (asScheduled r s t) []
   scheduled-good t a b c h =
       record {
         tasks = tasks-invoke r (s .states) t 1 a b c (λ q. omega arith) (omega arith) (g .tasks);
         flags = g .flags;
         conds = conds-relax r t (s .conds) (g .conds);
         wakes = g .wakes;
+        overruns = overruns-set r (s .overruns) t 0 a b (omega arith) (g .overruns);
         chains = chains-set (s .count) (s .wakes) (s .chains) (s .states) t 1 (λ q. omega (arith, h, q)) (λ q. omega arith) (g .chains);
         agree = same-active r ok t 1 (s .flags) (s .states) [] (sym (ap active h)) (g .agree);
         fine = tt;
@@ -69,6 +69,7 @@ module _ (r : Rig) (ok : RigOk r) (s : State) (g : Good r s []) where
               flags = g .flags;
               conds = g .conds;
               wakes = g .wakes;
+              overruns = g .overruns;
               chains = chains-set (s .count) (s .wakes) (s .chains) (s .states) (s .running) 1 (λ q. omega (arith, h, q)) (λ q. omega arith) (g .chains);
               agree = agree-off (s .running) some;
               fine = fine-off (s .running);
@@ -86,6 +87,7 @@ module _ (r : Rig) (ok : RigOk r) (s : State) (g : Good r s []) where
               flags = g .flags;
               conds = g .conds;
               wakes = g .wakes;
+              overruns = g .overruns;
               chains = chains-leave (s .count) (s .wakes) (s .chains) (s .states) t 1 (λ q. omega arith) (g .chains);
               agree = agree-off t h;
               fine = fine-off t;
@@ -97,7 +99,7 @@ module _ (r : Rig) (ok : RigOk r) (s : State) (g : Good r s []) where
 
   wait-ready : stateOf s (s .running) ≡ 3 → (chains : Chain → List ℕ) (wakes : List ℕ) → WakingCounts r wakes
       → Chains (s .count) wakes chains (set (s .states) (s .running) 2)
-      → Ready r (quiet (record { count = s .count; flags = s .flags; conds = s .conds; states = set (s .states) (s .running) 2; wakes = wakes; chains = chains; running = 0 }))
+      → Ready r (quiet (record { count = s .count; flags = s .flags; conds = s .conds; states = set (s .states) (s .running) 2; wakes = wakes; overruns = s .overruns; chains = chains; running = 0 }))
   wait-ready h chains wakes w c =
       quiet-ready r _
       (record {
@@ -105,6 +107,7 @@ module _ (r : Rig) (ok : RigOk r) (s : State) (g : Good r s []) where
         flags = g .flags;
         conds = g .conds;
         wakes = w;
+        overruns = g .overruns;
         chains = c;
         agree = same-active r ok (s .running) 2 (s .flags) (s .states) [] (sym (ap active h)) (g .agree);
         fine = tt;
@@ -139,6 +142,7 @@ module _ (r : Rig) (ok : RigOk r) (s : State) (g : Good r s []) where
               flags = g .flags;
               conds = g .conds;
               wakes = g .wakes;
+              overruns = g .overruns;
               chains = g .chains;
               agree = λ u nz. push-other f v (getD (s .flags) (r .activation u) 0) u (h u nz) ∙ g .agree u nz;
               fine = fine-push r f v [] a b tt;
@@ -174,6 +178,7 @@ module _ (r : Rig) (ok : RigOk r) (s : State) (g : Good r s []) where
               flags = g .flags;
               conds = g .conds;
               wakes = g .wakes;
+              overruns = g .overruns;
               chains = chains-due (s .count) (s .wakes) (s .chains) (s .states) (g .chains);
               agree = λ t nz.
                   look-absent (r .activation t) _ q (none t nz)

@@ -16,11 +16,11 @@ use Rattle.rules.specs.RigOk.{RigOk}
 use Rattle.rules.specs.State.{Chain, chainOf, State, Work, Done, Entry, stateOf, active}
 use Rattle.rules.specs.Serving.{inactives, activate, ready, offer, offerNext, offers, wake, takes, serveFlag, serving, serve}
 use Rattle.rules.specs.Calls.{quiet, tested, again}
-use Rattle.rules.specs.Soundness.{Tasks, Flags, Conds, WakingCounts, Chains, Sound}
+use Rattle.rules.specs.Soundness.{Tasks, Flags, Conds, WakingCounts, Overruns, Chains, Sound}
 use Rattle.rules_laws.specs.Queued.{Fine, fine-push, look, Agree, Clear, rest, rest-absent}
 use Rattle.rules_laws.specs.Agreement.{restate, popped, clear-activate}
 use Rattle.rules_laws.specs.Rousing.{rouse-one, rouse-same}
-use Rattle.rules_laws.specs.TableLaws.{tasks-move, tasks-rouse, flags-set, conds-relax, conds-drive}
+use Rattle.rules_laws.specs.TableLaws.{tasks-move, tasks-rouse, flags-set, conds-relax, conds-drive, overruns-count}
 use Rattle.rules_laws.specs.WaitingLaws.{chains-wake, chains-set}
 use Rattle.rules_laws.specs.Serve.{load, serveFlag-load}
 use Rattle.rules_laws.specs.Testing.{tested-cases, tested-keeps}
@@ -81,6 +81,7 @@ pub record Good (r : Rig) (s : State) (q : List Entry) : Type 0 where
   pub flags : Flags r (s .flags)
   pub conds : Conds r (s .conds)
   pub wakes : WakingCounts r (s .wakes)
+  pub overruns : Overruns r (s .overruns)
   pub chains : Chains (s .count) (s .wakes) (s .chains) (s .states)
   pub agree : Agree r (s .flags) (s .states) q
   pub fine : Fine r q
@@ -103,6 +104,7 @@ sound-good r s h =
       flags = h .flags;
       conds = h .conds;
       wakes = h .wakes;
+      overruns = h .overruns;
       chains = h .chains;
       agree = h .agree;
       fine = tt;
@@ -124,6 +126,7 @@ module _ (r : Rig) (ok : RigOk r) where
               flags = c .good .flags;
               conds = conds-relax r t (w .now .conds) (c .good .conds);
               wakes = c .good .wakes;
+              overruns = c .good .overruns;
               chains = chains-set (w .now .count) (w .now .wakes) (w .now .chains) l t 3 (λ q. omega (arith, h, q)) (λ q. omega arith) (c .good .chains);
               agree = restate r ok t 3 (w .now .flags) l (w .queue) (in-range l t 0 h) (λ nz. c .clear t nz h) (c .good .agree);
               fine = fine-push r (r .activation t) 1 (w .queue) (ok .activation-le t) (omega arith) (c .good .fine);
@@ -152,6 +155,7 @@ module _ (r : Rig) (ok : RigOk r) where
         flags = g .flags;
         conds = g .conds;
         wakes = g .wakes;
+        overruns = g .overruns;
         chains = chains-wake (s .count) (s .wakes) (s .chains) (s .states) c (g .chains);
         agree = λ t nz.
             g .agree t nz ∙ sym (rouse-same active (s .chains c) (s .states) (λ t i. sym (ap active (g .chains .listed .two t (c, i)))) t);
@@ -172,6 +176,7 @@ module _ (r : Rig) (ok : RigOk r) where
         flags = flags-set r (s .flags) (e .flag) (e .value) (f .0) (f .1) (f .2) (g .flags);
         conds = conds-drive r ok (e .flag) (e .value) (f .2) (s .conds) (g .conds);
         wakes = g .wakes;
+        overruns = overruns-count r (e .flag) s (g .tasks) (g .overruns);
         chains = g .chains;
         agree = popped r ok e (s .flags) (s .states) q (g .flags .sized) (g .agree);
         fine = g .fine .1;

@@ -18,11 +18,10 @@ use Rattle.laws.specs.Laws.Iter.{iter-ind}
 use Rattle.laws.specs.Laws.Tables.{in-range, was-there}
 use Rattle.rules.specs.Rig.{Rig}
 use Rattle.rules.specs.RigOk.{RigOk}
-use Rattle.rules.specs.State.{Chain, chainOf, State, Work, Entry, Done, stateOf, active, waiting, inactive, dispatchable, withTables, blank}
+use Rattle.rules.specs.State.{Chain, chainOf, State, Work, Entry, Done, stateOf, active, waiting, inactive, dispatchable, blank}
 use Rattle.rules.specs.Serving.{activate, ready, offer, offerNext, offers, takes, wake, rouse, made, unserved, serveFlag, serving, serve}
-use Rattle.rules.specs.Conditions.{relax}
 use Rattle.rules.specs.Running.{dispatch}
-use Rattle.rules.specs.Calls.{Call, signal, quiet, tested, scheduled, effect, refusal, ended, again, settled, accepted, Step, step, started}
+use Rattle.rules.specs.Calls.{Call, signal, quiet, tested, asScheduled, scheduled, effect, refusal, ended, again, settled, accepted, Step, step, started}
 use Rattle.rules.specs.Proper.{Proper}
 use Rattle.rules.specs.Soundness.{Within, Chains, Sound}
 use Rattle.rules_laws.specs.Refusals.{accepted-is, refused-is}
@@ -512,4 +511,4 @@ start-heard r =
     (λ n. let e = serve-nil r x in (ap (λ (d : Done). d .woken) e, ap (λ (d : Done). d .activated) e))
   where
     x : State
-    x = withTables blank (relax (r .present) (r .latched) (r .desired) 1 (blank .conds)) (set (blank .states) 1 1)
+    x = asScheduled r blank 1

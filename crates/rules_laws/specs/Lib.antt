@@ -35,3 +35,5 @@ pub mod ConditionLaws
 pub mod Offering
 pub mod Activation
 pub mod InWords
+pub mod Heeding
+pub mod Counted

@@ -27,7 +27,7 @@ use Rattle.rules.specs.Waiting.{waitOn, waitUntilCount, leave, isDue, wakeDue}
 use Rattle.rules.specs.Family.{family, isMarked, leaveOne, deserted}
 use Rattle.rules.specs.Running.{dispatch}
 use Rattle.rules.specs.NextWaking.{WaitsOnTime, LowestWaking, waitsOnTime, lowerOne, lowestWaking}
-use Rattle.rules.specs.Calls.{Call, schedule, cancel, terminate, finish, tick, waitUntil, waitFor, latched, unlatched, signal, readFlag, readBlock, writeBlock, nextWaking}
+use Rattle.rules.specs.Calls.{Call, schedule, cancel, terminate, finish, tick, waitUntil, waitFor, latched, unlatched, signal, readFlag, readBlock, writeBlock, nextWaking, readOverruns}
 use Rattle.rules.specs.Calls.{scheduled, finished, terminated, cancelled, ticked, effect, refusal, refusals, lastCount, decide, reported, valueOnly, output, ended, again, settled, accepted, after, Step, step, run, started, start}
 use Rattle.rules.specs.Proper.{ProperRun}
 use Rattle.rules.specs.History.{nothing, untilCount, begins}
@@ -235,6 +235,7 @@ module _ (r : Rig) (s : State) (h : Sound r s) where
   effect-came (readBlock k area buffer) e t i = inl (i, refl)
   effect-came (writeBlock k area buffer) e t i = inl (i, refl)
   effect-came nextWaking e t i = inl (i, refl)
+  effect-came (readOverruns u) e t i = inl (i, refl)
 
   -- what is said of the waking counts of those who wait on time, and of every count for which a wait begins, is kept
   pub step-counts : (P : ℕ → Type 0) (k : Call) → ((c : ℕ) → refusal r s k ≡ 0 → begins s k ≡ untilCount c → P c)

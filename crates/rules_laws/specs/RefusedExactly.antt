@@ -10,11 +10,11 @@ use lib.Dec.{eqb, ltb, leb}
 use lib.ListN.{length}
 use Rattle.laws.specs.Decides.{Is}
 use Rattle.laws.specs.Laws.Decides.{is-eqb, is-leb, is-ltb, is-not, is-or, is-any, is-said}
-use Rattle.rules.specs.Rig.{Rig}
+use Rattle.rules.specs.Rig.{Rig, inCycle, isMinor}
 use Rattle.rules.specs.State.{State, stateOf, active}
 use Rattle.rules.specs.Bus.{areaWords, blockWords}
-use Rattle.rules.specs.Calls.{Call, schedule, cancel, terminate, finish, tick, waitUntil, waitFor, latched, unlatched, signal, readFlag, readBlock, writeBlock, nextWaking}
-use Rattle.rules.specs.Calls.{row, decide, refusals, refusal, nobodyRuns, noSuch, notController, isUninvoked, isInvoked, notActive, inCycle, isMinor, isActivation, notPlain, lastCount, wrongBlock}
+use Rattle.rules.specs.Calls.{Call, schedule, cancel, terminate, finish, tick, waitUntil, waitFor, latched, unlatched, signal, readFlag, readBlock, writeBlock, nextWaking, readOverruns}
+use Rattle.rules.specs.Calls.{row, decide, refusals, refusal, nobodyRuns, noSuch, notController, isUninvoked, isInvoked, notActive, isActivation, notPlain, lastCount, wrongBlock}
 use Rattle.rules.specs.Reasons.{Reasons, NoSuch, MinorCycleFlag, ActivationFlag, reasons, naming, flagging, waking, blocking, Exactly}
 
 -- ---- what the tests of the table say
@@ -188,3 +188,5 @@ module _ (r : Rig) (s : State) where
   refused-exactly (readBlock k area buffer) = blocking-is k area buffer
   refused-exactly (writeBlock k area buffer) = blocking-is k area buffer
   refused-exactly nextWaking = exactly false false false false false false (reasons r s nextWaking) none none none none none none
+  refused-exactly (readOverruns t) =
+      exactly false (noSuch (r .tasks) t) false false false false (reasons r s (readOverruns t)) none (is-no-such (r .tasks) t) none none none none

@@ -10,14 +10,14 @@ use lib.Dec.{eqb, leb}
 use lib.ListN.{length-replicate}
 use Rattle.laws.specs.Cases.{or-false}
 use Rattle.laws.specs.Laws.Tables.{zeros}
-use Rattle.rules.specs.Rig.{Rig}
+use Rattle.rules.specs.Rig.{Rig, isMinor}
 use Rattle.rules.specs.RigOk.{RigOk}
 use Rattle.rules.specs.State.{State, Work, stateOf, valueOf, active, withRunning, blank}
 use Rattle.rules.specs.Serving.{activate, serve}
 use Rattle.rules.specs.Waiting.{waitOn, waitUntilCount, wakeDue}
 use Rattle.rules.specs.Running.{dispatch}
-use Rattle.rules.specs.Calls.{Call, schedule, cancel, terminate, finish, tick, waitUntil, waitFor, latched, unlatched, signal, readFlag, readBlock, writeBlock, nextWaking}
-use Rattle.rules.specs.Calls.{scheduled, finished, terminated, cancelled, ticked, quiet, effect, refusals, refusal, isInvoked, notActive, isMinor, isActivation, notPlain, lastCount, ended, again, settled, accepted, after, step, run, started, start}
+use Rattle.rules.specs.Calls.{Call, schedule, cancel, terminate, finish, tick, waitUntil, waitFor, latched, unlatched, signal, readFlag, readBlock, writeBlock, nextWaking, readOverruns}
+use Rattle.rules.specs.Calls.{scheduled, finished, terminated, cancelled, ticked, quiet, effect, refusals, refusal, isInvoked, notActive, isActivation, notPlain, lastCount, ended, again, settled, accepted, after, step, run, started, start}
 use Rattle.rules.specs.Proper.{Proper, ProperRun}
 use Rattle.rules.specs.Soundness.{Sound}
 use Rattle.rules_laws.specs.Queued.{look}
@@ -39,6 +39,7 @@ dispatch-sound r s g n =
       flags = g .flags;
       conds = g .conds;
       wakes = g .wakes;
+      overruns = g .overruns;
       chains = g .chains;
       agree = g .agree;
       runs = chosen-runs (r .privileged) (r .priority) (s .states) (g .tasks .sized) (s .running);
@@ -103,6 +104,7 @@ module _ (r : Rig) (ok : RigOk r) (s : State) (h : Sound r s) where
   effect-ready (readBlock k area buffer) p e = quiet-ready r s good
   effect-ready (writeBlock k area buffer) p e = quiet-ready r s good
   effect-ready nextWaking p e = quiet-ready r s good
+  effect-ready (readOverruns t) p e = quiet-ready r s good
 
   -- the count rises in a tick alone, and not past the last
   until-count : (b : Bool) (x : State) → x .count ≡ s .count → (cond b s x) .count ≤ lastCount
@@ -125,6 +127,7 @@ module _ (r : Rig) (ok : RigOk r) (s : State) (h : Sound r s) where
   effect-range (readBlock k area buffer) e = h .range
   effect-range (writeBlock k area buffer) e = h .range
   effect-range nextWaking e = h .range
+  effect-range (readOverruns t) e = h .range
 
 -- ---- every step, every run
 
@@ -176,6 +179,12 @@ module _ (r : Rig) (ok : RigOk r) where
               within = λ i n. absurd (n (zeros 1040 i));
             };
         wakes = record { sized = length-replicate {A = ℕ} 65 0; within = λ t n. absurd (n (zeros 65 t)) };
+        overruns =
+            record {
+              sized = length-replicate {A = ℕ} 65 0;
+              small = λ t. omega (arith, zeros 65 t);
+              within = λ t n. absurd (n (zeros 65 t));
+            };
         chains =
             record {
               listed = record { there = λ t e. absurd (omega (arith, e, zeros 65 t)); two = λ t w. absurd (w .1) };

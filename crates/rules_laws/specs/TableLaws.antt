@@ -2,12 +2,12 @@
 -- beyond the rig's counts.
 use mathlib.Core.Path.{_≡_, refl, sym, _∙_, subst}
 use mathlib.Core.Logic.{_≢_, inl, inr}
-use mathlib.Core.Bool.{_&&_}
+use mathlib.Core.Bool.{Bool, true, false, cond, _&&_}
 use mathlib.Core.List.{List, [], _∷_}
-use Prim.Native.Nat.{ℕ, _-_, _≤_}
+use Prim.Native.Nat.{ℕ, zero, suc, _+_, _-_, _≤_}
 use native.Mathlib.Omega.{arith}
-use borrow.Author.Tests.{eqb-true}
-use lib.Dec.{eqb}
+use borrow.Author.Tests.{eqb-true, ltb-true}
+use lib.Dec.{eqb, ltb}
 use lib.ListN.{getD, set, length-set}
 use lib.Seq.{getD-set-other}
 use Rattle.laws.specs.Cases.{dec-eq, and-true}
@@ -16,9 +16,10 @@ use Rattle.laws.specs.Members.{In}
 use Rattle.laws.specs.Laws.Stores.{stores-keep}
 use Rattle.rules.specs.Rig.{Rig, placeOf}
 use Rattle.rules.specs.RigOk.{RigOk}
+use Rattle.rules.specs.State.{State, stateOf, overrunsOf, active}
 use Rattle.rules.specs.Conditions.{relax, drive}
-use Rattle.rules.specs.Serving.{rouse}
-use Rattle.rules.specs.Soundness.{Tasks, Flags, Conds, WakingCounts}
+use Rattle.rules.specs.Serving.{rouse, tooSoon, mostOverruns, oneMore, overrun}
+use Rattle.rules.specs.Soundness.{Tasks, Flags, Conds, WakingCounts, Overruns}
 
 module _ (r : Rig) where
   -- ---- task states
@@ -71,6 +72,39 @@ module _ (r : Rig) where
         sized = length-set l t k ∙ h .sized;
         within = set-within (λ u. (1 ≤ u) × (u ≤ r .tasks)) l t k (λ q. (a, b)) (h .within);
       }
+
+  -- ---- overruns
+
+  pub overruns-set : (l : List ℕ) (t n : ℕ) → 1 ≤ t → t ≤ r .tasks → n ≤ mostOverruns → Overruns r l → Overruns r (set l t n)
+  overruns-set l t n a b c h =
+      record {
+        sized = length-set l t n ∙ h .sized;
+        small = set-le mostOverruns l t n c (h .small);
+        within = set-within (λ u. (1 ≤ u) × (u ≤ r .tasks)) l t n (λ q. (a, b)) (h .within);
+      }
+
+  -- "It stops at 65,535."
+  pub one-more-le : (n : ℕ) → n ≤ mostOverruns → oneMore n ≤ mostOverruns
+  unfolding oneMore
+  one-more-le n h = go (ltb n mostOverruns) refl
+    where
+      go : (b : Bool) → ltb n mostOverruns ≡ b → cond b (suc n) n ≤ mostOverruns
+      go true e = ltb-true n mostOverruns e
+      go false e = h
+
+  -- an active task is one of the rig's
+  some-active : (n : ℕ) → active n ≡ 1 → n ≢ 0
+  some-active zero e = absurd (omega (arith, e))
+  some-active (suc n) e = λ q. omega (arith, q)
+
+  pub overruns-count : (f : ℕ) (s : State) → Tasks r (s .states) → Overruns r (s .overruns) → Overruns r (overrun r f s)
+  unfolding overrun tooSoon
+  overruns-count f s k h =
+      stores-keep (λ i. tooSoon r f s (i + 1)) (λ i. i + 1) (λ i. oneMore (overrunsOf s (i + 1))) (Overruns r) 64
+      (λ i m a e g.
+      let u = some-active (stateOf s (i + 1)) (eqb-true _ 1 (and-true (eqb (active (stateOf s (i + 1))) 1) _ e .0)) in
+      overruns-set m (i + 1) (oneMore (overrunsOf s (i + 1))) (k .within (i + 1) u .0) (k .within (i + 1) u .1) (one-more-le _ (h .small (i + 1))) g)
+      (s .overruns) h
 
   -- ---- condition values
 

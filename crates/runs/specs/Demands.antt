@@ -11,19 +11,20 @@ use Rattle.laws.specs.Members.{In, Distinct}
 use Rattle.laws.specs.Ordered.{Ordered}
 use Rattle.chains.specs.Held.{at}
 use Rattle.chains.specs.Read.{chainAt, backAt}
-use Rattle.rules.specs.Sizes.{positions, tickWords}
+use Rattle.rules.specs.Sizes.{mostTasks, positions, tickWords}
 use Rattle.rules.specs.Rig.{placeOf}
 use Rattle.rules.specs.State.{Chain, timeChain, chainOf, State, Entry, Work, stateOf, inactive, waiting, dispatchable, on}
-use Rattle.rules.specs.Serving.{made, serve}
+use Rattle.rules.specs.Serving.{mostOverruns, made, serve}
 use Rattle.rules.specs.Soundness.{IsChain}
 use Rattle.rules.specs.Calls.{terminate, finish, tick, signal, effect, ended, run, start}
 use Rattle.rules.specs.History.{Earlier, Sooner}
+use Rattle.rules.specs.Overruns.{overrunsCounted, smaller}
 use Rattle.rules_laws.specs.Activation.{ByService, ByTest}
 use Rattle.rules_laws.specs.Heard.{WaitedOn, byTest}
 use Rattle.rules_laws.specs.Heard as H
 use Rattle.exec_family.specs.Anchors.{anchorOf}
 use Rattle.exec.specs.Sound.{rigIn, view, SoundRecord}
-use Rattle.runs.specs.Runs.{Made, MadeOn, callsOf, codeOf, servedOf, wokenOf, activatedOf, toldBy, historyIn}
+use Rattle.runs.specs.Runs.{Made, MadeOn, callsOf, codeOf, servedOf, wokenOf, activatedOf, toldBy, historyIn, eventsIn}
 use Rattle.exec.specs.declared.Exec.{Exec}
 
 -- the state of a task, and its waking count; who waits in a chain, read forward and backward
@@ -32,6 +33,10 @@ stateIn y t = at (y .st .state) t
 
 abbrev pub wakeIn : Exec → ℕ → ℕ
 wakeIn y t = at (y .st .wake) t
+
+-- L6: its number of overruns
+abbrev pub overrunsIn : Exec → ℕ → ℕ
+overrunsIn y t = at (y .st .overruns) t
 
 abbrev pub forwardIn : Exec → Chain → List ℕ
 forwardIn y c = chainAt (y .st .links) (anchorOf c)
@@ -164,3 +169,18 @@ NobodyLeft y =
 pub record AtMost (y : Exec) (m : Made) : Type 0 where
   pub finishes : m .call ≡ finish → servedOf (m .step) ≤ suc (y .rig .tasks)
   pub terminates : (t : ℕ) → m .call ≡ terminate t → servedOf (m .step) ≤ y .rig .tasks
+
+-- ---- L6: STARTS THAT CAME TOO SOON ARE COUNTED
+
+pub record Overran (x : Exec) (ms : List Made) (y : Exec) : Type 0 where
+  -- "equals the smaller of that stop and the number counted from the history since the last schedule"
+  pub counts : (t : ℕ) → 1 ≤ t → t ≤ mostTasks → overrunsIn y t ≡ smaller mostOverruns (overrunsCounted (rigIn x) t (eventsIn x ms))
+  -- only tasks of the rig have one
+  pub within : (t : ℕ) → overrunsIn y t ≢ 0 → (1 ≤ t) × (t ≤ y .rig .tasks)
+
+-- "A call reads it for any task, with no running task needed. Refusals: 12, then 6.": the question m about task t is asked of the record y, which
+-- is what it was
+pub record OverrunsTold (y : Exec) (t : ℕ) (m : Made) : Type 0 where
+  pub same : m .step .exec ≡ y
+  pub told : 1 ≤ t → t ≤ y .rig .tasks → (codeOf (m .step) ≡ 0) × (toldBy (m .step) ≡ overrunsIn y t)
+  pub refused : (t ≡ 0) ⊎ (y .rig .tasks < t) → codeOf (m .step) ≡ 6

@@ -6,6 +6,7 @@ use mathlib.Core.List.{List, [], _∷_, _++_, reverse}
 use Prim.Native.Nat.{ℕ, suc, _+_, _≤_, _<_}
 use native.Mathlib.Omega.{arith}
 use borrow.Author.Tests.{lt-leb}
+use Rattle.laws.specs.Cases.{by}
 use Rattle.laws.specs.Members.{In, Distinct}
 use Rattle.laws.specs.Ordered.{Ordered}
 use Rattle.chains.specs.Read.{chainsOf}
@@ -17,12 +18,15 @@ use Rattle.rules.specs.Rig as G
 use Rattle.rules.specs.RigOk.{RigOk}
 use Rattle.rules.specs.State as S
 use Rattle.rules.specs.State.{Chain, timeChain, chainOf, waiting}
-use Rattle.rules.specs.Serving.{made, serve}
+use Rattle.rules.specs.Serving.{mostOverruns, made, serve}
 use Rattle.rules.specs.Soundness.{IsChain, Sound}
 use Rattle.rules.specs.Calls as R
-use Rattle.rules.specs.Calls.{tick, waitUntil, waitFor, nextWaking, refusal}
+use Rattle.rules.specs.Calls.{tick, waitUntil, waitFor, nextWaking, readOverruns, noSuch, refusal}
 use Rattle.rules.specs.Proper.{ProperRun}
+use Rattle.rules_laws.specs.Acceptance.{there-is}
 use Rattle.rules_laws.specs.Refusals.{code-is, refused-unchanged}
+use Rattle.rules_laws.specs.RefusedExactly.{is-no-such}
+use Rattle.rules_laws.specs.Counted.{counted-since}
 use Rattle.rules_laws.specs.Steps.{step-sound, run-sound}
 use Rattle.rules_laws.specs.Bound.{served-79, start-served}
 use Rattle.rules_laws.specs.Demand.{flag-on, waits-in-one}
@@ -30,6 +34,7 @@ use Rattle.rules.specs.History.{History, untilCount, begins, notedIf, history, 
 use Rattle.rules.specs.History as H
 use Rattle.rules_laws.specs.InOrder.{chains-in-order}
 use Rattle.rules.specs.Waking.{Struck}
+use Rattle.rules.specs.Overruns.{Event, eventsIf, eventsFrom, startEvents, eventsOf, overrunsCounted, smaller}
 use Rattle.rules_laws.specs.Waking.{Spared}
 use Rattle.rules_laws.specs.Waking as W
 use Rattle.rules_laws.specs.WakingLaws as WL
@@ -46,10 +51,10 @@ use Rattle.exec.specs.Call.{Follows, Meets, Refuses, answerOf}
 use Rattle.exec.specs.Laws.Unique.{record-same}
 use Rattle.exec.specs.Laws.Meeting.{refused-tells-nothing}
 use Rattle.exec_sound.specs.Laws.RightRig.{rig-ok}
-use Rattle.exec.specs.Laws.Promises.{twelve-exactly, Answered, asked}
+use Rattle.exec.specs.Laws.Promises.{twelve-exactly, Answered, asked, overruns-asked, six-exactly, six-unchanged}
 use Rattle.exec.specs.Starting.{Started, noExec, brokenRig}
-use Rattle.runs.specs.Runs.{Made, MadeOn, Ran, callsOf, codeOf, servedOf, wokenOf, activatedOf, toldBy, AcceptedStart, noting, historyIn, SparedIn, NoneSoonerIn}
-use Rattle.runs.specs.Demands.{Stands, Chained, Activated, Bounded, Demand, Wakes, forwardIn, stateIn, wakeIn, OnTime, Told, leaves, Comes, byTestIn, Hears, Heard, NobodyLeft, AtMost}
+use Rattle.runs.specs.Runs.{Made, MadeOn, Ran, callsOf, codeOf, servedOf, wokenOf, activatedOf, toldBy, AcceptedStart, noting, historyIn, happening, eventsIn, SparedIn, NoneSoonerIn}
+use Rattle.runs.specs.Demands.{Stands, Chained, Activated, Bounded, Demand, Wakes, forwardIn, stateIn, wakeIn, OnTime, Told, leaves, Comes, byTestIn, Hears, Heard, NobodyLeft, AtMost, Overran, OverrunsTold}
 use Rattle.exec.specs.declared.Exec.{Exec}
 use Rattle.exec.specs.declared.Step.{Step}
 
@@ -122,6 +127,15 @@ module _ (r : G.Rig) where
       (λ i. noting (m .step .exec) (suc n) ms (notedIf n (code-same s x w m (p .0) i) (w .state i) (m .call) h))
       ∙ noting-same (R.step r s (m .call) .next) (m .step .exec) (gives s x w m (p .0) .next) ms y (p .1) (suc n)
       (notedIf n (refusal r s (m .call)) s (m .call) h)
+
+  happening-same : (s : S.State) (x : Exec) → Shows r s x → (ms : List Made) (y : Exec) → Ran x ms y → (h : List Event)
+      → happening x ms h ≡ eventsFrom r s (callsOf ms) h
+  unfolding happening eventsFrom
+  happening-same s x w [] y e h = refl
+  happening-same s x w (m ∷ ms) y p h =
+      (λ i. happening (m .step .exec) ms (eventsIf (code-same s x w m (p .0) i) (w .rig i) (w .state i) (m .call) h))
+      ∙ happening-same (R.step r s (m .call) .next) (m .step .exec) (gives s x w m (p .0) .next) ms y (p .1)
+      (eventsIf (refusal r s (m .call)) r s (m .call) h)
 
   spared-same : (s : S.State) (x : Exec) → Shows r s x → (ms : List Made) (y : Exec) → Ran x ms y → (t : ℕ) → SparedIn x ms t
       → Spared r s (callsOf ms) t
@@ -252,6 +266,24 @@ module _ (y : Exec) (h : SoundRecord y) (m : Made) (o : MadeOn y m) where
         terminates = λ t e. omega (arith, same-served (R.terminate t) e, terminate-most (rigIn y) (ok y h) (view y) (h .state) t);
       }
 
+  -- ---- L6: a task's number of overruns is read
+  module _ (t : ℕ) (asks : m .call ≡ readOverruns t) where
+    meets : Meets y (readOverruns t) (m .step) (m .after)
+    meets = subst (λ (k : R.Call). Meets y k (m .step) (m .after)) asks (o .meets)
+
+    sound-overruns-told : OverrunsTold y t m
+    sound-overruns-told =
+        record {
+          same =
+              by (noSuch (y .rig .tasks) t)
+              (λ e. ap (λ (r : Step). r .exec) (six-unchanged y t (m .step) (m .after) meets h (is-no-such (y .rig .tasks) t .0 e)))
+              (λ e. let k = there-is (y .rig .tasks) t e in overruns-asked y t (m .step) (m .after) meets h (k .0) (k .1) .same);
+          told = λ a b.
+              let e = overruns-asked y t (m .step) (m .after) meets h a b .answer in
+              (ap (λ (k : R.Answer). k .code) e, ap (λ (k : R.Answer). k .report .value) e);
+          refused = λ n. six-exactly y t (m .step) (m .after) meets .1 (h, n);
+        }
+
 -- ---- the waking clause of the rules, said of the record to which the calls ks led
 
 wakes-shown : (r : G.Rig) (s : S.State) (ks : List R.Call) (z : Exec) → Shows r (R.run r s ks) z → (t c : ℕ) → W.WakesByRules r t c s ks → Wakes t c z
@@ -376,6 +408,22 @@ module _ (g : Rig) (table : List (List ℕ)) (x : Exec) (s : AcceptedStart g tab
     -- L3: the true bound of a finish and of a terminate
     pub at-most : (m : Made) → MadeOn y m → AtMost y m
     at-most m o = sound-at-most y (there .sound) m o
+
+    -- L6: STARTS THAT CAME TOO SOON ARE COUNTED
+    pub overran : Overran x ms y
+    unfolding eventsIn eventsOf
+    overran =
+        record {
+          counts = λ t a b.
+              ap (λ (s : S.State). S.overrunsOf s t) (there .state)
+              ∙ counted-since (rigIn x) (callsOf ms) t a b
+              ∙ ap (λ (h : List Event). smaller mostOverruns (overrunsCounted (rigIn x) t h))
+              (sym (happening-same (rigIn x) (R.start (rigIn x)) x shown ms y ran (startEvents (rigIn x))));
+          within = there .sound .state .overruns .within;
+        }
+
+    pub overruns-told : (m : Made) → MadeOn y m → (t : ℕ) → m .call ≡ readOverruns t → OverrunsTold y t m
+    overruns-told m o = sound-overruns-told y (there .sound) m o
 
     -- L2: WHOM DID IT WAKE?
     pub heard : (m : Made) → MadeOn y m → Heard y m

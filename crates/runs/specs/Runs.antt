@@ -8,6 +8,7 @@ use Rattle.rules.specs.Calls.{Call}
 use Rattle.rules.specs.Proper.{Proper}
 use Rattle.rules.specs.History.{History, notedIf, never, untilCount, begins}
 use Rattle.rules.specs.Waking.{Struck}
+use Rattle.rules.specs.Overruns.{Event, eventsIf, startEvents}
 use Rattle.exec.specs.Sound.{rigIn, view}
 use Rattle.exec.specs.Call.{Meets, answerOf}
 use Rattle.exec.specs.Starting.{Starts}
@@ -70,6 +71,15 @@ noting x n (m ∷ ms) h = noting (m .step .exec) (suc n) ms (notedIf n (codeOf (
 -- of a run from the start on: the calls are numbered from 1, and at first nobody has waited
 unfoldable pub historyIn : Exec → List Made → History
 historyIn x ms = noting x 1 ms never
+
+-- L6: the history of services: each that was served in the run, the latest first, with the state before it; and each schedule that was accepted
+unfoldable pub happening : Exec → List Made → List Event → List Event
+happening x [] h = h
+happening x (m ∷ ms) h = happening (m .step .exec) ms (eventsIf (codeOf (m .step)) (rigIn x) (view x) (m .call) h)
+
+-- of a run from the start on, which schedules task 1
+unfoldable pub eventsIn : Exec → List Made → List Event
+eventsIn x ms = happening x ms (startEvents (rigIn x))
 
 -- task t is spared: no call of the run is accepted and terminates it, or cancels it, itself or through an ancestor
 abbrev pub SparedIn : Exec → List Made → ℕ → Type 0

@@ -80,6 +80,23 @@ pub fn empty(table: &[u32; TASK_PLACES], many: usize) -> bool
     bad == 0
 }
 
+// The same of overruns. What is there is joined and looked at once.
+pub fn overruns(numbers: &[u16; TASK_PLACES], many: usize) -> bool
+    ensures { λ r. ⌜ r ≡ emptyB (now (numbers .entry)) many ⌝ }
+{
+    let first = after(many, TASK_PLACES);
+    if numbers[0] != 0 {
+        return false;
+    }
+    let mut faults: u16 = 0;
+    let mut i = first;
+    while i < TASK_PLACES {
+        faults = faults | numbers[i];
+        i = i + 1;
+    }
+    faults == 0
+}
+
 // The largest value of a condition.
 fn allowed(present: u8) -> u8
     ensures { λ r. ⌜ r ≡ cond (eqb present 1) 1 0 ⌝ }

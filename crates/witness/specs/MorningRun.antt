@@ -20,11 +20,12 @@ use Rattle.rules.specs.Rig as G
 use Rattle.rules.specs.State as S
 use Rattle.rules.specs.State.{blank}
 use Rattle.rules.specs.Conditions.{relax, met, drive, names}
-use Rattle.rules.specs.Serving.{activate, takes, rouse, wake, ready, offer, offers, serveFlag, made, serving, serve}
+use Rattle.rules.specs.Serving.{activate, tooSoon, mostOverruns, oneMore, overrun, takes, rouse, wake, ready, offer, offers, serveFlag, made, serving, serve}
 use Rattle.rules.specs.Waiting.{waitOn, waitUntilCount, leave, wakeDue}
 use Rattle.rules.specs.Family.{family, cleared, deserted, offs}
 use Rattle.rules.specs.Running.{best, chosen, dispatch}
 use Rattle.rules.specs.Bus.{written, copied, rowWords, busWords}
+use Rattle.rules.specs.Rig.{inCycle, isMinor}
 use Rattle.rules.specs.Calls as R
 use Rattle.rules.specs.Proper.{ProperRun}
 use Rattle.rules.specs.Soundness as Rules
@@ -108,7 +109,7 @@ abbrev startRuled : G.Rig → List ℕ
 startRuled r = lineText startName (startColumns r)
 
 output-ruled : startRuled bench ++ ruled morningScript bench (R.start bench) morningCalls ≡ morningOutput
-unfolding bytes morningScript morningOutput bench morningCalls rig ofTask ofCondition numbers ofLine ofCycle tick₀ iter all any total over put commandWord blank relax met drive names activate takes rouse wake ready offer offers serveFlag made serving serve waitOn waitUntilCount leave wakeDue family cleared deserted offs best chosen dispatch written copied rowWords busWords R.tested R.scheduled R.finished R.terminated R.cancelled R.cycleQueue R.ticked R.effect R.ended R.again R.settled R.decide R.noSuch R.inCycle R.isMinor R.isActivation R.lastCount R.wrongBlock R.refusals R.refusal R.wordsAt R.lent R.output R.accepted R.after R.step R.run R.started R.start saidOf C.fieldsSay C.verbOf C.alone C.withNumber C.withValue split onHead led D.readByte D.readOn D.decBy D.dec fieldsText lineText extra numbersOf textOf
+unfolding bytes morningScript morningOutput bench morningCalls rig ofTask ofCondition numbers ofLine ofCycle tick₀ iter all any total over put commandWord blank relax met drive names activate tooSoon mostOverruns oneMore overrun takes rouse wake ready offer offers serveFlag made serving serve waitOn waitUntilCount leave wakeDue family cleared deserted offs best chosen dispatch written copied rowWords busWords R.tested R.scheduled R.finished R.terminated R.cancelled R.cycleQueue R.ticked R.effect R.ended R.again R.settled R.decide R.noSuch inCycle isMinor R.isActivation R.lastCount R.wrongBlock R.refusals R.refusal R.wordsAt R.lent R.output R.accepted R.after R.step R.run R.started R.start saidOf C.fieldsSay C.verbOf C.alone C.withNumber C.withValue split onHead led D.readByte D.readOn D.decBy D.dec fieldsText lineText extra numbersOf textOf
 output-ruled = refl
 
 -- ---- THE RUN: there is one, and it prints the paper's output

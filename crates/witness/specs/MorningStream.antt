@@ -17,12 +17,13 @@ use Rattle.decimal.specs.Decimal as D
 use Rattle.rules.specs.Rig as G
 use Rattle.rules.specs.State.{blank}
 use Rattle.rules.specs.Conditions.{relax, met, drive, names}
-use Rattle.rules.specs.Serving.{activate, takes, rouse, wake, ready, offer, offers, serveFlag, made, serving, serve}
+use Rattle.rules.specs.Serving.{activate, tooSoon, mostOverruns, oneMore, overrun, takes, rouse, wake, ready, offer, offers, serveFlag, made, serving, serve}
 use Rattle.rules.specs.Waiting.{waitOn, waitUntilCount, leave, wakeDue}
 use Rattle.rules.specs.Family.{family, cleared, deserted, offs}
 use Rattle.rules.specs.Running.{best, chosen, dispatch}
 use Rattle.rules.specs.Bus.{written, copied, rowWords, busWords}
 use Rattle.rules.specs.NextWaking.{lowestWaking}
+use Rattle.rules.specs.Rig.{inCycle, isMinor}
 use Rattle.rules.specs.Calls as R
 use Rattle.rules.specs.Scripts.{bench, rig, ofTask, ofCondition, numbers, ofLine, ofCycle, tick₀, morningCalls}
 use Rattle.rig_build.specs.declared.Answer.{Answer}
@@ -51,7 +52,7 @@ abbrev told : Bool → G.Rig → List (List ℕ) → List ℕ
 told panel r pieces = lineText startName (startColumns r) ++ talkText panel r (R.start r) pieces
 
 computed : (panel : Bool) → told panel bench (morningScript ++ [] ∷ []) ≡ morningOutput
-unfolding bytes morningScript morningOutput bench morningCalls rig ofTask ofCondition numbers ofLine ofCycle tick₀ iter all any total over put commandWord blank relax met drive names activate takes rouse wake ready offer offers serveFlag made serving serve waitOn waitUntilCount leave wakeDue family cleared deserted offs best chosen dispatch written copied rowWords busWords R.tested R.scheduled R.finished R.terminated R.cancelled R.cycleQueue R.ticked R.effect R.ended R.again R.settled R.decide R.noSuch R.inCycle R.isMinor R.isActivation R.lastCount R.wrongBlock R.refusals R.refusal R.wordsAt R.lent R.output R.accepted R.after R.step R.run R.started R.start saidOf C.fieldsSay C.verbOf C.alone C.withNumber C.withValue split onHead led D.readByte D.readOn D.decBy D.dec fieldsText lineText extra numbersOf textOf talkText lastText U.turnText U.turnNext U.askedText U.askedNext askedBy
+unfolding bytes morningScript morningOutput bench morningCalls rig ofTask ofCondition numbers ofLine ofCycle tick₀ iter all any total over put commandWord blank relax met drive names activate tooSoon mostOverruns oneMore overrun takes rouse wake ready offer offers serveFlag made serving serve waitOn waitUntilCount leave wakeDue family cleared deserted offs best chosen dispatch written copied rowWords busWords R.tested R.scheduled R.finished R.terminated R.cancelled R.cycleQueue R.ticked R.effect R.ended R.again R.settled R.decide R.noSuch inCycle isMinor R.isActivation R.lastCount R.wrongBlock R.refusals R.refusal R.wordsAt R.lent R.output R.accepted R.after R.step R.run R.started R.start saidOf C.fieldsSay C.verbOf C.alone C.withNumber C.withValue split onHead led D.readByte D.readOn D.decBy D.dec fieldsText lineText extra numbersOf textOf talkText lastText U.turnText U.turnNext U.askedText U.askedNext askedBy
 computed panel = refl
 
 accepted-text : (panel : Bool) (script : List ℕ) → wholeText panel (fileAccepted morningRig (codeCycles bench)) script ≡ told panel (rigOf morningRig (codeCycles bench)) (split lf script)
@@ -67,14 +68,15 @@ morning-text panel =
     ∙ ap (λ (r : G.Rig). told panel r (morningScript ++ [] ∷ [])) morning-rig
     ∙ computed panel
 
--- THE PANEL on the same rig: nobody waits for a count; task 1 waits for the count 2, and nobody runs; and with the panel's verbs off
+-- THE PANEL on the same rig: nobody waits for a count; task 1 waits for the count 2, and nobody runs; no start came too soon, and there is no
+-- task 4; and with the panel's verbs off
 unfoldable pub panelScript : List (List ℕ)
-panelScript = map bytes ("V" ∷ "U\t2" ∷ "V" ∷ "V\t1" ∷ "" ∷ [])
+panelScript = map bytes ("V" ∷ "U\t2" ∷ "V" ∷ "V\t1" ∷ "O\t1" ∷ "O\t4" ∷ "" ∷ [])
 
-pub panel-prints : told true bench panelScript ≡ bytes ("START\t0\t0\t1\t0\t0\n" ⧺ "V\t0\t0\t1\t0\t0\n" ⧺ "U\t0\t0\t0\t0\t0\n" ⧺ "V\t0\t0\t0\t0\t0\t2\n" ⧺ "?\n")
-unfolding panelScript bytes lowestWaking morningScript morningOutput bench morningCalls rig ofTask ofCondition numbers ofLine ofCycle tick₀ iter all any total over put commandWord blank relax met drive names activate takes rouse wake ready offer offers serveFlag made serving serve waitOn waitUntilCount leave wakeDue family cleared deserted offs best chosen dispatch written copied rowWords busWords R.tested R.scheduled R.finished R.terminated R.cancelled R.cycleQueue R.ticked R.effect R.ended R.again R.settled R.decide R.noSuch R.inCycle R.isMinor R.isActivation R.lastCount R.wrongBlock R.refusals R.refusal R.wordsAt R.lent R.output R.accepted R.after R.step R.run R.started R.start saidOf C.fieldsSay C.verbOf C.alone C.withNumber C.withValue split onHead led D.readByte D.readOn D.decBy D.dec fieldsText lineText extra numbersOf textOf talkText lastText U.turnText U.turnNext U.askedText U.askedNext askedBy
+pub panel-prints : told true bench panelScript ≡ bytes ("START\t0\t0\t1\t0\t0\n" ⧺ "V\t0\t0\t1\t0\t0\n" ⧺ "U\t0\t0\t0\t0\t0\n" ⧺ "V\t0\t0\t0\t0\t0\t2\n" ⧺ "?\n" ⧺ "O\t0\t0\t0\t0\t0\t0\n" ⧺ "O\t6\t0\t0\t0\t0\n")
+unfolding panelScript bytes lowestWaking morningScript morningOutput bench morningCalls rig ofTask ofCondition numbers ofLine ofCycle tick₀ iter all any total over put commandWord blank relax met drive names activate tooSoon mostOverruns oneMore overrun takes rouse wake ready offer offers serveFlag made serving serve waitOn waitUntilCount leave wakeDue family cleared deserted offs best chosen dispatch written copied rowWords busWords R.tested R.scheduled R.finished R.terminated R.cancelled R.cycleQueue R.ticked R.effect R.ended R.again R.settled R.decide R.noSuch inCycle isMinor R.isActivation R.lastCount R.wrongBlock R.refusals R.refusal R.wordsAt R.lent R.output R.accepted R.after R.step R.run R.started R.start saidOf C.fieldsSay C.verbOf C.alone C.withNumber C.withValue split onHead led D.readByte D.readOn D.decBy D.dec fieldsText lineText extra numbersOf textOf talkText lastText U.turnText U.turnNext U.askedText U.askedNext askedBy
 panel-prints = refl
 
-pub runner-prints : told false bench panelScript ≡ bytes ("START\t0\t0\t1\t0\t0\n" ⧺ "?\n" ⧺ "U\t0\t0\t0\t0\t0\n" ⧺ "?\n" ⧺ "?\n")
-unfolding panelScript bytes lowestWaking morningScript morningOutput bench morningCalls rig ofTask ofCondition numbers ofLine ofCycle tick₀ iter all any total over put commandWord blank relax met drive names activate takes rouse wake ready offer offers serveFlag made serving serve waitOn waitUntilCount leave wakeDue family cleared deserted offs best chosen dispatch written copied rowWords busWords R.tested R.scheduled R.finished R.terminated R.cancelled R.cycleQueue R.ticked R.effect R.ended R.again R.settled R.decide R.noSuch R.inCycle R.isMinor R.isActivation R.lastCount R.wrongBlock R.refusals R.refusal R.wordsAt R.lent R.output R.accepted R.after R.step R.run R.started R.start saidOf C.fieldsSay C.verbOf C.alone C.withNumber C.withValue split onHead led D.readByte D.readOn D.decBy D.dec fieldsText lineText extra numbersOf textOf talkText lastText U.turnText U.turnNext U.askedText U.askedNext askedBy
+pub runner-prints : told false bench panelScript ≡ bytes ("START\t0\t0\t1\t0\t0\n" ⧺ "?\n" ⧺ "U\t0\t0\t0\t0\t0\n" ⧺ "?\n" ⧺ "?\n" ⧺ "?\n" ⧺ "?\n")
+unfolding panelScript bytes lowestWaking morningScript morningOutput bench morningCalls rig ofTask ofCondition numbers ofLine ofCycle tick₀ iter all any total over put commandWord blank relax met drive names activate tooSoon mostOverruns oneMore overrun takes rouse wake ready offer offers serveFlag made serving serve waitOn waitUntilCount leave wakeDue family cleared deserted offs best chosen dispatch written copied rowWords busWords R.tested R.scheduled R.finished R.terminated R.cancelled R.cycleQueue R.ticked R.effect R.ended R.again R.settled R.decide R.noSuch inCycle isMinor R.isActivation R.lastCount R.wrongBlock R.refusals R.refusal R.wordsAt R.lent R.output R.accepted R.after R.step R.run R.started R.start saidOf C.fieldsSay C.verbOf C.alone C.withNumber C.withValue split onHead led D.readByte D.readOn D.decBy D.dec fieldsText lineText extra numbersOf textOf talkText lastText U.turnText U.turnNext U.askedText U.askedNext askedBy
 runner-prints = refl

@@ -56,6 +56,7 @@ stateOf s =
       cond = s .conds;
       state = s .states;
       wake = s .wakes;
+      overruns = s .overruns;
       links = linksOf (byAnchor (s .chains));
       running = s .running;
     }
@@ -153,6 +154,7 @@ module _ (g : Rig) (cycles : List Cycle) (right : Right g cycles) where
         conds = s .conds;
         states = s .states;
         wakes = s .wakes;
+        overruns = s .overruns;
         chains = e i;
         running = s .running;
       }

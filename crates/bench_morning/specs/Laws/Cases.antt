@@ -21,8 +21,8 @@ pub wrong-lines : (panel : Bool) (r : G.Rig) (s : S.State) → talkText panel r 
 unfolding talkText split onHead turnText turnNext askedText askedNext askedBy saidOf fieldsSay verbOf alone withNumber withValue lastText readByte readOn
 wrong-lines panel r s = refl
 
--- with the panel's verbs off V "prints ? alone"
-pub off-lines : (r : G.Rig) (s : S.State) → talkText false r s (split lf (86 ∷ 10 ∷ 86 ∷ 9 ∷ 49 ∷ 10 ∷ [])) ≡ question ∷ lf ∷ question ∷ lf ∷ []
+-- with the panel's verbs off V and O "print ? alone"
+pub off-lines : (r : G.Rig) (s : S.State) → talkText false r s (split lf (86 ∷ 10 ∷ 79 ∷ 9 ∷ 49 ∷ 10 ∷ [])) ≡ question ∷ lf ∷ question ∷ lf ∷ []
 unfolding talkText split onHead turnText turnNext askedText askedNext askedBy saidOf fieldsSay verbOf alone withNumber withValue lastText readByte readOn
 off-lines r s = refl
 
@@ -30,6 +30,11 @@ off-lines r s = refl
 pub v-stands-alone : (panel : Bool) (r : G.Rig) (s : S.State) → talkText panel r s (split lf (86 ∷ 9 ∷ 49 ∷ 10 ∷ 118 ∷ 10 ∷ [])) ≡ question ∷ lf ∷ question ∷ lf ∷ []
 unfolding talkText split onHead turnText turnNext askedText askedNext askedBy saidOf fieldsSay verbOf alone withNumber withValue lastText readByte readOn
 v-stands-alone panel r s = refl
+
+-- and so does O with no number behind it
+pub o-names-a-task : (panel : Bool) (r : G.Rig) (s : S.State) → talkText panel r s (split lf (79 ∷ 10 ∷ [])) ≡ question ∷ lf ∷ []
+unfolding talkText split onHead turnText turnNext askedText askedNext askedBy saidOf fieldsSay verbOf alone withNumber withValue lastText readByte readOn
+o-names-a-task panel r s = refl
 
 -- a script that ends with its last line's LF, and one with no line at all
 pub ended-lines : (panel : Bool) (r : G.Rig) (s : S.State) → talkText panel r s (split lf (82 ∷ 85 ∷ 78 ∷ 10 ∷ [])) ≡ question ∷ lf ∷ []

@@ -74,7 +74,7 @@ returns-3 c =
     let p = c .before .before .before .before .before .before .before .before .before .find in
     let q = c .before .before .before .before .before .find2 in
     let n = c .before .before .before .number-in in
-    c .with-number .ensures ∙ number-same (c .before .before .before .before .before .before .before .verb-of .ensures) (n .ensures)
+    c .with-number .ensures ∙ number-same _ (c .before .before .before .before .before .before .before .verb-of .ensures) (n .ensures)
     ∙ sym (two-fields _ s (p .result) (p .ensures) (short-of s 0 9 (p .result) (p .ensures) (c .before .before .before .before .before .before .if1 .left)) (q .result) (q .ensures)
     (subst (λ (x : ℕ). x < cap) (n .ensures) (c .before .before .if2 .left)) (c .before .if3 .taken))
 

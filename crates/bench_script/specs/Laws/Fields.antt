@@ -36,8 +36,8 @@ verb-none (v ∷ []) h = absurd (h refl)
 verb-none (v ∷ w ∷ ws) h = refl
 
 -- equal parts, equal lines
-pub number-same : {v w n m : ℕ} → v ≡ w → n ≡ m → withNumber v n ≡ withNumber w m
-number-same e f = rw (e, f)
+pub number-same : (panel : Bool) {v w n m : ℕ} → v ≡ w → n ≡ m → withNumber panel v n ≡ withNumber panel w m
+number-same panel e f = rw (e, f)
 
 pub value-same : {v w n m a b : ℕ} → v ≡ w → n ≡ m → a ≡ b → withValue v n (eqb a 1) ≡ withValue w m (eqb b 1)
 value-same e f g = rw (e, f, g)
@@ -67,7 +67,7 @@ module _ (panel : Bool) (s : List ℕ) (p : ℕ) (fp : Found s 0 (length s) 9 p)
     unfolding saidOf
     bad-number n = ap (fieldsSay panel) two-pieces ∙ wrong-number panel (part 0 p s) (part (p + 1) q s) (rest 9 (part q (length s) s)) n
 
-    pub two-fields : number (part (p + 1) q s) < cap → q ≡ length s → saidOf panel s ≡ withNumber (verbOf (part 0 p s)) (number (part (p + 1) q s))
+    pub two-fields : number (part (p + 1) q s) < cap → q ≡ length s → saidOf panel s ≡ withNumber panel (verbOf (part 0 p s)) (number (part (p + 1) q s))
     unfolding saidOf fieldsSay
     two-fields n e =
         let z : rest 9 (part q (length s) s) ≡ [] = rw e (rest-none 9 (length s) s) in

@@ -2,34 +2,59 @@
 -- verbs on and off, or it asks one of the panel's questions, and then it says nothing with them off.
 use mathlib.Core.Path.{_≡_, refl}
 use mathlib.Core.Logic.{_⊎_, inl, inr}
-use mathlib.Core.Bool.{true, false}
+use mathlib.Core.Bool.{Bool, true, false, cond}
 use mathlib.Core.List.{List, [], _∷_}
 use Prim.Native.Nat.{ℕ}
-use lib.Dec.{eqb}
-use Rattle.laws.specs.Cases.{by}
+use lib.Dec.{ltb, eqb}
+use Rattle.decimal.specs.Decimal.{cap, number, readByte, readOn}
 use Rattle.text.specs.Split.{onHead, split}
-use Rattle.bench_script.specs.Letters.{tab, finishVerb, tickVerb, nextWakingVerb}
-use Rattle.bench_script.specs.Script.{verbOf, alone, fieldsSay, saidOf}
+use Rattle.bench_script.specs.Letters.{tab, scheduleVerb, cancelVerb, terminateVerb, finishVerb, tickVerb, untilVerb, cyclesVerb, askVerb, nextWakingVerb, overrunsVerb}
+use Rattle.bench_script.specs.Script.{verbOf, ofPanel, alone, withNumber, fieldsSay, saidOf}
 use Rattle.bench_script.specs.declared.Said.{Said}
-use Rattle.bench_script.specs.declared.Said.the-variants.{NextWaking, Wrong}
+use Rattle.bench_script.specs.declared.Said.the-variants.{Schedule, Cancel, Terminate, Finish, Tick, Until, Cycles, Ask, NextWaking, Overruns, Wrong}
+
+-- the panel's questions
+abbrev pub Asks : Said → Type 0
+Asks said = (said ≡ NextWaking) ⊎ ((t : ℕ) × (said ≡ Overruns t))
 
 -- what a line says with the panel's verbs on, and off
 abbrev pub Adds : Said → Said → Type 0
-Adds on off = (on ≡ off) ⊎ ((on ≡ NextWaking) × (off ≡ Wrong))
+Adds on off = (on ≡ off) ⊎ (Asks on × (off ≡ Wrong))
+
+-- a verb of both, then others
+first-adds : (b : Bool) (said : Said) {on off : Said} → Adds on off → Adds (cond b said on) (cond b said off)
+first-adds true said h = inl refl
+first-adds false said h = h
+
+-- a verb of the panel, the last that there is
+last-adds : (b : Bool) (said : Said) → Asks said → Adds (cond b (ofPanel true said) Wrong) (cond b (ofPanel false said) Wrong)
+last-adds true said h = inr (h, refl)
+last-adds false said h = inl refl
 
 alone-adds : (v : ℕ) → Adds (alone true v) (alone false v)
 unfolding alone
 alone-adds v =
-    by (eqb v finishVerb)
-    (λ e. inl (rw e))
-    (λ e. by (eqb v tickVerb) (λ f. inl (rw (e, f)))
-    (λ f. by (eqb v nextWakingVerb) (λ g. inr (rw (e, f, g), rw (e, f, g))) (λ g. inl (rw (e, f, g)))))
+    first-adds (eqb v finishVerb) Finish (first-adds (eqb v tickVerb) Tick (last-adds (eqb v nextWakingVerb) NextWaking (inl refl)))
+
+number-adds : (v n : ℕ) → Adds (withNumber true v n) (withNumber false v n)
+unfolding withNumber
+number-adds v n =
+    first-adds (eqb v scheduleVerb) (Schedule n)
+    (first-adds (eqb v cancelVerb) (Cancel n)
+    (first-adds (eqb v terminateVerb) (Terminate n)
+    (first-adds (eqb v untilVerb) (Until n)
+    (first-adds (eqb v cyclesVerb) (Cycles n)
+    (first-adds (eqb v askVerb) (Ask n) (last-adds (eqb v overrunsVerb) (Overruns n) (inr (n, refl))))))))
 
 fields-add : (ps : List (List ℕ)) → Adds (fieldsSay true ps) (fieldsSay false ps)
 unfolding fieldsSay
 fields-add [] = inl refl
 fields-add (v ∷ []) = alone-adds (verbOf v)
-fields-add (v ∷ n ∷ []) = inl refl
+fields-add (v ∷ n ∷ []) = go (ltb (number n) cap) (number-adds (verbOf v) (number n))
+  where
+    go : (b : Bool) {on off : Said} → Adds on off → Adds (cond b on Wrong) (cond b off Wrong)
+    go true h = h
+    go false h = inl refl
 fields-add (v ∷ f ∷ b ∷ []) = inl refl
 fields-add (v ∷ f ∷ b ∷ x ∷ xs) = inl refl
 
@@ -37,7 +62,11 @@ pub panel-adds : (line : List ℕ) → Adds (saidOf true line) (saidOf false lin
 unfolding saidOf
 panel-adds line = fields-add (split tab line)
 
--- and V is such a line, so that the panel has the question
+-- and V is such a line, and so is O with a number, so that the panel has the questions
 pub v-asks : (saidOf true (86 ∷ []) ≡ NextWaking) × (saidOf false (86 ∷ []) ≡ Wrong)
 unfolding saidOf fieldsSay alone verbOf split onHead
 v-asks = (refl, refl)
+
+pub o-asks : (saidOf true (79 ∷ 9 ∷ 51 ∷ []) ≡ Overruns 3) × (saidOf false (79 ∷ 9 ∷ 51 ∷ []) ≡ Wrong)
+unfolding saidOf fieldsSay withNumber verbOf split onHead readByte readOn
+o-asks = (refl, refl)

@@ -14,7 +14,7 @@ use Rattle.exec.specs.Call.{reportOf, answerOf, ProperAnswer}
 use Rattle.exec.specs.declared.Report.{Report}
 use Rattle.exec.specs.declared.Answer.{Answer}
 use Rattle.exec.specs.declared.Answer.the-variants.{Accepted, Refused}
-use Rattle.bench_script.specs.Letters.{lf, tickVerb, askVerb, nextWakingVerb}
+use Rattle.bench_script.specs.Letters.{lf, tickVerb, askVerb, nextWakingVerb, overrunsVerb}
 use Rattle.bench_script.specs.Output.{fieldsText, ifAny, lineText, turnRoom}
 use Rattle.put_text.specs.Wrote.{Wrote}
 use Rattle.put_text.specs.Laws.Wrote.{wrote-then, wrote-as, wrote-none, byte-wrote}
@@ -71,13 +71,25 @@ module _ (verb : ℕ) (report : R.Report) (ws l m : List ℕ) (at p : ℕ) where
       wrote-as l m (fieldsText (ifAny (report .value))) (fieldsText (extra verb report ws)) at p
       (ap fieldsText (sym (if-no _ (ne-eqb verb tickVerb n) (if-no _ (ne-eqb verb askVerb k) (if-yes _ (eq-eqb verb nextWakingVerb e) refl))))) w
 
+  -- a task's number of overruns
+  pub extra-overruns : verb ≢ tickVerb → verb ≢ askVerb → verb ≢ nextWakingVerb → verb ≡ overrunsVerb → Wrote l at (fieldsText (report .value ∷ [])) m p
+      → Wrote l at (fieldsText (extra verb report ws)) m p
+  unfolding extra
+  extra-overruns n k v e w =
+      wrote-as l m (fieldsText (report .value ∷ [])) (fieldsText (extra verb report ws)) at p
+      (ap fieldsText
+      (sym (if-no _ (ne-eqb verb tickVerb n)
+      (if-no _ (ne-eqb verb askVerb k) (if-no _ (ne-eqb verb nextWakingVerb v) (if-yes _ (eq-eqb verb overrunsVerb e) refl)))))) w
+
 -- nothing of any other call
-pub extra-nothing : (verb : ℕ) (report : R.Report) (ws l : List ℕ) (at : ℕ) → verb ≢ tickVerb → verb ≢ askVerb → verb ≢ nextWakingVerb
+pub extra-nothing : (verb : ℕ) (report : R.Report) (ws l : List ℕ) (at : ℕ) → verb ≢ tickVerb → verb ≢ askVerb → verb ≢ nextWakingVerb → verb ≢ overrunsVerb
     → Wrote l at (fieldsText (extra verb report ws)) l at
 unfolding extra
-extra-nothing verb report ws l at n e v =
+extra-nothing verb report ws l at n e v o =
     wrote-as l l [] (fieldsText (extra verb report ws)) at at
-    (sym (ap fieldsText (if-no _ (ne-eqb verb tickVerb n) (if-no _ (ne-eqb verb askVerb e) (if-no _ (ne-eqb verb nextWakingVerb v) refl))) ∙ fields-none))
+    (sym (ap fieldsText
+    (if-no _ (ne-eqb verb tickVerb n)
+    (if-no _ (ne-eqb verb askVerb e) (if-no _ (ne-eqb verb nextWakingVerb v) (if-no _ (ne-eqb verb overrunsVerb o) refl)))) ∙ fields-none))
     (wrote-none l at)
 
 -- how long an extra is: a field of it is at most one
@@ -92,10 +104,11 @@ unfolding extra
 extra-length verb report ws h =
     by (eqb verb tickVerb)
     (λ e. rw e (let f = fields-length (take (report .words) ws) in let g = length-take (report .words) ws in omega arith))
-    (λ e. rw e (few-length (cond (eqb verb askVerb) (report .value ∷ []) (cond (eqb verb nextWakingVerb) (ifAny (report .value)) []))
+    (λ e. rw e (few-length (cond (eqb verb askVerb) (report .value ∷ []) (cond (eqb verb nextWakingVerb) (ifAny (report .value)) (cond (eqb verb overrunsVerb) (report .value ∷ []) [])))
     (by (eqb verb askVerb)
     (λ d. rw d (omega arith))
-    (λ d. rw d (by (eqb verb nextWakingVerb) (λ v. rw v (any-length (report .value))) (λ v. rw v (omega arith)))))))
+    (λ d. rw d (by (eqb verb nextWakingVerb) (λ v. rw v (any-length (report .value)))
+    (λ v. rw v (by (eqb verb overrunsVerb) (λ o. rw o (omega arith)) (λ o. rw o (omega arith)))))))))
 
 -- the number of a refused answer is not that of an accepted one
 refused-code : (a : Answer) (k : ℕ) → a ≡ Refused k → ProperAnswer a → answerOf a .code ≢ 0

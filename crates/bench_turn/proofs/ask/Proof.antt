@@ -78,6 +78,12 @@ enum-told-3 c = search needs
 next-waking-requires : tie.Need-next-waking-requires
 next-waking-requires c κs = search needs
 
+enum-known-said-10 : tie.Need-enum-known-said-10
+enum-known-said-10 c = search needs
+
+overruns-requires : tie.Need-overruns-requires
+overruns-requires c κs = search needs
+
 enum-told-4 : tie.Need-enum-told-4
 enum-told-4 c = search needs
 
@@ -121,7 +127,10 @@ returns-12 : tie.Need-returns-12
 returns-12 c = subst (λ (x : Said). Made (c .before .before .before .before .args .e) x (c .before .before .before .before .args .words .now) (c .next-waking .result) (c .before .before .before .before .args .words .now)) (sym (c .before .enum-told3 .given .1)) (c .next-waking .ensures)
 
 returns-13 : tie.Need-returns-13
-returns-13 c = subst (λ (x : Said). Made (c .before .before .before .args .e) x (c .before .before .before .args .words .now) (record { exec = c .before .before .before .args .e; answer = Refused wrongShape }) (c .before .before .before .args .words .now)) (sym (c .enum-told4 .given .1)) refl
+returns-13 c = subst (λ (x : Said). Made (c .before .before .before .before .before .args .e) x (c .before .before .before .before .before .args .words .now) (c .overruns .result) (c .before .before .before .before .before .args .words .now)) (sym (c .before .before .said10 .given .1)) (c .overruns .ensures)
+
+returns-14 : tie.Need-returns-14
+returns-14 c = subst (λ (x : Said). Made (c .before .before .before .args .e) x (c .before .before .before .args .words .now) (record { exec = c .before .before .before .args .e; answer = Refused wrongShape }) (c .before .before .before .args .words .now)) (sym (c .enum-told4 .given .1)) refl
 
 pub ask-spec : {M : Type 1} → statement M
 ask-spec =
@@ -151,6 +160,8 @@ ask-spec =
     read-flag-requires
     enum-told-3
     next-waking-requires
+    enum-known-said-10
+    overruns-requires
     enum-told-4
     returns
     returns-2
@@ -165,4 +176,5 @@ ask-spec =
     returns-10
     returns-11
     returns-12
-    returns-13)
+    returns-13
+    returns-14)

@@ -5,12 +5,16 @@ use mathlib.Core.Bool.{Bool, true, false, cond}
 use mathlib.Core.List.{List, [], _∷_}
 use Prim.Native.Nat.{ℕ, suc, _≤_}
 use native.Mathlib.Omega.{arith}
+use lib.ListN.{getD}
 use Rattle.rules.specs.Rig as G
 use Rattle.rules.specs.State as S
 use Rattle.rules.specs.Calls as R
 use Rattle.rules.specs.NextWaking.{LowestWaking, lowestWaking}
+use Rattle.rules.specs.Reasons.{NoSuch}
 use Rattle.rules_laws.specs.Refusals.{code-is}
+use Rattle.rules_laws.specs.RefusedExactly.{refused-exactly}
 use Rattle.rules_laws.specs.NextWaking.{lowest-is, asked-step}
+use Rattle.rules_laws.specs.Counted.{read-refused, read-step}
 use Rattle.exec_refusals.specs.Numbers.{notSound}
 use Rattle.exec.specs.Sound.{rigIn, view, SoundRecord}
 use Rattle.exec.specs.Call.{Follows, Meets, answerOf, refuse}
@@ -50,6 +54,7 @@ low r s (R.readFlag f) = (omega arith, (omega arith, (omega arith, tt)))
 low r s (R.readBlock k area buffer) = (omega arith, (omega arith, (omega arith, tt)))
 low r s (R.writeBlock k area buffer) = (omega arith, (omega arith, (omega arith, tt)))
 low r s R.nextWaking = tt
+low r s (R.readOverruns t) = (omega arith, tt)
 
 pub refusal-low : (r : G.Rig) (s : S.State) (k : R.Call) → R.refusal r s k ≤ 10
 unfolding R.refusal
@@ -104,3 +109,39 @@ asked x r after m h = ⊎-elim (λ p. go (p .1)) (λ p. absurd (p .0 h)) (m .is)
 pub asked-unsound : (x : Exec) (r : Step) (after : List ℕ) → Meets x R.nextWaking r after → (SoundRecord x → ⊥) → r ≡ refuse x notSound
 asked-unsound x r after m n =
     ⊎-elim (λ p. absurd (n (p .0))) (λ p. refuses-is x notSound (λ z. omega arith) r (p .1)) (m .is)
+
+-- A task's number of overruns, asked of a sound record: the record is what it was, no flag is served, and what is told is the task's number in
+-- the record
+pub record OverrunsAnswered (x : Exec) (t : ℕ) (r : Step) : Type 0 where
+  pub same : r .exec ≡ x
+  pub answer : answerOf (r .answer) ≡ record { code = 0; report = R.valueOnly (getD (x .st .overruns) t 0) }
+
+module _ (x : Exec) (t : ℕ) (r : Step) (after : List ℕ) (m : Meets x (R.readOverruns t) r after) where
+  -- "A call reads it for any task, with no running task needed."
+  pub overruns-asked : SoundRecord x → 1 ≤ t → t ≤ x .rig .tasks → OverrunsAnswered x t r
+  overruns-asked h a b = ⊎-elim (λ p. go (p .1)) (λ p. absurd (p .0 h)) (m .is)
+    where
+      go : Follows x (R.readOverruns t) r after → OverrunsAnswered x t r
+      go f =
+          let e = read-step (rigIn x) (view x) (h .state) t a b in
+          record {
+            same = record-same (r .exec) x (f .sound) h (f .rig) (f .cycles) (f .next ∙ ap (λ (s : R.Step). s .next) e);
+            answer = f .answer ∙ ap (λ (s : R.Step). s .answer) e;
+          }
+
+  -- "Refusals: 12, then 6": 12 as of every call (twelve-exactly), 6 of a sound record where there is no such task, and for nothing else
+  pub six-exactly : (answerOf (r .answer) .code ≡ 6) ↔ (SoundRecord x × NoSuch (x .rig .tasks) t)
+  six-exactly =
+      let six = refused-exactly (rigIn x) (view x) (R.readOverruns t) .six in (
+        (λ e. ⊎-elim
+            (λ p. (p .0, six .0 (sym (ap (λ (a : R.Answer). a .code) (p .1 .answer) ∙ code-is (rigIn x) (view x) (R.readOverruns t)) ∙ e) .0))
+            (λ p. absurd (omega (arith, e, ap (λ (a : R.Answer). a .code) (p .1 .answer)))) (m .is)),
+        (λ w. ⊎-elim
+            (λ p. ap (λ (a : R.Answer). a .code) (p .1 .answer) ∙ code-is (rigIn x) (view x) (R.readOverruns t) ∙ six .1 (w .1, λ z. absurd z))
+            (λ p. absurd (p .0 (w .0))) (m .is)),
+      )
+
+  -- and then the record is what it was
+  pub six-unchanged : SoundRecord x → NoSuch (x .rig .tasks) t → r ≡ refuse x 6
+  six-unchanged h n =
+      refused-unchanged x (R.readOverruns t) r after m h 5 (read-refused (rigIn x) (view x) t n) .0

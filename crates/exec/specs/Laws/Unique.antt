@@ -38,6 +38,7 @@ state-same s t y z a b e =
       cond = e i .conds;
       state = e i .states;
       wake = e i .wakes;
+      overruns = e i .overruns;
       links = l i;
       running = e i .running;
     }

@@ -45,25 +45,41 @@ returns c =
 ticked-requires : tie.Need-ticked-requires
 ticked-requires c κs = (sound c .links, tick-ok (c .before .before .before .before .args .rig) (c .before .before .before .before .args .cycles) (c .before .before .before .before .args .st) (sound c) (length (c .before .before .before .before .args .out .now)) (quiet c))
 
-settle-requires : tie.Need-settle-requires
-settle-requires c κs = settles (c .before .before .before .before .before .args .rig) (c .before .before .before .before .before .args .cycles) (c .before .before .before .before .before .args .st) (sound (c .before)) (R.tick (c .before .before .before .before .before .args .out .now)) tt (none (c .before)) (c .ticked .result) (ticked-work (c .before .before .before .before .before .args .rig) (c .before .before .before .before .before .args .cycles) (c .before .before .before .before .before .args .st) (sound (c .before)) (c .ticked .result) (c .ticked .ensures) (c .before .before .before .before .before .args .out .now)) (c .ticked .ensures .sound)
+cycle-at-requires : tie.Need-cycle-at-requires
+cycle-at-requires c κs = search needs
+
+settle-in-requires : tie.Need-settle-in-requires
+settle-in-requires c κs =
+    let w = c .before .ticked in
+    let e = c .before .before in
+    let a = e .before .before .before .before .args in
+    settles (a .rig) (a .cycles) (a .st) (sound e) (R.tick (a .out .now)) tt (none e) (w .result) (ticked-work (a .rig) (a .cycles) (a .st) (sound e) (w .result) (w .ensures) (a .out .now)) (w .ensures .sound)
 
 cast-bus-words : tie.Need-cast-bus-words
 cast-bus-words c = search needs
 
 bus-words-requires : tie.Need-bus-words-requires
-bus-words-requires c κs = (rows-fit (c .before .before .before .before .before .before .before .before .before .args .rig) (c .before .before .before .before .before .before .before .before .before .args .cycles) (sound (c .before .before .before .before .before) .rig), tick-room (c .before .before .before .before .before .before .before .before .before .args .rig) (c .before .before .before .before .before .before .before .before .before .args .cycles) (c .before .before .before .before .before .before .before .before .before .args .st) (sound (c .before .before .before .before .before)) (length (c .before .before .before .before .before .before .before .before .before .args .out .now)) (quiet (c .before .before .before .before .before)))
+bus-words-requires c κs =
+    let e = c .before .before .before .before .before .before in
+    let a = e .before .before .before .before .args in
+    (rows-fit (a .rig) (a .cycles) (sound e .rig), tick-room (a .rig) (a .cycles) (a .st) (sound e) (length (a .out .now)) (quiet e))
 
 cast-o : tie.Need-cast-o
-cast-o c = omega (arith, bus-fits _ _ _ _ (c .before .before .bus-words .result) (c .before .before .bus-words .ensures .0) (sound (c .before .before .before .before .before .before .before .before) .rig .row-count))
+cast-o c = omega (arith, bus-fits _ _ _ _ (c .before .before .bus-words .result) (c .before .before .bus-words .ensures .0) (sound (c .before .before .before .before .before .before .before .before .before) .rig .row-count))
 
 same-length : tie.Need-same-length
 same-length c = search needs
 
 returns-2 : tie.Need-returns-2
 returns-2 c =
-    tick-tells (c .before .before .before .before .before .before .before .before .before .before .before .before .args .rig) (c .before .before .before .before .before .before .before .before .before .before .before .before .args .cycles) (c .before .before .before .before .before .before .before .before .before .before .before .before .args .st) (sound (c .before .before .before .before .before .before .before .before)) (c .before .before .before .before .before .before .before .ticked .result) (c .before .before .before .before .before .before .before .ticked .ensures) (c .before .before .before .before .before .before .before .before .before .before .before .before .args .out .now) (none (c .before .before .before .before .before .before .before .before)) (c .before .before .before .before .before .before .settle .result) (c .before .before .before .before .before .before .settle .ensures) (c .before .before .bus-words .result)
-    (c .before .before .bus-words .last .1 .1 .1 .1 .0) (c .before .before .bus-words .ensures .0) (c .before .before .bus-words .ensures .1)
+    let o = c .before .before .before .before .before .before in
+    let k = o .before .cycle-at in
+    let w = o .before .before .ticked in
+    let e = o .before .before .before in
+    let a = e .before .before .before .before .args in
+    let b = c .before .before .bus-words in
+    tick-tells (a .rig) (a .cycles) (a .st) (sound e) (w .result) (w .ensures) (a .out .now) (none e) (k .result) (k .ensures) (o .settle-in .result) (o .settle-in .ensures) (b .result)
+    (b .last .1 .1 .1 .1 .0) (b .ensures .0) (b .ensures .1)
 
 pub tick-spec : {M : Type 1} → statement M
 tick-spec =
@@ -74,7 +90,8 @@ tick-spec =
     refused-requires
     returns
     ticked-requires
-    settle-requires
+    cycle-at-requires
+    settle-in-requires
     cast-bus-words
     bus-words-requires
     cast-o

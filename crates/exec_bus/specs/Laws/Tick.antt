@@ -2,14 +2,15 @@
 use mathlib.Core.Path.{_≡_, sym, _∙_, ap}
 use mathlib.Core.Bool.{Bool, true, false, cond}
 use mathlib.Core.List.{List, [], _++_}
-use Prim.Native.Nat.{ℕ, suc, _+_, _≤_}
+use Prim.Native.Nat.{ℕ, suc, _+_, _%_, _≤_}
 use native.Mathlib.Omega.{arith}
 use lib.Dec.{leb, ltb}
-use lib.ListN.{length, length-append}
+use lib.ListN.{length, getD, length-append}
 use borrow.Author.Tests.{leb-false, ltb-false}
 use Rattle.laws.specs.Laws.Iter.{iter-ind}
 use Rattle.laws.specs.Put.{put}
-use Rattle.rig.specs.Rules.{Right}
+use Rattle.chains.specs.Held.{at}
+use Rattle.rig.specs.Rules.{Right, noCycle}
 use Rattle.rig.specs.declared.Cycle.{Cycle}
 use Rattle.rig.specs.declared.Rig.{Rig}
 use Rattle.rules.specs.Rig as G
@@ -17,7 +18,10 @@ use Rattle.rules.specs.State as S
 use Rattle.rules.specs.Bus.{rowDue, rowWords, busOne, busWords}
 use Rattle.rules.specs.Calls as R
 use Rattle.rules.specs.Calls.{lastCount}
+use Rattle.rules.specs.Waiting.{wakeDue}
 use Rattle.rules_laws.specs.Acceptance.{passed}
+use Rattle.rules_laws.specs.Heeding.{isTick, heardBy}
+use Rattle.exec_queue.specs.View.{minorOf}
 use Rattle.compool.specs.View.{rowsOf}
 use Rattle.compool.specs.Post.{RowsFit}
 use Rattle.compool.specs.Laws.Words.{row-short}
@@ -81,18 +85,25 @@ module _ (g : Rig) (cycles : List Cycle) (s : State) (h : SoundParts g cycles s)
     unfolding R.effect
     ticked-work = m .is g
 
+    -- the cycle of the count that the tick made is the list of the call
+    its-list : (cycle : Cycle) → cycle ≡ getD cycles (w .st .count % 64) noCycle → at (cycle .flags) ≡ heardBy (rigOf g cycles) (viewOf s) (R.tick buffer)
+    unfolding heardBy isTick R.ticked wakeDue
+    its-list cycle e =
+        ap (λ (c : Cycle). at (c .flags)) e ∙ ap (λ (n : ℕ). minorOf cycles (n % 64)) (ap (λ (y : S.Work). y .now .count) (m .is g))
+
     -- the bus words of the count that the tick made, their number told beside what the serving came to
-    pub tick-tells : 0 ≡ R.refusal (rigOf g cycles) (viewOf s) (R.tick buffer) → (o : Outcome) → Settled g w 0 o → (n : ℕ) (after : List ℕ)
+    pub tick-tells : 0 ≡ R.refusal (rigOf g cycles) (viewOf s) (R.tick buffer) → (cycle : Cycle) → cycle ≡ getD cycles (w .st .count % 64) noCycle
+        → (o : Outcome) → Settled g cycle w 0 o → (n : ℕ) (after : List ℕ)
         → n ≡ length (busWords (g .rows) (g .master) (rowsOf (g .row)) (o .st .count))
         → after ≡ put buffer 0 (busWords (g .rows) (g .master) (rowsOf (g .row)) (o .st .count))
         → Tells g cycles s (R.tick buffer) (record { st = o .st; refusal = o .refusal; served = o .served; woken = o .woken; activated = o .activated; words = n; value = o .value }) after
     unfolding R.ended R.accepted R.output R.wordsAt
-    tick-tells e o k n after f b =
-        let q = next-is g cycles s h (R.tick buffer) tt e w ticked-work o k in
+    tick-tells e cycle x o k n after f b =
+        let q = next-is g cycles s h (R.tick buffer) tt e w ticked-work cycle (its-list cycle x) o k in
         let c : o .st .count ≡ R.accepted (rigOf g cycles) (viewOf s) (R.tick buffer) .next .count = ap (λ (v : S.State). v .count) q in
         let ws : ℕ → List ℕ = busWords (g .rows) (g .master) (rowsOf (g .row)) in
         let u : n ≡ length (ws (R.accepted (rigOf g cycles) (viewOf s) (R.tick buffer) .next .count)) = f ∙ ap (λ (a : ℕ). length (ws a)) c in
-        let t = told-is g cycles s h (R.tick buffer) tt e w ticked-work o k in
+        let t = told-is g cycles s h (R.tick buffer) tt e w ticked-work cycle (its-list cycle x) o k in
         accepted-tells g cycles s (R.tick buffer) h tt e (record { st = o .st; refusal = o .refusal; served = o .served; woken = o .woken; activated = o .activated; words = n; value = o .value }) after (k .accepted) q
         (λ i. record { served = t i .served; woken = t i .woken; activated = t i .activated; words = u i; value = t i .value })
         (b ∙ ap (λ (a : ℕ). put buffer 0 (ws a)) c) (k .sound) (k .sized)

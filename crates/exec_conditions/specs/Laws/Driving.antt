@@ -1,39 +1,81 @@
--- A lines are driven in two parts, one after the other; and lines that are not of the flag change nothing.
-use mathlib.Core.Path.{_≡_, refl, sym, ap, _∙_}
-use Prim.Native.Nat.{_+_, _<_, _≤_, ℕ, zero, suc}
-use lib.Dec.{eqb}
-use Rattle.laws.specs.Any.{any}
-use Rattle.laws.specs.Laws.Any.{any-not}
-use Rattle.rules.specs.Conditions.{drive}
-use mathlib.Core.Bool.{false}
+-- What the A lines of a flag store, in the table of conditions and in that of marks: lines are gone through in two parts, one after
+-- the other, and lines that are not of the flag change nothing. And who is marked in the end.
+use mathlib.Core.Path.{_≡_, refl, sym, ap, _∙_, subst}
+use mathlib.Core.Logic.{_≢_}
+use mathlib.Core.Bool.{Bool, true, false, true≢false}
 use mathlib.Core.List.{List}
+use Prim.Native.Nat.{_+_, _≤_, _<_, ℕ}
 use native.Mathlib.Omega.{arith}
-use Rattle.laws.specs.Cases.{if-no}
+use lib.Dec.{eqb}
+use lib.ListN.{getD, set, replicate, length-replicate}
+use borrow.Author.Tests.{eq-eqb, ne-eqb, eqb-true}
+use Rattle.laws.specs.Any.{any}
+use Rattle.laws.specs.Cases.{by-bool, and-true, and-go, if-yes, if-no}
 use Rattle.laws.specs.Iter.{iter}
-use Rattle.laws.specs.Laws.Iter.{iter-plus}
-use Rattle.exec_conditions.specs.Lines.{Lines}
+use Rattle.laws.specs.Stores.{storeOne}
+use Rattle.laws.specs.Laws.Any.{any-not, any-some}
+use Rattle.laws.specs.Laws.Iter.{iter-step, iter-plus}
+use Rattle.laws.specs.Laws.Stores.{stores-keep, stores-hit, stores-miss}
+use Rattle.laws.specs.Laws.Tables.{zeros-at}
+use Rattle.rules.specs.Conditions.{names, namesOne}
+use Rattle.exec_conditions.specs.Lines.{Lines, marked}
 
 -- fewer lines
 pub lines-fewer : (n m : ℕ) (lineTask linePos : List ℕ) → m ≤ n → Lines n lineTask linePos → Lines m lineTask linePos
 lines-fewer n m lineTask linePos h l =
     record { few = omega (arith, h, l .few); task = λ k i. l .task k (omega (arith, i, h)); pos = λ k i. l .pos k (omega (arith, i, h)) }
 
-module _ (lineTask linePos lineFlag : ℕ → ℕ) (f v : ℕ) where
-  none : (d : ℕ) (conds : List ℕ) → ((k : ℕ) → k < d → eqb (lineFlag k) f ≡ false) → drive d lineTask linePos lineFlag f v conds ≡ conds
-  unfolding drive iter
-  none zero conds h = refl
-  none (suc d) conds h = if-no _ (h d (omega arith)) refl ∙ none d conds (λ k l. h k (omega arith))
+-- what the first d lines store, each of flag f a value at a place of its own
+abbrev pub stored : (ℕ → ℕ) → ℕ → (ℕ → ℕ) → (ℕ → ℕ) → ℕ → List ℕ → List ℕ
+stored lineFlag f place value d l = iter d (storeOne (λ (k : ℕ). eqb (lineFlag k) f) place value) l
 
-  drive-none : (d : ℕ) (conds : List ℕ) → any d (λ i. eqb (lineFlag i) f) ≡ false → drive d lineTask linePos lineFlag f v conds ≡ conds
-  drive-none d conds e = none d conds (any-not d _ e)
+module _ (lineFlag : ℕ → ℕ) (f : ℕ) (place value : ℕ → ℕ) where
+  stored-none : (d : ℕ) (l : List ℕ) → any d (λ i. eqb (lineFlag i) f) ≡ false → stored lineFlag f place value d l ≡ l
+  stored-none d l e = stores-keep _ place value (λ m. m ≡ l) d (λ k m a t h. absurd (true≢false (sym t ∙ any-not d _ e k a))) l refl
 
-module _ (lineTask linePos lineFlag : ℕ → ℕ) (f v k d : ℕ) (conds₀ conds : List ℕ)
-    (h : conds ≡ drive k lineTask linePos lineFlag f v conds₀) where
+module _ (lineFlag : ℕ → ℕ) (f : ℕ) (place value : ℕ → ℕ) (k d : ℕ) (l₀ l : List ℕ) (h : l ≡ stored lineFlag f place value k l₀) where
   -- d lines from line k on
-  pub drive-more : drive d (λ i. lineTask (k + i)) (λ i. linePos (k + i)) (λ i. lineFlag (k + i)) f v conds ≡ drive (k + d) lineTask linePos lineFlag f v conds₀
-  unfolding drive
-  drive-more = ap (iter d _) h ∙ iter-plus k d _ conds₀
+  pub stored-more : stored (λ i. lineFlag (k + i)) f (λ i. place (k + i)) (λ i. value (k + i)) d l ≡ stored lineFlag f place value (k + d) l₀
+  stored-more = ap (iter d _) h ∙ iter-plus k d _ l₀
 
   -- none of them is of the flag
-  pub drive-pass : any d (λ i. eqb (lineFlag (k + i)) f) ≡ false → conds ≡ drive (k + d) lineTask linePos lineFlag f v conds₀
-  drive-pass e = sym (drive-none (λ i. lineTask (k + i)) (λ i. linePos (k + i)) (λ i. lineFlag (k + i)) f v d conds e) ∙ drive-more
+  pub stored-pass : any d (λ i. eqb (lineFlag (k + i)) f) ≡ false → l ≡ stored lineFlag f place value (k + d) l₀
+  stored-pass e = sym (stored-none (λ i. lineFlag (k + i)) f (λ i. place (k + i)) (λ i. value (k + i)) d l e) ∙ stored-more
+
+-- a turn: line k is of the flag, or not
+module _ (lineFlag : ℕ → ℕ) (f : ℕ) (place value : ℕ → ℕ) (k : ℕ) (l₀ l : List ℕ) (h : l ≡ stored lineFlag f place value k l₀) where
+  next : storeOne (λ (i : ℕ). eqb (lineFlag i) f) place value k l ≡ stored lineFlag f place value (k + 1) l₀
+  next = iter-step k _ l₀ l h
+
+  pub stored-line : lineFlag k ≡ f → set l (place k) (value k) ≡ stored lineFlag f place value (k + 1) l₀
+  stored-line e = sym (if-yes _ (eq-eqb _ _ e) refl) ∙ next
+
+  pub stored-other : lineFlag k ≢ f → l ≡ stored lineFlag f place value (k + 1) l₀
+  stored-other e = sym (if-no _ (ne-eqb _ _ e) refl) ∙ next
+
+-- in a table that was blank, those are marked who have the flag in a condition
+pub marked-names : (n : ℕ) (lineTask lineFlag : ℕ → ℕ) (f t : ℕ) → t ≤ 64
+    → names n lineTask lineFlag t f ≡ eqb (getD (marked n lineTask lineFlag f (replicate 65 0)) t 0) 1
+unfolding names marked
+marked-names n lineTask lineFlag f t b =
+    by-bool (any n p) (λ (x : Bool). x ≡ eqb (getD (stored lineFlag f lineTask (λ k. 1) n (replicate 65 0)) t 0) 1) hit miss
+  where
+    p : ℕ → Bool
+    p = namesOne lineTask lineFlag t f
+
+    hit : any n p ≡ true → true ≡ eqb (getD (stored lineFlag f lineTask (λ k. 1) n (replicate 65 0)) t 0) 1
+    hit e =
+        let w = any-some n p e in
+        let a = and-true (eqb (lineTask (w .0)) t) _ (w .2) in
+        let q : lineTask (w .0) ≡ t = eqb-true _ t (a .0) in
+        let z : getD (stored lineFlag f lineTask (λ k. 1) n (replicate 65 0)) (lineTask (w .0)) 0 ≡ 1 =
+        stores-hit (λ k. eqb (lineFlag k) f) lineTask (λ k. 1) n (replicate 65 0) (w .0) (w .1) (a .1) (omega (arith, q, length-replicate {A = ℕ} 65 0)) (λ j c d g. refl) in
+        sym (eq-eqb _ 1 (subst (λ (u : ℕ). getD (stored lineFlag f lineTask (λ k. 1) n (replicate 65 0)) u 0 ≡ 1) q z))
+
+    miss : any n p ≡ false → false ≡ eqb (getD (stored lineFlag f lineTask (λ k. 1) n (replicate 65 0)) t 0) 1
+    miss e =
+        let other : (k : ℕ) → k < n → eqb (lineFlag k) f ≡ true → t ≢ lineTask k =
+        λ k c g q. true≢false (sym (and-go (eq-eqb (lineTask k) t (sym q)) g) ∙ any-not n p e k c) in
+        let z : getD (stored lineFlag f lineTask (λ k. 1) n (replicate 65 0)) t 0 ≡ 0 =
+        stores-miss (λ k. eqb (lineFlag k) f) lineTask (λ k. 1) n (replicate 65 0) t other ∙ zeros-at 65 t in
+        rw z

@@ -41,7 +41,7 @@ pub record Turned (g : Rig) (f : ℕ) (s₀ : State) (q₀ : Queue) (s : State) 
 -- a state to look at where any would do
 abbrev pub someState : State
 someState =
-    record { count = 0; value = []; cond = []; state = []; wake = []; links = record { next = []; prev = []; on = [] }; running = 0 }
+    record { count = 0; value = []; cond = []; state = []; wake = []; overruns = []; links = record { next = []; prev = []; on = [] }; running = 0 }
 
 -- the code's test of task t
 abbrev pub readyB : Rig → ℕ → ℕ → State → Bool

@@ -1,6 +1,6 @@
 use native.Mathlib.Omega.{arith}
 use borrow.Author.Needs.{needs}
-use Rattle.exec_outcome.specs.Laws.Settling.{Small, again-settles, again-small, again-is}
+use Rattle.exec_outcome.specs.Laws.Settling.{Small, emptyCycle, again-settles, again-small, again-is}
 use Rattle.exec_outcome.proofs.settle_again.Statement.{statement}
 use Rattle.exec_outcome.proofs.settle_again.Tie as tie
 
@@ -9,7 +9,7 @@ small c =
     let b = c .before .before .before .before .before .before .before .before .before .before .before .before .before in
     let d = c .before .before .serve in
     let x = c .before .tested in
-    again-small (b .args .t1) (b .args .w) (d .result) (d .ensures (b .args .t1)) (b .args .t) (b .pre) (x .result) (x .ensures) (c .settle .result) (c .settle .ensures)
+    again-small (b .args .t1) emptyCycle (b .args .w) (d .result) (d .ensures (b .args .t1)) (b .args .t) (b .pre) (x .result) (x .ensures) (c .settle .result) (c .settle .ensures)
 
 cast-serve : tie.Need-cast-serve
 cast-serve c = search needs
@@ -24,20 +24,20 @@ settle-requires : tie.Need-settle-requires
 settle-requires c κs =
     let b = c .before .before .before .before .before .before .before .before .before .before .before .before in
     let d = c .before .serve in
-    again-settles (b .args .t1) (b .args .w) (d .result) (d .ensures (b .args .t1)) (b .args .t) (b .pre) (c .tested .result) (c .tested .ensures)
-
-add-t22 : tie.Need-add-t22
-add-t22 c =
-    let s = small (c .before .before .before) in
-    omega (arith, s .served, s .woken, s .activated, s .words)
-
-add-t23 : tie.Need-add-t23
-add-t23 c =
-    let s = small (c .before .before .before .before .before) in
-    omega (arith, s .served, s .woken, s .activated, s .words)
+    again-settles (b .args .t1) emptyCycle (b .args .w) (d .result) (d .ensures (b .args .t1)) (b .args .t) (b .pre) (c .tested .result) (c .tested .ensures)
 
 add-t24 : tie.Need-add-t24
 add-t24 c =
+    let s = small (c .before .before .before) in
+    omega (arith, s .served, s .woken, s .activated, s .words)
+
+add-t25 : tie.Need-add-t25
+add-t25 c =
+    let s = small (c .before .before .before .before .before) in
+    omega (arith, s .served, s .woken, s .activated, s .words)
+
+add-t26 : tie.Need-add-t26
+add-t26 c =
     let s = small (c .before .before .before .before .before .before .before) in
     omega (arith, s .served, s .woken, s .activated, s .words)
 
@@ -47,7 +47,7 @@ returns c =
     let b = o .before .before .before .before .before .before .before .before .before .before .before .before .before in
     let d = o .before .before .serve in
     let x = o .before .tested in
-    again-is (b .args .t1) (b .args .w) (d .result) (d .ensures (b .args .t1)) (b .args .t) (b .pre) (x .result) (x .ensures) (o .settle .result) (o .settle .ensures)
+    again-is (b .args .t1) emptyCycle (b .args .w) (d .result) (d .ensures (b .args .t1)) (b .args .t) (b .pre) (x .result) (x .ensures) (o .settle .result) (o .settle .ensures)
 
 pub settle-again-spec : {M : Type 1} → statement M
 settle-again-spec =
@@ -57,7 +57,7 @@ settle-again-spec =
     serve-requires
     tested-requires
     settle-requires
-    add-t22
-    add-t23
     add-t24
+    add-t25
+    add-t26
     returns)

@@ -15,6 +15,7 @@ use Rattle.rules.specs.Calls as R
 use Rattle.rules.specs.Proper as P
 use Rattle.rules.specs.Soundness as Rules
 use Rattle.rules_laws.specs.Acceptance.{passed}
+use Rattle.rules_laws.specs.Heeding.{isTick}
 use Rattle.rules_laws.specs.Refusals.{decide-here, decide-next}
 use Rattle.rules.specs.Serving.{unserved, serve}
 use Rattle.rules_laws.specs.Serve.{serve-nil}
@@ -141,6 +142,25 @@ Silent (R.readFlag f) = ⊥
 Silent (R.readBlock k area buffer) = ⊥
 Silent (R.writeBlock k area buffer) = ⊥
 Silent R.nextWaking = ⊥
+Silent (R.readOverruns t) = ⊥
+
+pub silent-ticks : (k : R.Call) → Silent k → isTick k ≡ false
+unfolding isTick
+silent-ticks (R.schedule t) h = refl
+silent-ticks (R.cancel t) h = refl
+silent-ticks (R.terminate t) h = refl
+silent-ticks R.finish h = refl
+silent-ticks (R.tick buffer) h = absurd h
+silent-ticks (R.waitUntil t) h = refl
+silent-ticks (R.waitFor n) h = refl
+silent-ticks (R.latched f v) h = refl
+silent-ticks (R.unlatched f v) h = refl
+silent-ticks (R.signal f v) h = refl
+silent-ticks (R.readFlag f) h = absurd h
+silent-ticks (R.readBlock k area buffer) h = absurd h
+silent-ticks (R.writeBlock k area buffer) h = absurd h
+silent-ticks R.nextWaking h = absurd h
+silent-ticks (R.readOverruns t) h = absurd h
 
 pub silent-lent : (k : R.Call) → Silent k → [] ≡ R.lent k
 unfolding R.lent
@@ -158,6 +178,7 @@ silent-lent (R.readFlag f) h = absurd h
 silent-lent (R.readBlock k area buffer) h = absurd h
 silent-lent (R.writeBlock k area buffer) h = absurd h
 silent-lent R.nextWaking h = absurd h
+silent-lent (R.readOverruns t) h = absurd h
 
 pub silent-output : (r : G.Rig) (s : S.State) (k : R.Call) → Silent k → R.output r s k ≡ R.silent
 unfolding R.output
@@ -175,3 +196,4 @@ silent-output r s (R.readFlag f) h = absurd h
 silent-output r s (R.readBlock k area buffer) h = absurd h
 silent-output r s (R.writeBlock k area buffer) h = absurd h
 silent-output r s R.nextWaking h = absurd h
+silent-output r s (R.readOverruns t) h = absurd h

@@ -1,17 +1,21 @@
 -- What an accepted call has queued is served, and then it is decided who runs: what this asks holds of every call, and what
 -- it gives is what the call owes.
 use mathlib.Core.Path.{_≡_, refl, sym, _∙_, ap, subst}
+use mathlib.Core.Logic.{_≢_}
 use mathlib.Core.Bool.{Bool, true, false, cond}
 use mathlib.Core.List.{List, [], _∷_}
-use Prim.Native.Nat.{ℕ, zero, suc, _+_, _*_, _≤_}
+use Prim.Native.Nat.{ℕ, zero, suc, _+_, _*_, _%_, _≤_}
 use native.Mathlib.Omega.{arith}
 use lib.Dec.{eqb, leb}
-use Rattle.chains.specs.Held.{Sized}
+use lib.ListN.{replicate}
+use Rattle.laws.specs.Laws.Tables.{zeros}
+use Rattle.chains.specs.Held.{at, Sized}
 use Rattle.chains.specs.Held as L
 use Rattle.rig.specs.Rules.{Right}
 use Rattle.rig.specs.declared.Cycle.{Cycle}
 use Rattle.rig.specs.declared.Rig.{Rig}
 use Rattle.rules.specs.Rig as G
+use Rattle.rules.specs.Rig.{inCycle, isMinor}
 use Rattle.rules.specs.State as S
 use Rattle.rules.specs.Serving.{inactives, activate, serve}
 use Rattle.rules.specs.Waiting.{waitOn, waitUntilCount, wakeDue}
@@ -26,19 +30,22 @@ use Rattle.rules_laws.specs.Good.{settle-running}
 use Rattle.rules_laws.specs.Bound.{effect-load}
 use Rattle.rules_laws.specs.Steps.{effect-ready}
 use Rattle.rules_laws.specs.Heard.{ChainsIn}
+use Rattle.rules_laws.specs.Heeding.{none-heard, heardBy, settle-by-list}
+use Rattle.exec_queue.specs.View.{minorOf}
+use Rattle.exec_queue.specs.Laws.Cycles.{one-cycle}
 use Rattle.exec_state.specs.View.{rigOf, viewOf, workOf}
 use Rattle.exec_state.specs.Post.{Dispatched, Tested}
 use Rattle.exec_state.specs.declared.State.{State}
 use Rattle.exec_state.specs.declared.Work.{Work}
 use Rattle.exec_serving.specs.Post.{Fits, Servable, Begins, Emptied}
 use Rattle.exec_serving.specs.Laws.Serving.{servable-push}
-use Rattle.exec_serving.specs.View.{doneOf}
+use Rattle.exec_serving.specs.View.{doneOf, rigInCycle}
 use Rattle.exec_serving.specs.declared.Done.{Done}
 use Rattle.exec_sound.specs.Sound.{SoundParts}
 use Rattle.exec_sound.specs.Laws.RightRig.{rig-ok}
 use Rattle.exec_sound.specs.Laws.Check.{running-low}
 use Rattle.exec_outcome.specs.Outcome.{tellingOf, Tells}
-use Rattle.exec_outcome.specs.Laws.Meeting.{accepted-tells, Silent, silent-output}
+use Rattle.exec_outcome.specs.Laws.Meeting.{accepted-tells, Silent, silent-ticks, silent-output}
 use Rattle.exec_outcome.specs.declared.Outcome.{Outcome}
 
 -- what is asked
@@ -52,11 +59,14 @@ pub record SettlesAgain (g : Rig) (w : Work) (t : ℕ) : Type 0 where
   pub some : 1 ≤ t
   pub there : t ≤ 64
 
--- what is given, with whatever cycles stand beside the rig: an accepted call that told nothing but what the serving came to, and
--- the test of task t after it; 0 for none
-pub record Settled (g : Rig) (w : Work) (t : ℕ) (o : Outcome) : Type 0 where
-  pub now : (cycles : List Cycle) → viewOf (o .st) ≡ dispatch (rigOf g cycles) (R.again (rigOf g cycles) t (serve (rigOf g cycles) (workOf (w .st) (w .queue))) .now)
-  pub told : (cycles : List Cycle) → tellingOf o ≡ R.reported (R.again (rigOf g cycles) t (serve (rigOf g cycles) (workOf (w .st) (w .queue)))) 0 0
+-- a cycle with no flag
+abbrev pub emptyCycle : Cycle
+emptyCycle = record { flags = replicate 15 0 }
+
+-- what is given: an accepted call that told nothing but what the serving came to, and the test of task t after it; 0 for none
+pub record Settled (g : Rig) (cycle : Cycle) (w : Work) (t : ℕ) (o : Outcome) : Type 0 where
+  pub now : viewOf (o .st) ≡ dispatch (rigInCycle g cycle) (R.again (rigInCycle g cycle) t (serve (rigInCycle g cycle) (workOf (w .st) (w .queue))) .now)
+  pub told : tellingOf o ≡ R.reported (R.again (rigInCycle g cycle) t (serve (rigInCycle g cycle) (workOf (w .st) (w .queue)))) 0 0
   pub small : (o .woken ≤ 64 * o .served) × (o .activated ≤ 64 * o .served)
   pub accepted : o .refusal ≡ 0
   pub sound : L.HoldsChains (o .st .links)
@@ -79,20 +89,20 @@ unfolding R.again
 some-again r zero b d = let z : ⊥ = omega arith in absurd z
 some-again r (suc k) b d = refl
 
-module _ (g : Rig) (w : Work) (d : Done) (e : Emptied g (w .st) (w .queue) d) where
+module _ (g : Rig) (cycle : Cycle) (w : Work) (d : Done) (e : Emptied g cycle (w .st) (w .queue) d) where
   -- who runs is not touched by the serving
   pub settled-low : Settles g w → d .st .running ≤ 64
   unfolding R.again
   settled-low h =
-      omega (arith, ap (λ (y : S.Done). y .now .running) (e .is []), settle-running (rigOf g []) (workOf (w .st) (w .queue)) 0, h .low)
+      omega (arith, ap (λ (y : S.Done). y .now .running) (e .is), settle-running (rigInCycle g cycle) (workOf (w .st) (w .queue)) 0, h .low)
 
   pub settled-is : (s : State) → Dispatched (d .st) g s
-      → Settled g w 0 (record { st = s; refusal = 0; served = d .served; woken = d .woken; activated = d .activated; words = 0; value = 0 })
+      → Settled g cycle w 0 (record { st = s; refusal = 0; served = d .served; woken = d .woken; activated = d .activated; words = 0; value = 0 })
   unfolding R.again
   settled-is s f =
       record {
-        now = λ cycles. f .is cycles ∙ ap (λ (y : S.Done). dispatch (rigOf g cycles) (y .now)) (e .is cycles);
-        told = λ cycles. ap (λ (y : S.Done). R.reported y 0 0) (e .is cycles);
+        now = f .is (cycle ∷ []) ∙ ap (λ (y : S.Done). dispatch (rigInCycle g cycle) (y .now)) (e .is);
+        told = ap (λ (y : S.Done). R.reported y 0 0) (e .is);
         small = e .small;
         accepted = refl;
         sound = subst L.HoldsChains (sym (f .links)) (e .sound);
@@ -105,9 +115,9 @@ module _ (g : Rig) (w : Work) (d : Done) (e : Emptied g (w .st) (w .queue) d) wh
     pub again-settles : Settles g x
     unfolding activate
     again-settles =
-        let r = rigOf g [] in
+        let r = rigInCycle g cycle in
         let s = viewOf (d .st) in
-        let q = sym (m .is []) in
+        let q = sym (m .is (cycle ∷ [])) in
         record {
           begins =
               record {
@@ -117,7 +127,7 @@ module _ (g : Rig) (w : Work) (d : Done) (e : Emptied g (w .st) (w .queue) d) wh
                     (omega (
                       arith,
                       some-load r t (h .some) s,
-                      ap (λ (y : S.Done). inactives (y .now .states)) (e .is []),
+                      ap (λ (y : S.Done). inactives (y .now .states)) (e .is),
                       served-left r (workOf (w .st) (w .queue)),
                       h .first .begins .room,
                     ));
@@ -135,15 +145,15 @@ module _ (g : Rig) (w : Work) (d : Done) (e : Emptied g (w .st) (w .queue) d) wh
           low = subst (λ (y : S.Work). y .now .running ≤ 64) q (tested-keeps r (λ y. y .running ≤ 64) (λ u y i c. c) t s (settled-low (h .first)));
         }
 
-    module _ (o : Outcome) (f : Settled g x 0 o) where
+    module _ (o : Outcome) (f : Settled g cycle x 0 o) where
       -- what is told is what both servings came to
-      further-is : (cycles : List Cycle)
-          → R.reported (R.further (doneOf d) (record { now = viewOf (o .st); served = o .served; woken = o .woken; activated = o .activated })) 0 0
-          ≡ R.reported (R.again (rigOf g cycles) t (serve (rigOf g cycles) (workOf (w .st) (w .queue)))) 0 0
+      further-is :
+          R.reported (R.further (doneOf d) (record { now = viewOf (o .st); served = o .served; woken = o .woken; activated = o .activated })) 0 0
+          ≡ R.reported (R.again (rigInCycle g cycle) t (serve (rigInCycle g cycle) (workOf (w .st) (w .queue)))) 0 0
       unfolding R.again
-      further-is cycles =
-          let r = rigOf g cycles in
-          let a = f .told cycles in
+      further-is =
+          let r = rigInCycle g cycle in
+          let a = f .told in
           (λ i. record {
             served = d .served + a i .served;
             woken = d .woken + a i .woken;
@@ -151,32 +161,32 @@ module _ (g : Rig) (w : Work) (d : Done) (e : Emptied g (w .st) (w .queue) d) wh
             words = 0;
             value = 0;
           })
-          ∙ ap (λ (y : S.Work). R.reported (R.further (doneOf d) (serve r y)) 0 0) (m .is cycles)
-          ∙ ap (λ (y : S.Done). R.reported y 0 0) (some-again r t (h .some) (doneOf d) ∙ ap (R.again r t) (e .is cycles))
+          ∙ ap (λ (y : S.Work). R.reported (R.further (doneOf d) (serve r y)) 0 0) (m .is (cycle ∷ []))
+          ∙ ap (λ (y : S.Done). R.reported y 0 0) (some-again r t (h .some) (doneOf d) ∙ ap (R.again r t) (e .is))
 
       -- "the number of flags it served, which is at most 79"
       pub again-small : Small d o
       unfolding R.again
       again-small =
           let n : d .served + o .served ≤ 79 =
-          omega (arith, ap (λ (y : R.Report). y .served) (further-is []), again-le (rigOf g []) t (workOf (w .st) (w .queue)), h .first .begins .room) in
+          omega (arith, ap (λ (y : R.Report). y .served) further-is, again-le (rigInCycle g cycle) t (workOf (w .st) (w .queue)), h .first .begins .room) in
           record {
             served = n;
             woken = omega (arith, n, e .small .0, f .small .0);
             activated = omega (arith, n, e .small .1, f .small .1);
-            words = ap (λ (y : R.Report). y .words) (f .told []);
+            words = ap (λ (y : R.Report). y .words) (f .told);
           }
 
-      pub again-is : Settled g w t
+      pub again-is : Settled g cycle w t
           (record { st = o .st; refusal = 0; served = d .served + o .served; woken = d .woken + o .woken; activated = d .activated + o .activated; words = 0; value = 0 })
       unfolding R.again
       again-is =
           record {
-            now = λ cycles.
-                let r = rigOf g cycles in
-                f .now cycles
-                ∙ ap (λ (y : S.Work). dispatch r (serve r y .now)) (m .is cycles)
-                ∙ ap (λ (y : S.Done). dispatch r (y .now)) (some-again r t (h .some) (doneOf d) ∙ ap (R.again r t) (e .is cycles));
+            now =
+                let r = rigInCycle g cycle in
+                f .now
+                ∙ ap (λ (y : S.Work). dispatch r (serve r y .now)) (m .is (cycle ∷ []))
+                ∙ ap (λ (y : S.Done). dispatch r (y .now)) (some-again r t (h .some) (doneOf d) ∙ ap (R.again r t) (e .is));
             told = further-is;
             small = (omega (arith, e .small .0, f .small .0), omega (arith, e .small .1, f .small .1));
             accepted = refl;
@@ -224,6 +234,19 @@ effect-low r s h (R.readFlag f) = h
 effect-low r s h (R.readBlock k area buffer) = h
 effect-low r s h (R.writeBlock k area buffer) = h
 effect-low r s h R.nextWaking = h
+effect-low r s h (R.readOverruns t) = h
+
+-- no flag is on the empty list
+nothing-there : at (emptyCycle .flags) ≡ (λ j. 0)
+nothing-there i j = zeros 15 j i
+
+pub empty-plain : (f : ℕ) → f ≢ 0 → isMinor (minorOf (emptyCycle ∷ [])) f ≡ false
+empty-plain f n = one-cycle emptyCycle f n ∙ ap (λ (l : ℕ → ℕ). inCycle l f) nothing-there ∙ none-heard f n
+
+-- the list of a call that is no tick is empty
+no-list : (r : G.Rig) (s : S.State) (k : R.Call) → Silent k → at (emptyCycle .flags) ≡ heardBy r s k
+unfolding heardBy
+no-list r s k z = nothing-there ∙ ap (λ (b : Bool). cond b (r .minor (suc (s .count) % 64)) (λ j. 0)) (sym (silent-ticks k z))
 
 module _ (g : Rig) (cycles : List Cycle) (s : State) (h : SoundParts g cycles s) (k : R.Call) (p : P.Proper k) (e : 0 ≡ R.refusal (rigOf g cycles) (viewOf s) k) (w : Work)
     (q : workOf (w .st) (w .queue) ≡ R.effect (rigOf g cycles) (viewOf s) k) where
@@ -244,24 +267,27 @@ module _ (g : Rig) (cycles : List Cycle) (s : State) (h : SoundParts g cycles s)
         low = subst (λ (y : S.Work). y .now .running ≤ 64) (sym q) (effect-low (rigOf g cycles) (viewOf s) (running-low g cycles s h) k);
       }
 
-  -- ---- what is given is what the call owes
-  module _ (o : Outcome) (m : Settled g w (R.ended (viewOf s) k) o) where
-    whole : R.again (rigOf g cycles) (R.ended (viewOf s) k) (serve (rigOf g cycles) (workOf (w .st) (w .queue))) ≡ R.settled (rigOf g cycles) (viewOf s) k
-    unfolding R.settled
-    whole = ap (λ (y : S.Work). R.again (rigOf g cycles) (R.ended (viewOf s) k) (serve (rigOf g cycles) y)) q
+  -- ---- what is given is what the call owes, served with the list that tells which flags are minor-cycle flags in it
+  module _ (cycle : Cycle) (list : at (cycle .flags) ≡ heardBy (rigOf g cycles) (viewOf s) k) (o : Outcome) (m : Settled g cycle w (R.ended (viewOf s) k) o) where
+    whole : R.again (rigInCycle g cycle) (R.ended (viewOf s) k) (serve (rigInCycle g cycle) (workOf (w .st) (w .queue))) ≡ R.settled (rigOf g cycles) (viewOf s) k
+    whole =
+        ap (λ (y : S.Work). R.again (rigInCycle g cycle) (R.ended (viewOf s) k) (serve (rigInCycle g cycle) y)) q
+        ∙ settle-by-list (rigOf g cycles) (rig-ok g cycles (h .rig)) (viewOf s) k (sym e) (minorOf (cycle ∷ []))
+        (λ f n. one-cycle cycle f n ∙ ap (λ (l : ℕ → ℕ). inCycle l f) list)
 
     pub next-is : viewOf (o .st) ≡ R.accepted (rigOf g cycles) (viewOf s) k .next
-    unfolding R.accepted
-    next-is = m .now cycles ∙ ap (λ (y : S.Done). dispatch (rigOf g cycles) (y .now)) whole
+    unfolding R.accepted dispatch
+    next-is = m .now ∙ ap (λ (y : S.Done). dispatch (rigOf g cycles) (y .now)) whole
 
     pub told-is : tellingOf o ≡ R.reported (R.settled (rigOf g cycles) (viewOf s) k) 0 0
-    told-is = m .told cycles ∙ ap (λ (y : S.Done). R.reported y 0 0) whole
+    told-is = m .told ∙ ap (λ (y : S.Done). R.reported y 0 0) whole
 
-    -- a call that answers only what the serving came to, and writes nothing
-    pub settled-tells : Silent k → Tells g cycles s k o []
-    unfolding R.accepted
-    settled-tells z =
-        let n = silent-output (rigOf g cycles) (R.accepted (rigOf g cycles) (viewOf s) k .next) k z in
-        accepted-tells g cycles s k h p e o [] (m .accepted) next-is
-        (told-is ∙ ap (λ (y : R.Output). R.reported (R.settled (rigOf g cycles) (viewOf s) k) (y .words) (y .value)) (sym n))
-        (λ i. sym n i .lent) (m .sound) (m .sized)
+  -- a call that answers only what the serving came to, and writes nothing: it is no tick
+  pub settled-tells : (o : Outcome) → Settled g emptyCycle w (R.ended (viewOf s) k) o → Silent k → Tells g cycles s k o []
+  unfolding R.accepted
+  settled-tells o m z =
+      let list = no-list (rigOf g cycles) (viewOf s) k z in
+      let n = silent-output (rigOf g cycles) (R.accepted (rigOf g cycles) (viewOf s) k .next) k z in
+      accepted-tells g cycles s k h p e o [] (m .accepted) (next-is emptyCycle list o m)
+      (told-is emptyCycle list o m ∙ ap (λ (y : R.Output). R.reported (R.settled (rigOf g cycles) (viewOf s) k) (y .words) (y .value)) (sym n))
+      (λ i. sym n i .lent) (m .sound) (m .sized)

@@ -5,7 +5,7 @@ use Prim.Native.Nat.{_≤_, _-_}
 use native.Mathlib.Omega.{arith}
 use Rattle.laws.specs.Any.{any}
 use Rattle.laws.specs.Laws.Any.{any-zero, any-next, any-at}
-use Rattle.rules.specs.Calls.{isMinor, minorOne}
+use Rattle.rules.specs.Rig.{isMinor, minorOne}
 use Rattle.exec_queue.specs.View.{minorOf}
 use Rattle.exec_queue.proofs.is_minor.Statement.{statement}
 use Rattle.exec_queue.proofs.is_minor.Tie as tie

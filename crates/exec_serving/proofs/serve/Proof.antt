@@ -8,11 +8,13 @@ use lib.ListN.{length, getD, set}
 use Rattle.rig.specs.Forms.{noRig}
 use Rattle.rig.specs.declared.Rig.{Rig}
 use Rattle.rules.specs.State.{Chain, chainOf}
+use Rattle.rules.specs.Serving.{overrun}
 use Rattle.rules_laws.specs.Serve.{load}
 use Rattle.exec_family.specs.Laws.Anchors.{anchor-flag}
 use Rattle.exec_state.specs.View.{viewOf, workOf}
-use Rattle.exec_state.specs.Set.{putValue, putCond, putState}
+use Rattle.exec_state.specs.Set.{putValue, putCond, putState, putOverruns}
 use Rattle.exec_offers.specs.Set.{withTables}
+use Rattle.exec_serving.specs.View.{rigInCycle}
 use Rattle.exec_serving.specs.Set.{withPlaces}
 use Rattle.exec_state.specs.Post.{FlagOk}
 use Rattle.exec_serving.specs.Post.{Served}
@@ -26,10 +28,10 @@ use Rattle.exec_serving.proofs.serve.Statement.{statement}
 use Rattle.exec_serving.proofs.serve.Tie as tie
 
 abbrev Inv-loop : tie.InvT-loop
-Inv-loop n present latched desired lineTask linePos lineFlag activation st₀ state₀ q₀ k₀ woken₀ activated₀ st state q k woken activated = (g : Rig) → Turned (withTables present latched desired lineTask lineFlag activation n (withPlaces linePos g)) st₀ q₀ (putState st state) q k woken activated
+Inv-loop cycle n present latched desired lineTask linePos lineFlag activation st₀ state₀ q₀ k₀ woken₀ activated₀ st state q k woken activated = (g : Rig) → Turned (withTables present latched desired lineTask lineFlag activation n (withPlaces linePos g)) cycle st₀ q₀ (putState st state) q k woken activated
 
 abbrev μ-loop : tie.MeasureT-loop
-μ-loop n present latched desired lineTask linePos lineFlag activation st₀ state₀ q₀ k₀ woken₀ activated₀ st state q k woken activated = load (workOf (putState st state) q)
+μ-loop cycle n present latched desired lineTask linePos lineFlag activation st₀ state₀ q₀ k₀ woken₀ activated₀ st state q k woken activated = load (workOf (putState st state) q)
 
 -- a rig about the tables that are lent
 abbrev rig : tie.Start Inv-loop μ-loop → Rig → Rig
@@ -42,7 +44,7 @@ whole d = putState (d .loop .st) (d .loop .state)
 few : (d : tie.At-loop Inv-loop μ-loop) → d .loop .q .n ≤ 79
 few d =
     let b = d .before .before in
-    short (rig b noRig) (b .args .t1) (b .args .queue) (whole d) (d .loop .q) (d .loop .k) (d .loop .woken) (d .loop .activated) (d .loop .inv noRig)
+    short (rig b noRig) (b .args .cycle) (b .args .t1) (b .args .queue) (whole d) (d .loop .q) (d .loop .k) (d .loop .woken) (d .loop .activated) (d .loop .inv noRig)
 
 -- the place of the entry that is taken off
 low : (n : ℕ) → (n ≡ 0 → ⊥) → n ≡ suc (n - 1)
@@ -51,8 +53,15 @@ low n h = omega arith
 abbrev start : tie.In-loop Inv-loop μ-loop → tie.Start Inv-loop μ-loop
 start e = e .before .before .before
 
+-- the turn in which those are counted whose start comes too soon
+abbrev counting : tie.After-count-soon Inv-loop μ-loop → tie.In-loop Inv-loop μ-loop
+counting c = c .before .before .before .before .before .before .before .before .before
+
+abbrev counted : tie.Joined1 Inv-loop μ-loop → tie.After-count-soon Inv-loop μ-loop
+counted j = j .before .before .before .before
+
 abbrev turn : tie.Joined1 Inv-loop μ-loop → tie.In-loop Inv-loop μ-loop
-turn j = j .before .before .before .before .before .before .before .before
+turn j = counting (counted j)
 
 abbrev joined : tie.After-offers Inv-loop μ-loop → tie.Joined1 Inv-loop μ-loop
 joined c = c .before .before .before
@@ -67,20 +76,32 @@ ok : (c : tie.In-loop Inv-loop μ-loop) → FlagOk (flag c) (value c)
 ok c =
     let d = c .before in
     let b = start c in
-    last-ok (rig b noRig) (b .args .t1) (b .args .queue) (whole d) (d .loop .q) (d .loop .k) (d .loop .woken) (d .loop .activated) (d .loop .inv noRig) (d .loop .q .n - 1) (low (d .loop .q .n) (c .loop-test .taken))
+    last-ok (rig b noRig) (b .args .cycle) (b .args .t1) (b .args .queue) (whole d) (d .loop .q) (d .loop .k) (d .loop .woken) (d .loop .activated) (d .loop .inv noRig) (d .loop .q .n - 1) (low (d .loop .q .n) (c .loop-test .taken))
 
 abbrev popped : tie.In-loop Inv-loop μ-loop → Queue
 popped c = record { n = c .before .loop .q .n - 1; flag = c .before .loop .q .flag; value = c .before .loop .q .value }
 
-abbrev driven : tie.Joined1 Inv-loop μ-loop → List ℕ
-driven j = j .before .before .before .before .drive .last .1 .1 .1 .1 .1 .1 .0
+abbrev driving : tie.Joined1 Inv-loop μ-loop → tie.After-drive Inv-loop μ-loop
+driving j = counted j .before .before .before .before
 
--- the flag and its conditions have the value
+abbrev driven : tie.Joined1 Inv-loop μ-loop → List ℕ
+driven j = driving j .drive .last .1 .1 .1 .1 .1 .1 .0
+
+-- the numbers of overruns after the service
+abbrev numbers : tie.Joined1 Inv-loop μ-loop → List ℕ
+numbers j = counted j .count-soon .last .1 .1 .1 .1 .0
+
+numbers-are : (j : tie.Joined1 Inv-loop μ-loop) (g : Rig) → let e = turn j in let b = start e in numbers j ≡ overrun (rigInCycle (rig b g) (b .args .cycle)) (flag e) (viewOf (whole (e .before)))
+numbers-are j g =
+    let e = turn j in
+    counted j .count-soon .ensures (rig (start e) g) (whole (e .before)) (λ z. omega (arith, ok e .some, z)) (driving j .drive .ensures .1)
+
+-- the flag and its conditions have the value, and those whose start comes too soon are counted
 abbrev taken : tie.Joined1 Inv-loop μ-loop → State
 taken j =
     let e = turn j in
     let s = whole (e .before) in
-    putCond (putValue s (set (s .value) (flag e) (value e))) (driven j)
+    putOverruns (putCond (putValue s (set (s .value) (flag e) (value e))) (driven j)) (numbers j)
 
 abbrev woken : tie.Joined1 Inv-loop μ-loop → State
 woken j = putState (j .if1 .st) (j .if1 .state)
@@ -119,19 +140,19 @@ abbrev waiting : tie.After-offers Inv-loop μ-loop → ℕ
 waiting c = let e = turn (joined c) in length (viewOf (taken (joined c)) .chains (chainOf (flag e) (value e)))
 
 served-so : (c : tie.After-offers Inv-loop μ-loop) (g : Rig)
-    → let e = turn (joined c) in Served (whole (e .before)) (popped e) (rig (start e) g) (flag e) (value e) (served c) (waiting c) (c .offers .result .activated)
+    → let e = turn (joined c) in Served (whole (e .before)) (popped e) (rig (start e) g) (start e .args .cycle) (flag e) (value e) (served c) (waiting c) (c .offers .result .activated)
 served-so c g =
     let j = joined c in
     let e = turn j in
     let b = start e in
     let d = e .before in
-    served-is (whole d) (popped e) (rig b g) (flag e) (value e) (driven j) (j .before .before .before .before .drive .ensures) (woken j) (awoken j .woken) (served c)
+    served-is (whole d) (popped e) (rig b g) (b .args .cycle) (flag e) (value e) (driven j) (driving j .drive .ensures .0) (numbers j) (numbers-are j g) (woken j) (awoken j .woken) (served c)
     (c .offers .ensures .offering (withPlaces (b .args .linePos .now) g) (woken j)) (d .loop .inv noRig .chains) (waiting c) (c .offers .result .activated) refl (c .offers .ensures .many)
 
 loop-holds : tie.Need-loop-holds Inv-loop μ-loop
 loop-holds c =
     let b = c .before in
-    λ g. turned-start (rig b g) (b .args .t1) (b .args .queue) (b .pre .sound) (b .pre .chains) (b .pre .room) (b .pre .entries)
+    λ g. turned-start (rig b g) (b .args .cycle) (b .args .t1) (b .args .queue) (b .pre .sound) (b .pre .chains) (b .pre .room) (b .pre .entries)
 
 sub-j : tie.Need-sub-j Inv-loop μ-loop
 sub-j c = omega (arith, c .loop-test .taken)
@@ -149,29 +170,32 @@ element-write-st : tie.Need-element-write-st Inv-loop μ-loop
 element-write-st c = let o = ok (c .before .before) in omega (arith, o .flag, o .value)
 
 drive-requires : tie.Need-drive-requires Inv-loop μ-loop
-drive-requires c κs = c .before .before .before .before .before .before .pre .fits .lines
+drive-requires c κs = c .before .before .before .before .before .before .before .pre .fits .lines
+
+count-soon-requires : tie.Need-count-soon-requires Inv-loop μ-loop
+count-soon-requires c κs = tt
 
 cast-c : tie.Need-cast-c Inv-loop μ-loop
-cast-c c = let o = ok (c .before .before .before .before) in omega (arith, o .flag, o .value)
+cast-c c = let o = ok (counting c) in omega (arith, o .flag, o .value)
 
 mul-c : tie.Need-mul-c Inv-loop μ-loop
-mul-c c = let o = ok (c .before .before .before .before) in omega (arith, o .flag, o .value)
+mul-c c = let o = ok (counting c) in omega (arith, o .flag, o .value)
 
 add-c : tie.Need-add-c Inv-loop μ-loop
-add-c c = let o = ok (c .before .before .before .before) in omega (arith, o .flag, o .value)
+add-c c = let o = ok (counting c) in omega (arith, o .flag, o .value)
 
 cast-c-2 : tie.Need-cast-c-2 Inv-loop μ-loop
-cast-c-2 c = let o = ok (c .before .before .before .before) in omega (arith, o .flag, o .value)
+cast-c-2 c = let o = ok (counting c) in omega (arith, o .flag, o .value)
 
 add-c-2 : tie.Need-add-c-2 Inv-loop μ-loop
-add-c-2 c = let o = ok (c .before .before .before .before) in omega (arith, o .flag, o .value)
+add-c-2 c = let o = ok (counting c) in omega (arith, o .flag, o .value)
 
 waited-requires : tie.Need-waited-requires Inv-loop μ-loop
-waited-requires c κs = let o = ok (c .before .before .before .before .before .before) in omega (arith, o .flag, o .value)
+waited-requires c κs = let o = ok (counting (c .before .before)) in omega (arith, o .flag, o .value)
 
 wake-requires : tie.Need-wake-requires Inv-loop μ-loop
 wake-requires c κs =
-    let e = c .before .before .before .before .before .before .before .before .before .before in
+    let e = counting (c .before .before .before .before .before .before) in
     let o = ok e in
     (e .before .loop .inv noRig .sound, (omega (arith, o .some), omega (arith, o .flag, o .value)))
 
@@ -181,12 +205,12 @@ offers-requires c κs =
     let e = turn j in
     let d = e .before in
     let b = start e in
-    let p = rest-room (rig b noRig) (b .args .t1) (b .args .queue) (whole d) (d .loop .q) (d .loop .k) (d .loop .woken) (d .loop .activated) (d .loop .inv noRig) (d .loop .q .n - 1) (low (d .loop .q .n) (e .loop-test .taken)) in
-    (b .pre .fits .lines .few, served-room (whole d) (popped e) (rig b noRig) (flag e) (value e) (driven j) (j .before .before .before .before .drive .ensures) (woken j) (awoken j .woken) p)
+    let p = rest-room (rig b noRig) (b .args .cycle) (b .args .t1) (b .args .queue) (whole d) (d .loop .q) (d .loop .k) (d .loop .woken) (d .loop .activated) (d .loop .inv noRig) (d .loop .q .n - 1) (low (d .loop .q .n) (e .loop-test .taken)) in
+    (b .pre .fits .lines .few, served-room (whole d) (popped e) (rig b noRig) (b .args .cycle) (flag e) (value e) (driven j) (driving j .drive .ensures .0) (numbers j) (numbers-are j noRig) (woken j) (awoken j .woken) p)
 
 add-woken : tie.Need-add-woken Inv-loop μ-loop
 add-woken c =
-    let e = c .before .before .before .before .before .before .before .before .before .before .before .before .before in
+    let e = counting (c .before .before .before .before .before .before .before .before .before) in
     let h = e .before .loop .inv noRig in
     omega (arith, h .few .0, h .room, c .before .before .wake .ensures .few)
 
@@ -204,7 +228,7 @@ loop-less c =
     let e = turn (joined o) in
     let d = e .before in
     let b = start e in
-    turned-falls (rig b noRig) (b .args .t1) (b .args .queue) (whole d) (d .loop .q) (d .loop .k) (d .loop .woken) (d .loop .activated) (d .loop .inv noRig) (d .loop .q .n - 1) (low (d .loop .q .n) (e .loop-test .taken)) (b .pre .fits .flags) (served o) (waiting o) (o .offers .result .activated) (served-so o noRig)
+    turned-falls (rig b noRig) (b .args .cycle) (b .args .t1) (b .args .queue) (whole d) (d .loop .q) (d .loop .k) (d .loop .woken) (d .loop .activated) (d .loop .inv noRig) (d .loop .q .n - 1) (low (d .loop .q .n) (e .loop-test .taken)) (b .pre .fits .flags) (served o) (waiting o) (o .offers .result .activated) (served-so o noRig)
 
 loop-again : tie.Need-loop-again Inv-loop μ-loop
 loop-again c =
@@ -214,14 +238,14 @@ loop-again c =
     let d = e .before in
     let b = start e in
     λ g.
-    turned-step (rig b g) (b .args .t1) (b .args .queue) (whole d) (d .loop .q) (d .loop .k) (d .loop .woken) (d .loop .activated) (d .loop .inv g) (d .loop .q .n - 1) (low (d .loop .q .n) (e .loop-test .taken)) (b .pre .fits .flags) (served o) (waiting o) (o .offers .result .activated) (served-so o g)
+    turned-step (rig b g) (b .args .cycle) (b .args .t1) (b .args .queue) (whole d) (d .loop .q) (d .loop .k) (d .loop .woken) (d .loop .activated) (d .loop .inv g) (d .loop .q .n - 1) (low (d .loop .q .n) (e .loop-test .taken)) (b .pre .fits .flags) (served o) (waiting o) (o .offers .result .activated) (served-so o g)
     (awoken j .few) (o .offers .ensures .few) (j .if1 .woken) (awoken j .sum)
 
 returns : tie.Need-returns Inv-loop μ-loop
 returns c =
     let d = c .before in
     let b = c .before .before .before in
-    λ g. turned-done (rig b g) (b .args .t1) (b .args .queue) (whole d) (d .loop .q) (d .loop .k) (d .loop .woken) (d .loop .activated) (d .loop .inv g) (omega (arith, c .loop-test .left))
+    λ g. turned-done (rig b g) (b .args .cycle) (b .args .t1) (b .args .queue) (whole d) (d .loop .q) (d .loop .k) (d .loop .woken) (d .loop .activated) (d .loop .inv g) (omega (arith, c .loop-test .left))
 
 pub serve-spec : {M : Type 1} → statement M
 serve-spec =
@@ -236,6 +260,7 @@ serve-spec =
     cast-st
     element-write-st
     drive-requires
+    count-soon-requires
     cast-c
     mul-c
     add-c

@@ -13,7 +13,7 @@ use Rattle.exec_sound.proofs.tables_ok.Tie as tie
 abbrev tests-at : tie.Start → List Bool
 tests-at c =
     let a = c .args in
-    tableTestsOf (a .tasks) (a .flags) (a .controller .now) (a .priority .now) (a .privileged .now) (a .activation .now) (a .present .now) (a .count) (a .value .now) (a .cond .now) (a .state .now) (a .wake .now) (a .on .now) (a .running)
+    tableTestsOf (a .tasks) (a .flags) (a .controller .now) (a .priority .now) (a .privileged .now) (a .activation .now) (a .present .now) (a .count) (a .value .now) (a .cond .now) (a .state .now) (a .wake .now) (a .overruns .now) (a .on .now) (a .running)
 
 returns : tie.Need-returns
 unfolding tableTestsOf
@@ -59,40 +59,48 @@ returns-6 : tie.Need-returns-6
 unfolding tableTestsOf
 returns-6 c = sym (allOf-not (tests-at (c .before .before .before .before .before .before .before .before .before .before .before .before .before)) 5 (sym (c .before .empty .ensures) ∙ not-true _ (c .if6 .taken)))
 
-flags-requires : tie.Need-flags-requires
-flags-requires c κs = search needs
+overruns-requires : tie.Need-overruns-requires
+overruns-requires c κs = search needs
 
 returns-7 : tie.Need-returns-7
 unfolding tableTestsOf
-returns-7 c = sym (allOf-not (tests-at (c .before .before .before .before .before .before .before .before .before .before .before .before .before .before .before)) 6 (sym (c .before .flags .ensures) ∙ not-true _ (c .if7 .taken)))
+returns-7 c = sym (allOf-not (tests-at (c .before .before .before .before .before .before .before .before .before .before .before .before .before .before .before)) 6 (sym (c .before .overruns .ensures) ∙ not-true _ (c .if7 .taken)))
+
+flags-requires : tie.Need-flags-requires
+flags-requires c κs = search needs
+
+returns-8 : tie.Need-returns-8
+unfolding tableTestsOf
+returns-8 c = sym (allOf-not (tests-at (c .before .before .before .before .before .before .before .before .before .before .before .before .before .before .before .before .before)) 7 (sym (c .before .flags .ensures) ∙ not-true _ (c .if8 .taken)))
 
 waits-requires : tie.Need-waits-requires
 waits-requires c κs = search needs
 
-returns-8 : tie.Need-returns-8
-unfolding tableTestsOf
-returns-8 c = sym (allOf-not (tests-at (c .before .before .before .before .before .before .before .before .before .before .before .before .before .before .before .before .before)) 7 (sym (c .before .waits .ensures) ∙ not-true _ (c .if8 .taken)))
-
 returns-9 : tie.Need-returns-9
 unfolding tableTestsOf
-returns-9 c = sym (allOf-not (tests-at (c .before .before .before .before .before .before .before .before .before .before .before .before .before .before .before .before .before .before)) 8 (lt-leb _ _ (c .if9 .taken)))
+returns-9 c = sym (allOf-not (tests-at (c .before .before .before .before .before .before .before .before .before .before .before .before .before .before .before .before .before .before .before)) 8 (sym (c .before .waits .ensures) ∙ not-true _ (c .if9 .taken)))
+
+returns-10 : tie.Need-returns-10
+unfolding tableTestsOf
+returns-10 c = sym (allOf-not (tests-at (c .before .before .before .before .before .before .before .before .before .before .before .before .before .before .before .before .before .before .before .before)) 9 (lt-leb _ _ (c .if10 .taken)))
 
 chosen-requires : tie.Need-chosen-requires
 chosen-requires c κs = search needs
 
-returns-10 : tie.Need-returns-10
-returns-10 c =
-    let a = c .before .before .before .before .before .before .before .before .before .before .before .before .before .before .before .before .before .before .before .args in
-    last-test (a .tasks) (a .flags) (a .controller .now) (a .priority .now) (a .privileged .now) (a .activation .now) (a .present .now) (a .count) (a .value .now) (a .cond .now) (a .state .now) (a .wake .now) (a .on .now) (a .running)
-    (le-leb _ _ (c .before .before .before .before .before .before .before .before .before .before .before .before .before .before .before .before .before .before .if1 .left))
-    (sym (c .before .before .before .before .before .before .before .before .before .before .before .before .before .before .before .before .within .ensures) ∙ not-false _ (c .before .before .before .before .before .before .before .before .before .before .before .before .before .before .before .if2 .left))
-    (sym (c .before .before .before .before .before .before .before .before .before .before .before .before .before .before .tree .ensures) ∙ not-false _ (c .before .before .before .before .before .before .before .before .before .before .before .before .before .if3 .left))
-    (sym (c .before .before .before .before .before .before .before .before .before .before .before .within2 .ensures) ∙ not-false _ (c .before .before .before .before .before .before .before .before .before .before .if4 .left))
-    (sym (c .before .before .before .before .before .before .before .before .before .conds .ensures) ∙ not-false _ (c .before .before .before .before .before .before .before .before .if5 .left))
-    (sym (c .before .before .before .before .before .before .before .empty .ensures) ∙ not-false _ (c .before .before .before .before .before .before .if6 .left))
-    (sym (c .before .before .before .before .before .flags .ensures) ∙ not-false _ (c .before .before .before .before .if7 .left))
-    (sym (c .before .before .before .waits .ensures) ∙ not-false _ (c .before .before .if8 .left))
-    (le-leb _ _ (c .before .if9 .left))
+returns-11 : tie.Need-returns-11
+returns-11 c =
+    let a = c .before .before .before .before .before .before .before .before .before .before .before .before .before .before .before .before .before .before .before .before .before .args in
+    last-test (a .tasks) (a .flags) (a .controller .now) (a .priority .now) (a .privileged .now) (a .activation .now) (a .present .now) (a .count) (a .value .now) (a .cond .now) (a .state .now) (a .wake .now) (a .overruns .now) (a .on .now) (a .running)
+    (le-leb _ _ (c .before .before .before .before .before .before .before .before .before .before .before .before .before .before .before .before .before .before .before .before .if1 .left))
+    (sym (c .before .before .before .before .before .before .before .before .before .before .before .before .before .before .before .before .before .before .within .ensures) ∙ not-false _ (c .before .before .before .before .before .before .before .before .before .before .before .before .before .before .before .before .before .if2 .left))
+    (sym (c .before .before .before .before .before .before .before .before .before .before .before .before .before .before .before .before .tree .ensures) ∙ not-false _ (c .before .before .before .before .before .before .before .before .before .before .before .before .before .before .before .if3 .left))
+    (sym (c .before .before .before .before .before .before .before .before .before .before .before .before .before .within2 .ensures) ∙ not-false _ (c .before .before .before .before .before .before .before .before .before .before .before .before .if4 .left))
+    (sym (c .before .before .before .before .before .before .before .before .before .before .before .conds .ensures) ∙ not-false _ (c .before .before .before .before .before .before .before .before .before .before .if5 .left))
+    (sym (c .before .before .before .before .before .before .before .before .before .empty .ensures) ∙ not-false _ (c .before .before .before .before .before .before .before .before .if6 .left))
+    (sym (c .before .before .before .before .before .before .before .overruns .ensures) ∙ not-false _ (c .before .before .before .before .before .before .if7 .left))
+    (sym (c .before .before .before .before .before .flags .ensures) ∙ not-false _ (c .before .before .before .before .if8 .left))
+    (sym (c .before .before .before .waits .ensures) ∙ not-false _ (c .before .before .if9 .left))
+    (le-leb _ _ (c .before .if10 .left))
     (c .chosen .result) (c .chosen .ensures .0)
 
 pub tables-ok-spec : {M : Type 1} → statement M
@@ -110,10 +118,12 @@ tables-ok-spec =
     returns-5
     empty-requires
     returns-6
-    flags-requires
+    overruns-requires
     returns-7
-    waits-requires
+    flags-requires
     returns-8
+    waits-requires
     returns-9
+    returns-10
     chosen-requires
-    returns-10)
+    returns-11)

@@ -24,6 +24,7 @@ use Rattle.rig.specs.Rules.{Right}
 use Rattle.rig.specs.declared.Cycle.{Cycle}
 use Rattle.rig.specs.declared.Rig.{Rig}
 use Rattle.rules.specs.State.{Chain, timeChain}
+use Rattle.rules.specs.Serving.{mostOverruns}
 use Rattle.rules.specs.Running.{chosen}
 use Rattle.rules.specs.Calls.{lastCount}
 use Rattle.rules_laws.specs.Ranks.{chosen-runs, runs-chosen}
@@ -36,12 +37,14 @@ use Rattle.exec_state.specs.declared.State.{State}
 use Rattle.exec_sound.specs.Sound.{SoundParts}
 use Rattle.exec_sound.specs.Laws.RightRig.{rig-ok}
 
--- the tables have these lengths in every record that a program holds
+-- the tables have these lengths in every record that a program holds, and a number of overruns is of sixteen bits
 pub record Sizes (s : State) : Type 0 where
   pub state : length (s .state) ≡ 65
   pub value : length (s .value) ≡ 129
   pub cond : length (s .cond) ≡ 1040
   pub wake : length (s .wake) ≡ 65
+  pub overruns : length (s .overruns) ≡ 65
+  pub low : (t : ℕ) → getD (s .overruns) t 0 ≤ 65535
 
 -- what a rig's numbers name is there in the tables, and only its tasks have activation flags
 pub record Placed (tasks : ℕ) (controllers activations : List ℕ) : Type 0 where
@@ -61,14 +64,15 @@ abbrev pub runner : Rig → State → ℕ
 runner g s = chosen (at (g .privileged)) (at (g .priority)) (s .state) (s .running)
 
 -- the tests by the tables that they look at
-unfoldable pub tableTestsOf : ℕ → ℕ → List ℕ → List ℕ → List ℕ → List ℕ → List ℕ → ℕ → List ℕ → List ℕ → List ℕ → List ℕ → List ℕ → ℕ → List Bool
-tableTestsOf tasks flags controller priority privileged activation present count value cond state wake on running =
+unfoldable pub tableTestsOf : ℕ → ℕ → List ℕ → List ℕ → List ℕ → List ℕ → List ℕ → ℕ → List ℕ → List ℕ → List ℕ → List ℕ → List ℕ → List ℕ → ℕ → List Bool
+tableTestsOf tasks flags controller priority privileged activation present count value cond state wake overruns on running =
     leb count 2147483647 ∷
     withinB state tasks 3 ∷
     treeB controller state ∷
     withinB value flags 1 ∷
     condsB present cond ∷
     emptyB wake tasks ∷
+    emptyB overruns tasks ∷
     flagsB activation state value ∷
     waitsB state on ∷
     leb running 64 ∷
@@ -77,21 +81,21 @@ tableTestsOf tasks flags controller priority privileged activation present count
 
 abbrev pub tableTests : Rig → State → List Bool
 tableTests g s =
-    tableTestsOf (g .tasks) (g .flags) (g .controller) (g .priority) (g .privileged) (g .activation) (g .present) (s .count) (s .value) (s .cond) (s .state) (s .wake) (s .links .on) (s .running)
+    tableTestsOf (g .tasks) (g .flags) (g .controller) (g .priority) (g .privileged) (g .activation) (g .present) (s .count) (s .value) (s .cond) (s .state) (s .wake) (s .overruns) (s .links .on) (s .running)
 
-module _ (tasks flags : ℕ) (controller priority privileged activation present : List ℕ) (count : ℕ) (value cond state wake on : List ℕ) (running : ℕ) where
+module _ (tasks flags : ℕ) (controller priority privileged activation present : List ℕ) (count : ℕ) (value cond state wake overruns on : List ℕ) (running : ℕ) where
   -- where all tests but the last hold, the last is the answer
   pub last-test : leb count 2147483647 ≡ true → withinB state tasks 3 ≡ true
       → treeB controller state ≡ true → withinB value flags 1 ≡ true → condsB present cond ≡ true
-      → emptyB wake tasks ≡ true → flagsB activation state value ≡ true
+      → emptyB wake tasks ≡ true → emptyB overruns tasks ≡ true → flagsB activation state value ≡ true
       → waitsB state on ≡ true → leb running 64 ≡ true
       → (n : ℕ) → n ≡ chosen (at privileged) (at priority) state running
-      → eqb running n ≡ allOf (tableTestsOf tasks flags controller priority privileged activation present count value cond state wake on running)
+      → eqb running n ≡ allOf (tableTestsOf tasks flags controller priority privileged activation present count value cond state wake overruns on running)
   unfolding tableTestsOf
-  last-test a b c d e f h i j n q =
+  last-test a b c d e f g h i j n q =
       ap (eqb running) q
       ∙ sym
-      (allOf-skip _ _ a ∙ allOf-skip _ _ b ∙ allOf-skip _ _ c ∙ allOf-skip _ _ d ∙ allOf-skip _ _ e ∙ allOf-skip _ _ f ∙ allOf-skip _ _ h ∙ allOf-skip _ _ i ∙ allOf-skip _ _ j ∙ allOf-last _)
+      (allOf-skip _ _ a ∙ allOf-skip _ _ b ∙ allOf-skip _ _ c ∙ allOf-skip _ _ d ∙ allOf-skip _ _ e ∙ allOf-skip _ _ f ∙ allOf-skip _ _ g ∙ allOf-skip _ _ h ∙ allOf-skip _ _ i ∙ allOf-skip _ _ j ∙ allOf-last _)
 
 -- ---- the chains that sound links show
 
@@ -170,7 +174,7 @@ module _ (count : ℕ) (wake : List ℕ) (l : Links) (h : L.HoldsChains l) (b : 
 
 module _ (g : Rig) (cycles : List Cycle) (s : State) (z : Sizes s) (right : Right g cycles) where
   pub tests-sound : allOf (tableTests g s) ≡ true → ChainsSound (s .count) (s .wake) (s .links) → SoundParts g cycles s
-  unfolding tableTestsOf lastCount
+  unfolding tableTestsOf lastCount mostOverruns
   tests-sound e c =
       let k = allOf-at (tableTests g s) e in
       let small = within-facts (s .state) (g .tasks) 3 (k 1) in
@@ -188,13 +192,14 @@ module _ (g : Rig) (cycles : List Cycle) (s : State) (z : Sizes s) (right : Righ
               flags = record { sized = z .value; small = values .0; within = values .1 };
               conds = record { sized = z .cond; small = conds .0; within = conds .1 };
               wakes = record { sized = z .wake; within = empty-facts (s .wake) (g .tasks) (z .wake) (k 5) };
+              overruns = record { sized = z .overruns; small = z .low; within = empty-facts (s .overruns) (g .tasks) (z .overruns) (k 6) };
               chains =
                   chains-sound (s .links) (sound-chains (s .links) (c .links)) (s .count) (s .wake) (s .state) (z .state)
-                  (waits-facts (s .state) (s .links .on) (k 7)) (c .order);
-              agree = flags-facts (g .activation) (s .state) (s .value) (right .shaped .activation) (k 6);
+                  (waits-facts (s .state) (s .links .on) (k 8)) (c .order);
+              agree = flags-facts (g .activation) (s .state) (s .value) (right .shaped .activation) (k 7);
               runs =
                   subst (λ (n : ℕ). R.Runs (at (g .privileged)) (at (g .priority)) (s .state) n)
-                  (sym (eqb-true (s .running) (runner g s) (k 9)))
+                  (sym (eqb-true (s .running) (runner g s) (k 10)))
                   (chosen-runs (at (g .privileged)) (at (g .priority)) (s .state) (z .state) (s .running));
             };
       }
@@ -218,6 +223,7 @@ sound-tests g cycles s h =
     (allOf-cons _ _ (within-back (s .value) (g .flags) 1 (p .flags .small) (p .flags .within))
     (allOf-cons _ _ (conds-back (g .present) (s .cond) (p .conds .small) (p .conds .within))
     (allOf-cons _ _ (empty-back (s .wake) (g .tasks) (p .wakes .within))
+    (allOf-cons _ _ (empty-back (s .overruns) (g .tasks) (p .overruns .within))
     (allOf-cons _ _ (flags-back (g .activation) (s .state) (s .value) (p .agree))
     (allOf-cons _ _
     (waits-back (s .state) (s .links .on) (waits-agree (s .links) (sound-chains (s .links) (h .links)) (s .count) (s .wake) (s .state) (p .chains)))
@@ -225,7 +231,7 @@ sound-tests g cycles s h =
     (allOf-cons _ _
     (eq-eqb (s .running) (runner g s)
     (sym (runs-chosen (at (g .privileged)) (at (g .priority)) (s .state) (p .tasks .sized) (s .running) (p .runs))))
-    allOf-nil)))))))))
+    allOf-nil))))))))))
 
 pub sound-order : (g : Rig) (cycles : List Cycle) (s : State) → SoundParts g cycles s → ChainsSound (s .count) (s .wake) (s .links)
 sound-order g cycles s h =

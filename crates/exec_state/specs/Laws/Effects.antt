@@ -18,14 +18,14 @@ use Rattle.exec_queue.specs.Post.{Pushed}
 use Rattle.exec_queue.specs.View.{entriesOf}
 use Rattle.exec_queue.specs.declared.Queue.{Queue}
 use Rattle.rig.specs.declared.Rig.{Rig}
-use Rattle.rules.specs.State.{Chain, Entry, withTables, withChains, blank}
+use Rattle.rules.specs.State.{Chain, Entry, withTables, withChains, withOverruns, blank}
 use Rattle.rules.specs.Conditions.{relax, met}
 use Rattle.rules.specs.Serving.{push, activate}
 use Rattle.rules.specs.Running.{chosen, dispatch}
 use Rattle.rules.specs.Family.{family, cleared, deserted, offs}
 use Rattle.rules.specs.Calls.{quiet, tested, scheduled, finished, terminated, cancelled}
 use Rattle.exec_state.specs.View.{rigOf, viewOf, workOf}
-use Rattle.exec_state.specs.Set.{putState, putLinks, putRunning, putCond}
+use Rattle.exec_state.specs.Set.{putState, putOverruns, putLinks, putRunning, putCond}
 use Rattle.exec_state.specs.Post.{Finished, Terminated, Cancelled, Tested, Scheduled, Dispatched, Blank}
 use Rattle.exec_state.specs.declared.State.{State}
 use Rattle.exec_state.specs.declared.Work.{Work}
@@ -104,11 +104,11 @@ module _ (s : State) (g : Rig) (t : ℕ) (none : Queue) (z : entriesOf none ≡ 
 -- ---- schedule
 
 pub scheduled-is : (s : State) (g : Rig) (t : ℕ) (conds : List ℕ) → conds ≡ relax (at (g .present)) (at (g .latched)) (at (g .desired)) t (s .cond)
-    → (w : Work) → Tested (putState (putCond s conds) (set (s .state) t 1)) g t w → Scheduled s g t w
+    → (w : Work) → Tested (putOverruns (putState (putCond s conds) (set (s .state) t 1)) (set (s .overruns) t 0)) g t w → Scheduled s g t w
 unfolding scheduled
 scheduled-is s g t conds e w m =
     record {
-      is = λ cycles. m .is cycles ∙ ap (λ (x : List ℕ). tested (rigOf g cycles) t (withTables (viewOf s) x (set (s .state) t 1))) e;
+      is = λ cycles. m .is cycles ∙ ap (λ (x : List ℕ). tested (rigOf g cycles) t (withOverruns (withTables (viewOf s) x (set (s .state) t 1)) (set (s .overruns) t 0))) e;
       links = m .links;
     }
 
@@ -122,13 +122,13 @@ dispatched-is s g n e z = record { is = λ cycles. ap (λ (x : ℕ). viewOf (put
 -- ---- the blank state
 
 pub blank-is : (l : Links) → Empty l
-    → Blank (record { count = 0; value = replicate 129 0; cond = replicate 1040 0; state = replicate 65 0; wake = replicate 65 0; links = l; running = 0 })
+    → Blank (record { count = 0; value = replicate 129 0; cond = replicate 1040 0; state = replicate 65 0; wake = replicate 65 0; overruns = replicate 65 0; links = l; running = 0 })
 unfolding blank
 blank-is l h =
     record {
       is = ap
           (λ (X : ℕ → List ℕ).
-          record { count = 0; flags = replicate 129 0; conds = replicate 1040 0; states = replicate 65 0; wakes = replicate 65 0; chains = byName X; running = 0 })
+          record { count = 0; flags = replicate 129 0; conds = replicate 1040 0; states = replicate 65 0; wakes = replicate 65 0; overruns = replicate 65 0; chains = byName X; running = 0 })
           (held-chains l (λ (s : ℕ). []) h (λ s e. refl));
       sound = ((λ (s : ℕ). []), h);
     }

@@ -1,7 +1,7 @@
 -- The start: what the code does, and that it is what the rules' start gives.
 use mathlib.Core.Path.{_≡_, sym, _∙_, ap, subst}
 use mathlib.Core.Logic.{_⊎_}
-use mathlib.Core.List.{List}
+use mathlib.Core.List.{List, [], _∷_}
 use Prim.Native.Nat.{ℕ, _≤_}
 use native.Mathlib.Omega.{arith}
 use lib.ListN.{length-replicate}
@@ -18,15 +18,18 @@ use Rattle.rules_laws.specs.Serve.{load}
 use Rattle.rules_laws.specs.Bound.{scheduled-load}
 use Rattle.rules_laws.specs.Steps.{started-ready, start-sound}
 use Rattle.rules_laws.specs.Heard.{ChainsIn}
+use Rattle.rules_laws.specs.Heeding.{start-by-list}
+use Rattle.exec_queue.specs.View.{minorOf}
 use Rattle.exec_state.specs.View.{rigOf, viewOf, workOf}
 use Rattle.exec_state.specs.Post.{Blank, Scheduled}
 use Rattle.exec_serving.specs.Post.{Servable}
+use Rattle.exec_serving.specs.View.{rigInCycle}
 use Rattle.exec_state.specs.declared.State.{State}
 use Rattle.exec_state.specs.declared.Work.{Work}
 use Rattle.exec_sound.specs.Sound.{SoundParts}
 use Rattle.exec_sound.specs.Laws.RightRig.{rig-ok}
 use Rattle.exec_outcome.specs.Outcome.{tellingOf, answerIn}
-use Rattle.exec_outcome.specs.Laws.Settling.{Settles, Settled, fits, servable, effect-low}
+use Rattle.exec_outcome.specs.Laws.Settling.{Settles, emptyCycle, Settled, fits, servable, effect-low, empty-plain}
 use Rattle.exec_outcome.specs.declared.Outcome.{Outcome}
 
 -- the rules' start: the state that the record shows, what the serving came to; the record is sound
@@ -68,12 +71,13 @@ module _ (g : Rig) (cycles : List Cycle) (h : Right g cycles) (s : State) (b : B
         low = subst (λ (y : S.Work). y .now .running ≤ 64) (sym start-work) blank-low;
       }
 
-  pub began-is : (o : Outcome) → Settled g w 0 o → Began g cycles o
-  unfolding R.start R.started R.again
+  pub began-is : (o : Outcome) → Settled g emptyCycle w 0 o → Began g cycles o
+  unfolding R.start R.again dispatch
   began-is o k =
-      let e : viewOf (o .st) ≡ R.start (rigOf g cycles) =
-      k .now cycles ∙ ap (λ (y : S.Work). dispatch (rigOf g cycles) (serve (rigOf g cycles) y .now)) start-work in
-      let t : tellingOf o ≡ R.reported (R.started (rigOf g cycles)) 0 0 = k .told cycles ∙ ap (λ (y : S.Work). R.reported (serve (rigOf g cycles) y) 0 0) start-work in
+      let d : serve (rigInCycle g emptyCycle) (workOf (w .st) (w .queue)) ≡ R.started (rigOf g cycles) =
+      ap (serve (rigInCycle g emptyCycle)) start-work ∙ start-by-list (rigOf g cycles) (rig-ok g cycles h) (minorOf (emptyCycle ∷ [])) empty-plain in
+      let e : viewOf (o .st) ≡ R.start (rigOf g cycles) = k .now ∙ ap (λ (y : S.Done). dispatch (rigOf g cycles) (y .now)) d in
+      let t : tellingOf o ≡ R.reported (R.started (rigOf g cycles)) 0 0 = k .told ∙ ap (λ (y : S.Done). R.reported y 0 0) d in
       record {
         next = e;
         answer = λ i. record { code = k .accepted i; report = t i };

@@ -9,7 +9,7 @@ use Rattle.exec_state.specs.View.{rigOf, viewOf, workOf}
 use Rattle.exec_sound.specs.Sound.{SoundParts}
 use Rattle.exec_refusals.specs.Rows.{flagRows}
 use Rattle.exec_outcome.specs.Laws.Meeting.{judged-sound, judged-none, judged-tells, kept-tells, silent-lent, silent-output}
-use Rattle.exec_outcome.specs.Laws.Settling.{Settled, settles, settled-tells}
+use Rattle.exec_outcome.specs.Laws.Settling.{emptyCycle, Settled, settles, settled-tells}
 use mathlib.Core.Bool.{_&&_}
 use Rattle.rules.specs.Waiting.{waitOn}
 use Rattle.rules_laws.specs.Acceptance.{somebody-runs}
@@ -85,7 +85,7 @@ settle-requires : tie.Need-settle-requires
 settle-requires c κs = settles (c .before .before .before .before .before .before .before .before .before .before .before .before .args .rig) (c .before .before .before .before .before .before .before .before .before .before .before .before .args .cycles) (c .before .before .before .before .before .before .before .before .before .before .before .before .args .t3) (sound (c .before .before .before .before .before .before .before .before .before)) (flagWait (c .before .before .before .before .before .before .before .before .before .before .before .before .args .latched) (c .before .before .before .before .before .before .before .before .before .before .before .before .args .flag) (bit (c .before .before .before .before .before .before .before .before .before .before .before .before .args .value))) (wait-proper (c .before .before .before .before .before .before .before .before .before .before .before .before .args .latched) (c .before .before .before .before .before .before .before .before .before .before .before .before .args .flag) (c .before .before .before .before .before .before .before .before .before .before .before .before .args .value)) (none (c .before .before .before .before .before .before .before .before .before)) (record { st = c .before .wait-on .result; queue = c .empty .result }) (work c) (c .before .wait-on .ensures .sound)
 
 returns-3 : tie.Need-returns-3
-returns-3 c = settled-tells (c .before .before .before .before .before .before .before .before .before .before .before .before .before .args .rig) (c .before .before .before .before .before .before .before .before .before .before .before .before .before .args .cycles) (c .before .before .before .before .before .before .before .before .before .before .before .before .before .args .t3) (sound (c .before .before .before .before .before .before .before .before .before .before)) (flagWait (c .before .before .before .before .before .before .before .before .before .before .before .before .before .args .latched) (c .before .before .before .before .before .before .before .before .before .before .before .before .before .args .flag) (bit (c .before .before .before .before .before .before .before .before .before .before .before .before .before .args .value))) (wait-proper (c .before .before .before .before .before .before .before .before .before .before .before .before .before .args .latched) (c .before .before .before .before .before .before .before .before .before .before .before .before .before .args .flag) (c .before .before .before .before .before .before .before .before .before .before .before .before .before .args .value)) (none (c .before .before .before .before .before .before .before .before .before .before)) (record { st = c .before .before .wait-on .result; queue = c .before .empty .result }) (work (c .before)) (c .settle .result) (subst (λ (n : ℕ). Settled (c .before .before .before .before .before .before .before .before .before .before .before .before .before .args .rig) (record { st = c .before .before .wait-on .result; queue = c .before .empty .result }) n (c .settle .result)) (sym (wait-nobody (viewOf (c .before .before .before .before .before .before .before .before .before .before .before .before .before .args .t3)) (c .before .before .before .before .before .before .before .before .before .before .before .before .before .args .latched) (c .before .before .before .before .before .before .before .before .before .before .before .before .before .args .flag) (bit (c .before .before .before .before .before .before .before .before .before .before .before .before .before .args .value)))) (c .settle .ensures)) (wait-silent (c .before .before .before .before .before .before .before .before .before .before .before .before .before .args .latched) (c .before .before .before .before .before .before .before .before .before .before .before .before .before .args .flag) (bit (c .before .before .before .before .before .before .before .before .before .before .before .before .before .args .value)))
+returns-3 c = settled-tells (c .before .before .before .before .before .before .before .before .before .before .before .before .before .args .rig) (c .before .before .before .before .before .before .before .before .before .before .before .before .before .args .cycles) (c .before .before .before .before .before .before .before .before .before .before .before .before .before .args .t3) (sound (c .before .before .before .before .before .before .before .before .before .before)) (flagWait (c .before .before .before .before .before .before .before .before .before .before .before .before .before .args .latched) (c .before .before .before .before .before .before .before .before .before .before .before .before .before .args .flag) (bit (c .before .before .before .before .before .before .before .before .before .before .before .before .before .args .value))) (wait-proper (c .before .before .before .before .before .before .before .before .before .before .before .before .before .args .latched) (c .before .before .before .before .before .before .before .before .before .before .before .before .before .args .flag) (c .before .before .before .before .before .before .before .before .before .before .before .before .before .args .value)) (none (c .before .before .before .before .before .before .before .before .before .before)) (record { st = c .before .before .wait-on .result; queue = c .before .empty .result }) (work (c .before)) (c .settle .result) (subst (λ (n : ℕ). Settled (c .before .before .before .before .before .before .before .before .before .before .before .before .before .args .rig) emptyCycle (record { st = c .before .before .wait-on .result; queue = c .before .empty .result }) n (c .settle .result)) (sym (wait-nobody (viewOf (c .before .before .before .before .before .before .before .before .before .before .before .before .before .args .t3)) (c .before .before .before .before .before .before .before .before .before .before .before .before .before .args .latched) (c .before .before .before .before .before .before .before .before .before .before .before .before .before .args .flag) (bit (c .before .before .before .before .before .before .before .before .before .before .before .before .before .args .value)))) (c .settle .ensures)) (wait-silent (c .before .before .before .before .before .before .before .before .before .before .before .before .before .args .latched) (c .before .before .before .before .before .before .before .before .before .before .before .before .before .args .flag) (bit (c .before .before .before .before .before .before .before .before .before .before .before .before .before .args .value)))
 
 pub wait-on-spec : {M : Type 1} → statement M
 wait-on-spec =

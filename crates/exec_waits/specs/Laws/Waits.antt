@@ -16,6 +16,7 @@ use Rattle.rig.specs.declared.Rig.{Rig}
 use Rattle.rules.specs.State as S
 use Rattle.rules.specs.Proper as P
 use Rattle.rules.specs.Waiting.{waitOn, waitUntilCount}
+use Rattle.rules.specs.Rig.{isMinor}
 use Rattle.rules.specs.Calls as R
 use Rattle.rules_laws.specs.Acceptance.{passed, flagged-is}
 use Rattle.exec_queue.specs.View.{entriesOf}
@@ -79,7 +80,7 @@ module _ (g : Rig) (cycles : List Cycle) (s : State) (h : SoundParts g cycles s)
 
   pub flag-ok : (f : ℕ) (b : Bool) → 0 ≡ R.decide (flagRows (s .running) (g .flags) cycles f) → FlagOk f (bit b)
   flag-ok f b e =
-      let k = flagged-is (rigOf g cycles) (viewOf s) f (R.isMinor (rigOf g cycles .minor) f) (sym e) in
+      let k = flagged-is (rigOf g cycles) (viewOf s) f (isMinor (rigOf g cycles .minor) f) (sym e) in
       record { some = k .flag .0; flag = omega (arith, k .flag .1, h .rig .flag-count .1); value = bit-le b }
 
   -- nothing is queued

@@ -9,6 +9,12 @@ relax-requires c κs = search needs
 element-write-self : tie.Need-element-write-self
 element-write-self c = search needs
 
+mul-self : tie.Need-mul-self
+mul-self c = search needs
+
+element-write-self-2 : tie.Need-element-write-self-2
+element-write-self-2 c = search needs
+
 tested-requires : tie.Need-tested-requires
 tested-requires c κs = search needs
 
@@ -19,4 +25,5 @@ returns c =
     scheduled-is (a .t1) (a .t2) (a .t) (x .last .1 .1 .1 .1 .0) (x .ensures) (c .tested .result) (c .tested .ensures)
 
 pub scheduled-spec : {M : Type 1} → statement M
-scheduled-spec = tie.close (tie.spec relax-requires element-write-self tested-requires returns)
+scheduled-spec =
+    tie.close (tie.spec relax-requires element-write-self mul-self element-write-self-2 tested-requires returns)
