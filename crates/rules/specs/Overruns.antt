@@ -6,7 +6,7 @@ use mathlib.Core.Path.{_≡_}
 use mathlib.Core.Bool.{cond}
 use mathlib.Core.List.{List, [], _∷_}
 use Prim.Native.Nat.{ℕ, zero, suc, _+_, _<_}
-use lib.Dec.{eqb, leb}
+use lib.Dec.{eqb}
 use lib.ListN.{length}
 use Rattle.rules.specs.Rig.{Rig}
 use Rattle.rules.specs.State.{State, Entry, Work, Done, stateOf, active, on, blank}
@@ -96,7 +96,3 @@ unfoldable pub overrunsCounted : Rig → ℕ → List Event → ℕ
 overrunsCounted r t [] = 0
 overrunsCounted r t (scheduling u ∷ h) = cond (eqb u t) 0 (overrunsCounted r t h)
 overrunsCounted r t (service s e ∷ h) = cond (tooSoon r (e .flag) s t) (suc (overrunsCounted r t h)) (overrunsCounted r t h)
-
--- "the smaller of"
-abbrev pub smaller : ℕ → ℕ → ℕ
-smaller a b = cond (leb a b) a b

@@ -4,16 +4,16 @@ use mathlib.Core.Path.{_≡_, refl, sym, ap, _∙_, subst}
 use mathlib.Core.Logic.{_≢_}
 use mathlib.Core.Bool.{Bool, true, false, cond, _&&_, _||_, true≢false}
 use mathlib.Core.List.{List, [], _∷_}
-use Prim.Native.Nat.{ℕ, zero, suc, _+_, _≤_, _<_}
+use Prim.Native.Nat.{ℕ, zero, suc, _+_, _≤_, _<_, min}
 use native.Mathlib.Omega.{arith}
 use native.Mathlib.Numerals.{add-one}
-use borrow.Author.Tests.{leb-true, leb-false, le-leb, lt-ltb, le-ltb, ne-eqb}
+use borrow.Author.Tests.{ltb-true, ltb-false, le-ltb, ne-eqb}
 use lib.Dec.{eqb, leb, ltb}
 use lib.ListN.{length, getD, set, length-set, length-replicate}
 use lib.Seq.{getD-set-same, getD-set-other}
 use Rattle.laws.specs.Cases.{by, by-eqb, if-yes, if-no}
 use Rattle.laws.specs.Decides.{Is}
-use Rattle.laws.specs.Laws.Decides.{is-eqb, is-and, is-any, is-said}
+use Rattle.laws.specs.Laws.Decides.{is-eqb, is-and, is-said}
 use Rattle.laws.specs.Laws.Iter.{iter-ind}
 use Rattle.laws.specs.Laws.Stores.{stores-length, stores-hit, stores-miss}
 use Rattle.laws.specs.Laws.Tables.{zeros}
@@ -27,7 +27,8 @@ use Rattle.rules.specs.Calls.{Call, schedule, cancel, terminate, finish, tick, 
 use Rattle.rules.specs.Calls.{asScheduled, tested, scheduled, finished, terminated, cancelled, ticked, effect, ended, again, settled, decide, noSuch, refusals, refusal, reported, valueOnly, output, accepted, after, Step, step, run, started, start}
 use Rattle.rules.specs.Soundness.{Sound}
 use Rattle.rules.specs.Reasons.{NoSuch}
-use Rattle.rules.specs.Overruns.{InACondition, TooSoon, Event, scheduling, service, servingEvents, serveEvents, againEvents, schedulingOf, acceptedEvents, eventsIf, eventsFrom, startEvents, eventsOf, overrunsCounted, smaller}
+use Rattle.rules.specs.Overruns.{InACondition, TooSoon, Event, scheduling, service, servingEvents, serveEvents, againEvents, schedulingOf, acceptedEvents, eventsIf, eventsFrom, startEvents, eventsOf, overrunsCounted}
+use Rattle.rules_laws.specs.ConditionLaws.{names-is}
 use Rattle.rules_laws.specs.Serve.{serve-nil}
 use Rattle.rules_laws.specs.Testing.{tested-keeps}
 use Rattle.rules_laws.specs.Steps.{dispatch-same}
@@ -36,12 +37,8 @@ use Rattle.rules_laws.specs.RefusedExactly.{is-no-such, is-minor}
 -- ---- the test says what the words say
 
 is-named : (r : Rig) (f t : ℕ) → Is (names (r .lines) (r .lineTask) (r .lineFlag) t f) (InACondition r f t)
-unfolding names
 is-named r f t =
-    is-said
-    (is-any (r .lines) (λ k h. is-and (is-eqb (r .lineTask k) t) (is-eqb (r .lineFlag k) f)))
-    (λ w. (w .0, w .1, w .2 .0, w .2 .1))
-    (λ w. (w .0, w .1, (w .2, w .3)))
+    is-said (names-is (r .lines) (r .lineTask) (r .lineFlag) t f) (λ w. (w .0, w .1, w .2 .0, w .2 .1)) (λ w. (w .0, w .1, (w .2, w .3)))
 
 pub too-soon : (r : Rig) (f : ℕ) (s : State) (t : ℕ) → Is (tooSoon r f s t) (TooSoon r f s t)
 unfolding tooSoon
@@ -54,25 +51,12 @@ too-soon r f s t =
 -- ---- one more, and the stop
 
 -- "It stops at 65,535.": one more than the smaller of the stop and n is the smaller of the stop and one more than n
-one-more : (n : ℕ) → oneMore (smaller mostOverruns n) ≡ smaller mostOverruns (suc n)
+one-more : (n : ℕ) → oneMore (min mostOverruns n) ≡ min mostOverruns (suc n)
 unfolding oneMore
 one-more n =
-    by (leb mostOverruns n)
-    (λ e.
-    ap oneMore (if-yes n e refl)
-    ∙ if-no _ (le-ltb mostOverruns mostOverruns (omega arith)) refl
-    ∙ sym (if-yes (suc n) (le-leb mostOverruns (suc n) (omega (arith, leb-true mostOverruns n e))) refl))
-    (λ e.
-    let low = leb-false mostOverruns n e in
-    ap oneMore (if-no mostOverruns e refl)
-    ∙ if-yes _ (lt-ltb n mostOverruns low) refl
-    ∙ sym (last low))
-  where
-    last : n < mostOverruns → smaller mostOverruns (suc n) ≡ suc n
-    last low =
-        by (leb mostOverruns (suc n))
-        (λ e. if-yes (suc n) e (omega (arith, leb-true mostOverruns (suc n) e, low)))
-        (λ e. if-no mostOverruns e refl)
+    by (ltb (min mostOverruns n) mostOverruns)
+    (λ e. if-yes _ e (omega (arith, ltb-true (min mostOverruns n) mostOverruns e)))
+    (λ e. if-no _ e (omega (arith, ltb-false (min mostOverruns n) mostOverruns e)))
 
 -- ---- a service counts
 
@@ -105,7 +89,7 @@ module _ (r : Rig) (f : ℕ) (s : State) where
 
 pub record NumbersBy (r : Rig) (h : List Event) (l : List ℕ) : Type 0 where
   pub sized : length l ≡ 65
-  pub is : (i : ℕ) → i < 64 → getD l (i + 1) 0 ≡ smaller mostOverruns (overrunsCounted r (i + 1) h)
+  pub is : (i : ℕ) → i < 64 → getD l (i + 1) 0 ≡ min mostOverruns (overrunsCounted r (i + 1) h)
 
 module _ (r : Rig) where
   service-counts : (e : Entry) (s : State) (h : List Event) → NumbersBy r h (s .overruns) → NumbersBy r (service s e ∷ h) (overrun r (e .flag) s)
@@ -118,8 +102,8 @@ module _ (r : Rig) where
             ∙ go i (tooSoon r (e .flag) s (i + 1)) (n .is i a);
       }
     where
-      go : (i : ℕ) (b : Bool) → overrunsOf s (i + 1) ≡ smaller mostOverruns (overrunsCounted r (i + 1) h)
-          → cond b (oneMore (overrunsOf s (i + 1))) (overrunsOf s (i + 1)) ≡ smaller mostOverruns (cond b (suc (overrunsCounted r (i + 1) h)) (overrunsCounted r (i + 1) h))
+      go : (i : ℕ) (b : Bool) → overrunsOf s (i + 1) ≡ min mostOverruns (overrunsCounted r (i + 1) h)
+          → cond b (oneMore (overrunsOf s (i + 1))) (overrunsOf s (i + 1)) ≡ min mostOverruns (cond b (suc (overrunsCounted r (i + 1) h)) (overrunsCounted r (i + 1) h))
       go i true q = ap oneMore q ∙ one-more (overrunsCounted r (i + 1) h)
       go i false q = q
 
@@ -161,7 +145,7 @@ module _ (r : Rig) where
 
   -- ---- a schedule sets 0, and other calls keep
 
-  zero-stop : 0 ≡ smaller mostOverruns 0
+  zero-stop : 0 ≡ min mostOverruns 0
   unfolding mostOverruns
   zero-stop = refl
 
@@ -176,7 +160,7 @@ module _ (r : Rig) where
         sized = length-set (s .overruns) t 0 ∙ n .sized;
         is = λ i a.
             by-eqb t (i + 1)
-            (λ b. getD (set (s .overruns) t 0) (i + 1) 0 ≡ smaller mostOverruns (cond b 0 (overrunsCounted r (i + 1) h)))
+            (λ b. getD (set (s .overruns) t 0) (i + 1) 0 ≡ min mostOverruns (cond b 0 (overrunsCounted r (i + 1) h)))
             (λ e. subst (λ (u : ℕ). getD (set (s .overruns) t 0) u 0 ≡ 0) e (getD-set-same (s .overruns) t 0 0 (omega (arith, e, a, n .sized))) ∙ zero-stop)
             (λ e. getD-set-other (s .overruns) t (i + 1) 0 0 (λ q. e (sym q)) ∙ n .is i a);
       }
@@ -229,11 +213,11 @@ module _ (r : Rig) where
 
   -- THE LAW: "the smaller of that stop and the number counted from the history since the last schedule"
   pub counted-since : (ks : List Call) (t : ℕ) → 1 ≤ t → t ≤ 64
-      → overrunsOf (run r (start r) ks) t ≡ smaller mostOverruns (overrunsCounted r t (eventsOf r ks))
+      → overrunsOf (run r (start r) ks) t ≡ min mostOverruns (overrunsCounted r t (eventsOf r ks))
   unfolding eventsOf
   counted-since ks zero a b = absurd (omega arith)
   counted-since ks (suc i) a b =
-      subst (λ (t : ℕ). overrunsOf (run r (start r) ks) t ≡ smaller mostOverruns (overrunsCounted r t (eventsOf r ks))) (add-one i)
+      subst (λ (t : ℕ). overrunsOf (run r (start r) ks) t ≡ min mostOverruns (overrunsCounted r t (eventsOf r ks))) (add-one i)
       (run-counts (start r) ks (startEvents r) start-counts .is i (omega arith))
 
 -- ---- the history leaves no service out: it has as many more as the call says that it served

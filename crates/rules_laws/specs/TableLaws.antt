@@ -84,7 +84,7 @@ module _ (r : Rig) where
       }
 
   -- "It stops at 65,535."
-  pub one-more-le : (n : ℕ) → n ≤ mostOverruns → oneMore n ≤ mostOverruns
+  one-more-le : (n : ℕ) → n ≤ mostOverruns → oneMore n ≤ mostOverruns
   unfolding oneMore
   one-more-le n h = go (ltb n mostOverruns) refl
     where

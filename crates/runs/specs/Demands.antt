@@ -5,7 +5,7 @@
 use mathlib.Core.Path.{_≡_}
 use mathlib.Core.Logic.{_≢_, _⊎_, _↔_}
 use mathlib.Core.List.{List, _∷_, reverse}
-use Prim.Native.Nat.{ℕ, suc, _+_, _≤_, _<_}
+use Prim.Native.Nat.{ℕ, suc, _+_, _≤_, _<_, min}
 use lib.ListN.{length}
 use Rattle.laws.specs.Members.{In, Distinct}
 use Rattle.laws.specs.Ordered.{Ordered}
@@ -18,7 +18,7 @@ use Rattle.rules.specs.Serving.{mostOverruns, made, serve}
 use Rattle.rules.specs.Soundness.{IsChain}
 use Rattle.rules.specs.Calls.{terminate, finish, tick, signal, effect, ended, run, start}
 use Rattle.rules.specs.History.{Earlier, Sooner}
-use Rattle.rules.specs.Overruns.{overrunsCounted, smaller}
+use Rattle.rules.specs.Overruns.{overrunsCounted}
 use Rattle.rules_laws.specs.Activation.{ByService, ByTest}
 use Rattle.rules_laws.specs.Heard.{WaitedOn, byTest}
 use Rattle.rules_laws.specs.Heard as H
@@ -174,7 +174,7 @@ pub record AtMost (y : Exec) (m : Made) : Type 0 where
 
 pub record Overran (x : Exec) (ms : List Made) (y : Exec) : Type 0 where
   -- "equals the smaller of that stop and the number counted from the history since the last schedule"
-  pub counts : (t : ℕ) → 1 ≤ t → t ≤ mostTasks → overrunsIn y t ≡ smaller mostOverruns (overrunsCounted (rigIn x) t (eventsIn x ms))
+  pub counts : (t : ℕ) → 1 ≤ t → t ≤ mostTasks → overrunsIn y t ≡ min mostOverruns (overrunsCounted (rigIn x) t (eventsIn x ms))
   -- only tasks of the rig have one
   pub within : (t : ℕ) → overrunsIn y t ≢ 0 → (1 ≤ t) × (t ≤ y .rig .tasks)
 

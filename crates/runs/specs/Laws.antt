@@ -3,7 +3,7 @@ use mathlib.Core.Path.{_≡_, refl, sym, _∙_, ap, subst}
 use mathlib.Core.Logic.{_≢_, _⊎_, ⊎-elim, _↔_}
 use mathlib.Core.Bool.{Bool, cond}
 use mathlib.Core.List.{List, [], _∷_, _++_, reverse}
-use Prim.Native.Nat.{ℕ, suc, _+_, _≤_, _<_}
+use Prim.Native.Nat.{ℕ, suc, _+_, _≤_, _<_, min}
 use native.Mathlib.Omega.{arith}
 use borrow.Author.Tests.{lt-leb}
 use Rattle.laws.specs.Cases.{by}
@@ -34,7 +34,7 @@ use Rattle.rules.specs.History.{History, untilCount, begins, notedIf, history, 
 use Rattle.rules.specs.History as H
 use Rattle.rules_laws.specs.InOrder.{chains-in-order}
 use Rattle.rules.specs.Waking.{Struck}
-use Rattle.rules.specs.Overruns.{Event, eventsIf, eventsFrom, startEvents, eventsOf, overrunsCounted, smaller}
+use Rattle.rules.specs.Overruns.{Event, eventsIf, eventsFrom, startEvents, eventsOf, overrunsCounted}
 use Rattle.rules_laws.specs.Waking.{Spared}
 use Rattle.rules_laws.specs.Waking as W
 use Rattle.rules_laws.specs.WakingLaws as WL
@@ -417,7 +417,7 @@ module _ (g : Rig) (table : List (List ℕ)) (x : Exec) (s : AcceptedStart g tab
           counts = λ t a b.
               ap (λ (s : S.State). S.overrunsOf s t) (there .state)
               ∙ counted-since (rigIn x) (callsOf ms) t a b
-              ∙ ap (λ (h : List Event). smaller mostOverruns (overrunsCounted (rigIn x) t h))
+              ∙ ap (λ (h : List Event). min mostOverruns (overrunsCounted (rigIn x) t h))
               (sym (happening-same (rigIn x) (R.start (rigIn x)) x shown ms y ran (startEvents (rigIn x))));
           within = there .sound .state .overruns .within;
         }
