@@ -11,4 +11,5 @@ pub mod Put
 pub mod Tables
 pub mod Owners
 pub mod Stores
+pub mod Sums
 pub mod Decides

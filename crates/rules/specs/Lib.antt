@@ -7,6 +7,7 @@ pub mod Waiting
 pub mod Family
 pub mod Running
 pub mod Bus
+pub mod Frame
 pub mod NextWaking
 pub mod Calls
 pub mod Scripts
