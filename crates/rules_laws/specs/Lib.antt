@@ -37,3 +37,4 @@ pub mod Activation
 pub mod InWords
 pub mod Heeding
 pub mod Counted
+pub mod Frame

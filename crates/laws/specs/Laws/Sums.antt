@@ -1,8 +1,8 @@
 -- Laws of sums over the first numbers, and of those that come round: f has the same value p numbers further on.
 use mathlib.Core.Path.{_≡_, refl, sym, ap, _∙_}
-use Prim.Native.Nat.{ℕ, zero, suc, _+_, _*_, _≤_, _<_}
+use Prim.Native.Nat.{ℕ, zero, suc, _+_, _-_, _*_, _/_, _%_, _≤_, _<_}
 use native.Mathlib.Omega.{arith}
-use native.Mathlib.Nat.{zero-add, add-zero, suc-add, add-suc, add-assoc, zero-mul, suc-mul}
+use native.Mathlib.Nat.{zero-add, add-zero, suc-add, add-suc, add-assoc, zero-mul, suc-mul, mod-add-div'}
 use native.Mathlib.Numerals.{add-one}
 use lib.Dec.{eqb}
 use borrow.Author.Tests.{eqb-true, eqb-false, ne-eqb}
@@ -26,6 +26,12 @@ sum-plus m zero f = ap (λ k. sum k f) (add-zero m) ∙ sym (add-zero (sum m f))
 sum-plus m (suc n) f =
     let e : sum (m + suc n) f ≡ sum (m + n) f + f (m + n) = ap (λ k. sum k f) (add-suc m n) in
     omega (arith, e, sum-plus m n f)
+
+-- more numbers have no smaller sum
+pub sum-more : (m n : ℕ) (f : ℕ → ℕ) → m ≤ n → sum m f ≤ sum n f
+sum-more m n f h =
+    let e : m + (n - m) ≡ n = omega arith in
+    omega (arith, sum-plus m (n - m) f, ap (λ k. sum k f) e)
 
 -- the first of them apart
 pub sum-first : (n : ℕ) (f : ℕ → ℕ) → sum (suc n) f ≡ f 0 + sum n (λ i. f (suc i))
@@ -67,3 +73,12 @@ module _ (p : ℕ) (f : ℕ → ℕ) (round : (n : ℕ) → f (n + p) ≡ f n) w
       let apart = ap (λ n. sum n (λ i. f (c + i))) (suc-mul q p) ∙ sum-plus (q * p) p (λ i. f (c + i)) in
       let last = sum-same p (λ i. f (c + (q * p + i))) (λ i. f (c + q * p + i)) (λ i l. ap f (sym (add-assoc c (q * p) i))) in
       omega (arith, apart, last, round-sum (c + q * p), rounds-sum q c, suc-mul q (sum p f))
+
+-- what comes round is what it is at the remainder
+module _ {ℓ} {A : Type ℓ} (p : ℕ) (f : ℕ → A) (round : (n : ℕ) → f (n + p) ≡ f n) where
+  round-times : (k n : ℕ) → f (n + k * p) ≡ f n
+  round-times zero n = ap f (ap (λ m. n + m) (zero-mul p) ∙ add-zero n)
+  round-times (suc k) n = ap f (ap (λ m. n + m) (suc-mul k p) ∙ sym (add-assoc n (k * p) p)) ∙ round (n + k * p) ∙ round-times k n
+
+  pub round-mod : (n : ℕ) → f n ≡ f (n % p)
+  round-mod n = ap f (sym (mod-add-div' n p)) ∙ round-times (n / p) (n % p)
