@@ -11,9 +11,10 @@
  * Number, name and what is wrong.  1 to 5 are the paper's "Slips seen on benches".
  * Who must tell it apart, by the letter that its line begins with: M the inputs of the comparison, E the lines of
  * entries.h alone, P the comparison's streams alone, S the tests of streams that block, fail or are answered line by line,
- * V the comparison's inputs for the panel, W all words and images, as wordsall.h prints them.
+ * V the comparison's inputs for the panel, W all words and images, as wordsall.h prints them, B the comparison's inputs
+ * for the wiring sheet.
  */
-#define MUTANT_LIST(M, E, P, S, V, W) \
+#define MUTANT_LIST(M, E, P, S, V, W, B) \
     M(1, WORDS_UNREDUCED, "32 words put unreduced into the count field") \
     M(2, EQUAL_RANK_TAKES, "an equal-priority task that wakes takes the processor") \
     M(3, PHASE_BEFORE_TICK, "the phase is compared with the count before the tick") \
@@ -157,10 +158,32 @@
     V(141, SECOND_TASK_TAKEN, "an O line with a field too many is taken") \
     V(142, NUMBER_ZERO_UNPRINTED, "a number of overruns that is 0 is not printed") \
     E(143, UNSOUND_HAS_NO_OVERRUNS, "0 overruns are told of a record that is not sound") \
-    E(144, NO_SUCH_BEFORE_SOUND, "a task that there cannot be is refused by 6 before the record is found unsound")
+    E(144, NO_SUCH_BEFORE_SOUND, "a task that there cannot be is refused by 6 before the record is found unsound") \
+    B(145, TIMES_FROM_PHASE, "a row's times are the periods that fit behind its phase") \
+    B(146, FRAME_OF_63, "a frame has 63 cycles") \
+    B(147, DUE_ONE_LATE, "a row is due by the count before the tick, one cycle late") \
+    B(148, PHASE_IGNORED, "every row is due in cycle 0, whatever its phase") \
+    B(149, RECEIVER_ALONE, "a row between two terminals speaks to its receiver alone") \
+    B(150, SENDER_ALONE, "a row between two terminals speaks to its sender alone") \
+    B(151, MASTER_FOR_TERMINAL, "a row from the master or to it speaks to the master, not to the terminal") \
+    B(152, MASTER_LISTED, "the master is spoken to as a terminal is") \
+    B(153, ONCE_A_CYCLE, "two commands to a terminal in one cycle count once") \
+    B(154, DATA_WORDS_COUNTED, "a terminal's data words are counted, not its commands") \
+    B(155, ONE_COMMAND_UNTOLD, "a terminal with one command a frame has no line") \
+    B(156, ADDRESS_0_UNTOLD, "address 0 has no line") \
+    B(157, ADDRESS_31_UNTOLD, "address 31 has no line, as if it named no terminal") \
+    B(158, TERMINALS_FALLING, "terminals come by falling address") \
+    B(159, ROWS_FROM_0, "rows are numbered from 0") \
+    B(160, PERIOD_BEFORE_PHASE, "a row's period stands before its phase") \
+    B(161, ZEROS_IN_CELLS, "an empty cell of the table is a 0") \
+    B(162, LAST_CELLS_CUT, "the empty cells at the end of a table's line are left out") \
+    B(163, HEADER_NEEDS_ROWS, "the table of a rig with no rows has no header") \
+    B(164, LINE_UNTOLD, "a refused rig's line is told as 0") \
+    B(165, REFUSED_AS_RUNNER, "a refused rig is told by the runner's word START") \
+    B(166, RUN_UNHEEDED, "the rig does not end before the line RUN")
 
 #define MUTANT_NAME(number, name, text) MUTANT_##name = number,
-enum { MUTANT_LIST(MUTANT_NAME, MUTANT_NAME, MUTANT_NAME, MUTANT_NAME, MUTANT_NAME, MUTANT_NAME) MUTANT_END };
+enum { MUTANT_LIST(MUTANT_NAME, MUTANT_NAME, MUTANT_NAME, MUTANT_NAME, MUTANT_NAME, MUTANT_NAME, MUTANT_NAME) MUTANT_END };
 #undef MUTANT_NAME
 
 /* Where line numbers are cut by the mutant of that name, and the entry that is wrong. */

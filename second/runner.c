@@ -10,6 +10,7 @@
 #include "rig.h"
 #include "script.h"
 #include "stream.h"
+#include "wiring.h"
 
 /*
  * Whether the line RUN is among those from *line on; *line is then its start, else the start of the last line, which
@@ -57,6 +58,8 @@ static rig_verdict read_rig(in_stream *in, input_parts *parts, rig *r)
     *parts = take_head(in);
     if (MUTATED(LENGTH_OF_INPUT) && in->length > RIG_FILE_MAX)
         parts->rig_length = in->length;
+    if (MUTATED(RUN_UNHEEDED))
+        parts->rig_length = head_length(in);
     rig_verdict v = rig_read(in->text, parts->rig_length, r);
     in->place = parts->rig_length + (parts->has_script ? RUN_LINE_LENGTH : 0);
     return v;
@@ -113,8 +116,8 @@ static int close_streams(session *s)
     return s->in.failed || s->out.failed ? -1 : 0;
 }
 
-/* Reads the rig and hands an accepted one on; a refused one prints its line. */
-static int with_rig(int in, int out, void (*go_on)(session *s))
+/* Reads the rig and hands an accepted one on; a refused one prints its line, which begins with the word `refused`. */
+static int with_rig(int in, int out, void (*go_on)(session *s), const char *refused)
 {
     static session s;
     in_open(&s.in, in, &s.out);
@@ -125,7 +128,7 @@ static int with_rig(int in, int out, void (*go_on)(session *s))
     if (v.refusal == ACCEPTED)
         go_on(&s);
     else
-        out_advance(&s.out, print_refused_rig(out_room(&s.out, OUTPUT_LINE_MAX), &v));
+        out_advance(&s.out, print_refused_rig(out_room(&s.out, OUTPUT_LINE_MAX), refused, &v));
     return close_streams(&s);
 }
 
@@ -171,22 +174,59 @@ static void echo_rig(session *s)
     out_write(&s->out, file, length);
 }
 
+static void write_sheet(session *s, wiring_form form)
+{
+    static char sheet[WIRING_ROOM];
+    out_write(&s->out, sheet, wiring_print(sheet, &s->rig, form));
+}
+
+static void write_sheet_lines(session *s)
+{
+    write_sheet(s, WIRING_LINES);
+}
+
+static void write_sheet_table(session *s)
+{
+    write_sheet(s, WIRING_TABLE);
+}
+
+static int tell_wiring_usage(int out)
+{
+    static const char usage[] = "usage: wiring [--table] < RIG\n";
+    static out_stream to;
+    out_open(&to, out);
+    out_write(&to, usage, sizeof usage - 1);
+    out_flush(&to);
+    errno = to.failed;
+    return to.failed ? -1 : 0;
+}
+
 int runner_run(int in, int out)
 {
-    return with_rig(in, out, run_lines);
+    return with_rig(in, out, run_lines, "START");
 }
 
 int runner_run_entries(int in, int out)
 {
-    return with_rig(in, out, run_entries_lines);
+    return with_rig(in, out, run_entries_lines, "START");
 }
 
 int runner_run_panel(int in, int out)
 {
-    return with_rig(in, out, run_panel_lines);
+    return with_rig(in, out, run_panel_lines, "START");
 }
 
 int runner_echo_rig(int in, int out)
 {
-    return with_rig(in, out, echo_rig);
+    return with_rig(in, out, echo_rig, "START");
+}
+
+int runner_wiring(int in, int out, char *const *words)
+{
+    const char *refused = MUTATED(REFUSED_AS_RUNNER) ? "START" : "RIG";
+    if (words[0] == NULL)
+        return with_rig(in, out, write_sheet_lines, refused);
+    if (strcmp(words[0], "--table") == 0 && words[1] == NULL)
+        return with_rig(in, out, write_sheet_table, refused);
+    return tell_wiring_usage(out);
 }

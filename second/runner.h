@@ -39,4 +39,10 @@ int runner_run_panel(int in, int out);
 /* Reads a rig (the whole input, or up to RUN) and writes it back. */
 int runner_echo_rig(int in, int out);
 
+/*
+ * Reads a rig likewise and writes its wiring sheet (wiring.h).  A refused rig is told as RIG, number, line.  `words`,
+ * ended by NULL, are none for the sheet as lines, --table for the table; any others are answered by how it is used.
+ */
+int runner_wiring(int in, int out, char *const *words);
+
 #endif

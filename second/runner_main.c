@@ -30,6 +30,7 @@ static int usage(FILE *to, int status)
           "       runner --panel         as the first, with the lines of panel.h besides\n"
           "       runner --entries       as the first, with the lines of entries.h besides\n"
           "       runner --echo-rig      read a rig and write it back\n"
+          "       runner --wiring        read a rig and print its wiring sheet, as wiring.h says; with --table behind it as a table\n"
           "       runner --words         answer questions on bus words, as wordlist.h says\n"
           "       runner --sums          print sums over all words and images, as wordsums.h says\n"
           "       runner --terminal-all  print all that a terminal sends, as wordsall.h says\n"
@@ -51,6 +52,8 @@ int main(int argc, char **argv)
         done = runner_run_entries(0, 1);
     else if (argc == 2 && strcmp(argv[1], "--echo-rig") == 0)
         done = runner_echo_rig(0, 1);
+    else if (argc >= 2 && strcmp(argv[1], "--wiring") == 0)
+        done = runner_wiring(0, 1, argv + 2);
     else if (argc == 2 && strcmp(argv[1], "--words") == 0)
         done = wordlist_print(0, 1);
     else if (argc == 2 && strcmp(argv[1], "--sums") == 0)

@@ -197,10 +197,11 @@ size_t print_started(char *out, const answer *a, const exec *e)
     return end_line(out, print_heard(at, *out, a));
 }
 
-size_t print_refused_rig(char *out, const rig_verdict *v)
+size_t print_refused_rig(char *out, const char *word, const rig_verdict *v)
 {
-    char *at = print_text(out, "START");
+    bool cut = MUTATED(LINE_UNTOLD) || (MUTATED(LINE_NUMBER_CUT) && v->line >= LINE_NUMBERS_CUT_FROM);
+    char *at = print_text(out, word);
     at = print_field(at, v->refusal);
-    at = print_field(at, MUTATED(LINE_NUMBER_CUT) && v->line >= LINE_NUMBERS_CUT_FROM ? 0 : v->line);
+    at = print_field(at, cut ? 0 : v->line);
     return end_line(out, at);
 }

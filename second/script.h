@@ -36,7 +36,9 @@ size_t print_call(char *out, const script_call *call, const answer *a, const exe
                   const uint16_t *words);
 size_t print_wrong_line(char *out);
 size_t print_started(char *out, const answer *a, const exec *e);
-size_t print_refused_rig(char *out, const rig_verdict *v);
+
+/* `word` is START, or what another program says in its place. */
+size_t print_refused_rig(char *out, const char *word, const rig_verdict *v);
 
 /*
  * Verb, answer, count, running task, woken and activated, as the line of every call begins; answers where the text ends.

@@ -208,7 +208,7 @@ void tally_run(tally *t, const text *input, line_set taken, text *output)
     t->rule[v.rule]++;
     tally_stream_verdict(&t->stream, &v);
     if (v.refusal != ACCEPTED) {
-        text_add(output, out, print_refused_rig(out, &v));
+        text_add(output, out, print_refused_rig(out, "START", &v));
         return;
     }
     answer started = exec_start(&r.e, &made);

@@ -30,7 +30,19 @@ void read_right_rig(const char *spaced, rig *out);
 void start_with(const char *spaced, exec *out);
 
 /* The output of the runner, or of another mode of the program, for an input given as bytes. */
-enum run_mode { MODE_RUN, MODE_PANEL, MODE_ENTRIES, MODE_ECHO, MODE_WORDS, MODE_TERMINAL_ALL, MODE_MONITOR_ALL };
+enum run_mode {
+    MODE_RUN,
+    MODE_PANEL,
+    MODE_ENTRIES,
+    MODE_ECHO,
+    MODE_WIRING,
+    MODE_WIRING_TABLE,
+    MODE_WIRING_OTHER, /* with a word that it does not take */
+    MODE_WIRING_MORE,  /* with a word behind --table */
+    MODE_WORDS,
+    MODE_TERMINAL_ALL,
+    MODE_MONITOR_ALL
+};
 void run_bytes(enum run_mode mode, const void *bytes, size_t length, text *output);
 
 /* Runs the program on an input and checks its whole output. */
@@ -53,6 +65,7 @@ void again_tests(void);
 void sound_tests(void);
 void panel_tests(void);
 void overruns_tests(void);
+void wiring_tests(void);
 void runner_tests(void);
 void gen_tests(void);
 

@@ -79,6 +79,26 @@ static void take_all(FILE *from, text *out)
         text_add(out, part, (size_t)n);
 }
 
+static int wiring(int in, int out)
+{
+    return runner_wiring(in, out, (char *[]){NULL});
+}
+
+static int wiring_table(int in, int out)
+{
+    return runner_wiring(in, out, (char *[]){"--table", NULL});
+}
+
+static int wiring_other(int in, int out)
+{
+    return runner_wiring(in, out, (char *[]){"--lines", NULL});
+}
+
+static int wiring_more(int in, int out)
+{
+    return runner_wiring(in, out, (char *[]){"--table", "--table", NULL});
+}
+
 static int terminal_all(int in, int out)
 {
     (void)in;
@@ -95,6 +115,10 @@ static int (*const modes[])(int in, int out) = {[MODE_RUN] = runner_run,
                                                 [MODE_PANEL] = runner_run_panel,
                                                 [MODE_ENTRIES] = runner_run_entries,
                                                 [MODE_ECHO] = runner_echo_rig,
+                                                [MODE_WIRING] = wiring,
+                                                [MODE_WIRING_TABLE] = wiring_table,
+                                                [MODE_WIRING_OTHER] = wiring_other,
+                                                [MODE_WIRING_MORE] = wiring_more,
                                                 [MODE_WORDS] = wordlist_print,
                                                 [MODE_TERMINAL_ALL] = terminal_all,
                                                 [MODE_MONITOR_ALL] = monitor_all};
@@ -142,6 +166,7 @@ int main(int argc, char **argv)
     sound_tests();
     panel_tests();
     overruns_tests();
+    wiring_tests();
     runner_tests();
     gen_tests();
     printf("%u passed, %u failed\n", passed, failed);
