@@ -2,8 +2,8 @@
  * The random comparison: another runner against the second program, output
  * byte for byte.
  *
- *   compare [--also COMMAND] [--entries COMMAND] [--panel COMMAND] [--only PART] [--keep DIR] [--most N]
- *           COMMAND [SEED [COUNT]]
+ *   compare [--also COMMAND] [--entries COMMAND] [--panel COMMAND] [--wiring COMMAND] [--only PART] [--keep DIR]
+ *           [--most N] COMMAND [SEED [COUNT]]
  *
  * COMMAND is the other runner; it is split at spaces and run once for each
  * input, with the input as standard input.  The right output is made in this
@@ -12,9 +12,11 @@
  * outputs that pass a room's end, input that comes in pieces.  --entries
  * names a program that reads the lines of entries.h (one twentieth of COUNT
  * inputs more), --panel one that reads those of panel.h (one fifth of COUNT
- * more).  Without them the second program's own are run in this process alone,
- * to be counted.  --only leaves the other parts out: PART is inputs, streams,
- * entries or panel; for the last two COMMAND is -.
+ * more), --wiring one that prints wiring sheets (one fifth of COUNT more), which
+ * is run twice on each input: as it is named, and with --table behind it.
+ * Without them the second program's own are run in this process alone, to be
+ * counted.  --only leaves the other parts out: PART is inputs, streams, entries,
+ * panel or wiring; for the last three COMMAND is -.
  *
  * A failing input is kept in DIR (the present one without --keep) beside the
  * output it must have and the output it got; after N differences (5 without
@@ -37,6 +39,7 @@ enum {
     STREAM_SHARE = 10,  /* one input for the stream for each so many others */
     ENTRIES_SHARE = 20, /* one input of entries for each so many others */
     PANEL_SHARE = 5,    /* one input for the panel for each so many others */
+    WIRING_SHARE = 5,   /* one input for the wiring sheet for each so many others */
     NAME_ROOM = 64
 };
 
@@ -165,14 +168,45 @@ static void compare_inputs(comparison *k, const input_kind *kind, uint64_t count
         compare_input(k, kind, i, t);
 }
 
+/* ---- Wiring sheets ---- */
+
+static void compare_sheet(comparison *k, const command *c, wiring_form form, uint64_t index, const text *bytes)
+{
+    static text right;
+    one_input input = {.kind = gen_wiring_name(index), .fed = gen_wiring_feeding(index), .bytes = bytes, .right = &right};
+    if (!is_given(c))
+        return;
+    text_clear(&right);
+    tally_wiring_output(bytes, form, &right);
+    input.sizes = chance_of(k->seed, index);
+    snprintf(input.name, sizeof input.name, "failing-wiring-%s%llu-%llu", form == WIRING_TABLE ? "table-" : "",
+             (unsigned long long)k->seed, (unsigned long long)index);
+    compare_one(k, c, &input);
+}
+
+/* Each input is given twice: for its lines and for its table. */
+static void compare_sheets(comparison *k, const command *lines, uint64_t count, tally *t)
+{
+    static text bytes;
+    command table = command_with(lines, "--table");
+    for (uint64_t i = 0; i < count && k->differences < k->most; i++) {
+        text_clear(&bytes);
+        gen_wiring_input(k->seed, i, &bytes);
+        t->inputs++;
+        tally_wiring_input(&t->wiring, &bytes);
+        compare_sheet(k, lines, WIRING_LINES, i, &bytes);
+        compare_sheet(k, &table, WIRING_TABLE, i, &bytes);
+    }
+}
+
 /* ---- The command line ---- */
 
-enum part { INPUTS, STREAMS, ENTRIES, PANEL, PARTS, ALL_PARTS = PARTS };
+enum part { INPUTS, STREAMS, ENTRIES, PANEL, WIRING, PARTS, ALL_PARTS = PARTS };
 
-static const char *const part_names[PARTS] = {"inputs", "streams", "entries", "panel"};
+static const char *const part_names[PARTS] = {"inputs", "streams", "entries", "panel", "wiring"};
 
 typedef struct {
-    command runner, also, entries, panel;
+    command runner, also, entries, panel, wiring;
     enum part only;
     uint64_t count;
 } wishes;
@@ -183,10 +217,10 @@ static bool wants(const wishes *w, enum part part)
 }
 
 static const char usage[] =
-    "usage: compare [--also COMMAND] [--entries COMMAND] [--panel COMMAND] [--only inputs|streams|entries|panel]\n"
-    "               [--keep DIR] [--most N] COMMAND [SEED [COUNT]]\n"
+    "usage: compare [--also COMMAND] [--entries COMMAND] [--panel COMMAND] [--wiring COMMAND]\n"
+    "               [--only inputs|streams|entries|panel|wiring] [--keep DIR] [--most N] COMMAND [SEED [COUNT]]\n"
     "SEED, COUNT and N are decimal numbers without spare zeros; COUNT and N are at least 1.\n"
-    "With --only entries and --only panel COMMAND is -.\n";
+    "With --only entries, --only panel and --only wiring COMMAND is -.\n";
 
 static bool take_part(const char *name, wishes *w)
 {
@@ -211,6 +245,8 @@ static bool take_option(const char *name, char *value, wishes *w, comparison *k)
         w->entries = command_of(value);
     else if (strcmp(name, "--panel") == 0)
         w->panel = command_of(value);
+    else if (strcmp(name, "--wiring") == 0)
+        w->wiring = command_of(value);
     else if (strcmp(name, "--keep") == 0)
         k->keep = value;
     else
@@ -229,7 +265,7 @@ static bool take_words(int argc, char **argv, wishes *w, comparison *k)
         return false;
     if (strcmp(argv[at], "-") != 0)
         w->runner = command_of(argv[at]);
-    if (is_given(&w->runner) == (w->only == ENTRIES || w->only == PANEL))
+    if (is_given(&w->runner) == (w->only == ENTRIES || w->only == PANEL || w->only == WIRING))
         return false;
     return (left < 2 || number_of(argv[at + 1], 0, UINT64_MAX, &k->seed)) &&
            (left < 3 || number_of(argv[at + 2], LEAST_COUNT, MOST_COUNT, &w->count));
@@ -251,6 +287,8 @@ static unsigned print_seldom(const tally *t, const wishes *w)
     if (wants(w, PANEL))
         n += tally_panel_missing(&t->panel, LEAST_HITS, stdout) + tally_heard_missing_asked(&t->heard, LEAST_HITS, stdout) +
              tally_overruns_missing(&t->overruns, LEAST_HITS, stdout);
+    if (wants(w, WIRING))
+        n += tally_wiring_missing(&t->wiring, LEAST_HITS, stdout);
     return n;
 }
 
@@ -262,6 +300,8 @@ static int report(const comparison *k, const tally *t, const wishes *w)
         printf("(W, D, J, H and P were run in this process alone: no --entries)\n");
     if (wants(w, PANEL) && !is_given(&w->panel))
         printf("(V and O were run in this process alone: no --panel)\n");
+    if (wants(w, WIRING) && !is_given(&w->wiring))
+        printf("(inputs for the wiring sheet were counted in this process alone: no --wiring)\n");
     if (k->differences == 0 && w->count >= DEFAULT_COUNT)
         seldom = print_seldom(t, w);
     printf("seed %llu: %llu inputs, %u different%s\n", (unsigned long long)k->seed, (unsigned long long)t->inputs,
@@ -291,6 +331,8 @@ static void compare_all(comparison *k, const wishes *w, tally *t)
         compare_inputs(k, &entries, share_of(w->count, ENTRIES_SHARE), t);
     if (wants(w, PANEL))
         compare_inputs(k, &panel, share_of(w->count, PANEL_SHARE), t);
+    if (wants(w, WIRING))
+        compare_sheets(k, &w->wiring, share_of(w->count, WIRING_SHARE), t);
 }
 
 int main(int argc, char **argv)

@@ -56,6 +56,12 @@ void gen_stream_input(uint64_t seed, uint64_t index, text *out);
 const char *gen_stream_name(uint64_t index);
 feeding gen_stream_feeding(uint64_t index);
 
+/* ---- Inputs for the wiring sheet (gen_wiring.c) ---- */
+
+void gen_wiring_input(uint64_t seed, uint64_t index, text *out);
+const char *gen_wiring_name(uint64_t index);
+feeding gen_wiring_feeding(uint64_t index);
+
 /* Loads for measuring: a full-size rig with so many ticks; a small rig with about so many mixed lines. */
 void gen_ticks_load(uint64_t seed, unsigned ticks, text *out);
 void gen_mixed_load(uint64_t seed, unsigned lines, text *out);

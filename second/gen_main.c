@@ -4,6 +4,7 @@
  *   gen SEED INDEX entries   the same of the inputs with lines of entries.h
  *   gen SEED INDEX stream    the same of the inputs that try the stream
  *   gen SEED INDEX panel     the same of the inputs for the panel
+ *   gen SEED INDEX wiring    the same of the inputs for the wiring sheet
  *   gen SEED N ticks         a full-size rig with N ticks
  *   gen SEED N mixed         a small rig with about N lines of all verbs
  *   gen SEED N growth TASKS A ROWS   a rig of that size with about N lines, nearly all of which do the same work
@@ -25,6 +26,8 @@ static bool print_input(const char *what, uint64_t seed, uint64_t index, text *o
         gen_stream_input(seed, index, out);
     else if (strcmp(what, "panel") == 0)
         gen_panel_input(seed, index, out);
+    else if (strcmp(what, "wiring") == 0)
+        gen_wiring_input(seed, index, out);
     else
         return false;
     return true;
@@ -66,7 +69,7 @@ static bool print_asked(int argc, char **argv, text *out)
     return print_input(what, seed, number, out) || print_load(what, seed, number, out);
 }
 
-static const char usage[] = "usage: gen SEED INDEX [entries|stream|panel]\n"
+static const char usage[] = "usage: gen SEED INDEX [entries|stream|panel|wiring]\n"
                             "       gen SEED N ticks|mixed\n"
                             "       gen SEED N growth TASKS A ROWS\n"
                             "Numbers are decimal, without spare zeros; TASKS is 2 to 64, A 0 to 1024, ROWS 0 to 64.\n";

@@ -31,6 +31,7 @@ told_apart() {
         P) build/compare --most 1 --keep "$build" --only streams "$2" ;;
         E) build/compare --most 1 --keep "$build" --only entries --entries "$2 --entries" - ;;
         V) build/compare --most 1 --keep "$build" --only panel --panel "$2 --panel" - ;;
+        B) build/compare --most 1 --keep "$build" --only wiring --wiring "$2 --wiring" - ;;
         S) ../tools/tests/streams.py --patience 5 "$2" ;;
         W) all_words "$2" ;;
     esac
@@ -41,7 +42,7 @@ where() {
     sed -n 's/^DIFFERENT: failing-\(.*\)/input \1/p; s/^FAIL \([^:]*\):.*/test "\1"/p; s/^LINE: \(.*\), \(.*\)/line \1 "\2"/p' "$1" | head -1
 }
 
-list=$(sed -n 's/^ *\([MEPSVW]\)(\([0-9]*\), [A-Z0-9_]*, "\(.*\)").*/\1 \2 \3/p' mutant.h)
+list=$(sed -n 's/^ *\([BMEPSVW]\)(\([0-9]*\), [A-Z0-9_]*, "\(.*\)").*/\1 \2 \3/p' mutant.h)
 while read -r letter number text; do
     log=$build/log-$number
     export MUTANT="$number"

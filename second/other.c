@@ -38,6 +38,17 @@ bool is_given(const command *c)
     return c->word[0] != NULL;
 }
 
+command command_with(const command *c, char *word)
+{
+    command longer = *c;
+    unsigned n = 0;
+    while (longer.word[n] != NULL)
+        n++;
+    if (n > 0 && n < COMMAND_WORDS)
+        longer.word[n] = word;
+    return longer;
+}
+
 /* ---- Files ---- */
 
 void save_file(const char *path, const uint8_t *bytes, size_t length)

@@ -17,6 +17,9 @@ typedef struct {
 command command_of(char *line);
 bool is_given(const command *c);
 
+/* The same command with one more word; none stays none. */
+command command_with(const command *c, char *word);
+
 /* Where inputs and outputs of runs are kept. */
 typedef struct {
     char folder[PATH_ROOM];

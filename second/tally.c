@@ -286,6 +286,7 @@ void tally_print(const tally *t, FILE *to)
     tally_heard_print(&t->heard, to);
     tally_again_print(&t->again, to);
     tally_overruns_print(&t->overruns, to);
+    tally_wiring_print(&t->wiring, to);
 }
 
 /* ---- What was hit too seldom ---- */

@@ -17,6 +17,7 @@
 #include "tally_overruns.h"
 #include "tally_panel.h"
 #include "tally_stream.h"
+#include "tally_wiring.h"
 
 enum { REFUSALS = NOT_SOUND + 1 };
 
@@ -39,6 +40,7 @@ typedef struct {
     heard_tally heard;
     again_tally again;
     overruns_tally overruns;
+    wiring_tally wiring;
 } tally;
 
 /* Which lines a program takes: the runner's alone, or those of entries.h or panel.h besides. */

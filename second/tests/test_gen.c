@@ -167,12 +167,39 @@ static void rounds_of_entries(void)
     CHECK_IS(tally_overruns_missing_harmed(&t.overruns, 1, stdout), 0);
 }
 
+/* Whether the program prints for the input what the comparison expects. */
+static bool is_sheet(const text *in, wiring_form form)
+{
+    text want = {NULL, 0, 0}, got = {NULL, 0, 0};
+    tally_wiring_output(in, form, &want);
+    run_bytes(form == WIRING_TABLE ? MODE_WIRING_TABLE : MODE_WIRING, in->bytes, in->length, &got);
+    bool same = got.length == want.length && (got.length == 0 || memcmp(got.bytes, want.bytes, got.length) == 0);
+    text_free(&want);
+    text_free(&got);
+    return same;
+}
+
+static void rounds_of_sheets(void)
+{
+    static wiring_tally t;
+    text in = {NULL, 0, 0};
+    for (uint64_t i = 0; i < 75; i++) {
+        text_clear(&in);
+        gen_wiring_input(7, i, &in);
+        tally_wiring_input(&t, &in);
+        CHECK(is_sheet(&in, WIRING_LINES) && is_sheet(&in, WIRING_TABLE));
+    }
+    CHECK_IS(tally_wiring_missing(&t, 1, stdout), 0);
+    text_free(&in);
+}
+
 /* Where nothing was hit, everything is missed: a comparison that never meets it does not pass. */
 static void unhit_counters_are_missed(void)
 {
     static const heard_tally none;
     static const again_tally never, left = {.left = 1};
     static const overruns_tally untold;
+    static const wiring_tally unwired;
     FILE *said = tmpfile();
     CHECK(said != NULL);
     if (said == NULL)
@@ -185,6 +212,7 @@ static void unhit_counters_are_missed(void)
     CHECK_IS(tally_overruns_missing(&untold, 1, said), 14);
     CHECK_IS(tally_overruns_missing_off(&untold, 1, said), 1);
     CHECK_IS(tally_overruns_missing_harmed(&untold, 1, said), 7);
+    CHECK_IS(tally_wiring_missing(&unwired, 1, said), 24);
     fclose(said);
 }
 
@@ -214,6 +242,7 @@ void gen_tests(void)
     RUN(rounds_of_streams);
     RUN(rounds_for_the_panel);
     RUN(rounds_of_entries);
+    RUN(rounds_of_sheets);
     RUN(same_seed_same_input);
     RUN(right_rigs_are_right);
     RUN(growth_rigs_have_their_size);
