@@ -43,9 +43,14 @@ check_output() {
     exit 1
 }
 
-# pass_on PATTERN: the first line, then the rest as it comes; 1 if the first line does not match
+# pass_on PATTERN: the first line, then the rest as it comes; 1 if the first line does not match. An empty PATTERN is for a
+# program that may print anything, or nothing.
 pass_on() {
     local first verdict=0
+    if [ -z "$1" ]; then
+        LC_ALL=C cat
+        return
+    fi
     if ! IFS= read -r first; then
         printf '%s' "$first"
         return 1
@@ -69,7 +74,8 @@ run_passing() {
 }
 
 # run_telling PATTERN COMMAND...: runs a program that has no exit status of its own. Its output passes through at once.
-# Status 1 if its first line does not match PATTERN, or if it, or what it wrote to, told a failure on standard error.
+# Status 1 if its first line does not match PATTERN (unless that is empty), or if it, or what it wrote to, told a failure on
+# standard error.
 run_telling() {
     local status=0 said
     check_output

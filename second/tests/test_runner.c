@@ -157,13 +157,14 @@ static bool load(const char *path, text *out)
     return true;
 }
 
+/* The output of a table is kept beside that of the lines. */
 static void check_example(enum run_mode mode, const char *folder, const char *name)
 {
     char path[1024];
     text in = {NULL, 0, 0}, want = {NULL, 0, 0}, got = {NULL, 0, 0};
     snprintf(path, sizeof path, "%s/%s.rig", folder, name);
     CHECK(load(path, &in));
-    snprintf(path, sizeof path, "%s/%s.out", folder, name);
+    snprintf(path, sizeof path, "%s/%s.%s", folder, name, mode == MODE_WIRING_TABLE ? "table" : "out");
     CHECK(load(path, &want));
     text_add(&want, "", 1);
     run_bytes(mode, in.bytes, in.length, &got);
@@ -198,11 +199,14 @@ static unsigned check_examples(enum run_mode mode, const char *path)
 /* The panel prints what the runner prints where its verbs are not used. */
 static void example_rigs(void)
 {
-    char panel[512];
+    char panel[512], wiring[512];
     snprintf(panel, sizeof panel, "%s/panel", rigs_folder);
+    snprintf(wiring, sizeof wiring, "%s/wiring", rigs_folder);
     CHECK(check_examples(MODE_RUN, rigs_folder) >= 4);
     CHECK(check_examples(MODE_PANEL, rigs_folder) >= 4);
     CHECK(check_examples(MODE_PANEL, panel) >= 2);
+    CHECK(check_examples(MODE_WIRING, wiring) >= 1);
+    CHECK(check_examples(MODE_WIRING_TABLE, wiring) >= 1);
 }
 
 void runner_tests(void)

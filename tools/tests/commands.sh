@@ -7,6 +7,7 @@ cd "$(dirname "$0")/../.." || exit 2
 build runner
 build panel
 build rigcheck
+build wiring
 make -s -C second all tools
 room=$(mktemp -d)
 trap 'rm -rf "$room"' EXIT
@@ -39,7 +40,7 @@ expect_in() {
 
 helps() {
     local command
-    for command in ./bench ./rigcheck ./compare ./perf; do
+    for command in ./bench ./rigcheck ./wiring ./compare ./perf; do
         expect 0 "^usage: $command" "$command" --help
         expect 0 '^Exit status\|^Every number' "$command" --help
         expect 0 "^usage: $command" "$command" -h
@@ -50,6 +51,8 @@ helps() {
     expect 0 '^Panel:   V ' ./bench --help --panel
     expect 0 '^         O task ' ./bench --panel --help
     expect_in 0 '^0$' './bench --help | grep -c "^Panel:" || true'
+    expect 0 '^Table:   KIND  *NUMBER  *TIMES  *0  1  2' ./wiring --help
+    expect 0 '^          4  a rule over the whole rig is broken' ./wiring --help
     for command in second/build/compare second/build/gen second/build/runner; do
         expect 0 "^usage: ${command##*/}" "$command" --help
     done
@@ -88,6 +91,28 @@ runs() {
     expect_in 1 '^refused' './rigcheck < rigs/broken/order.rig'
 }
 
+# The wiring sheet. A refused rig is an answer, and so is no line at all.
+sheets() {
+    local no_rows=rigs/family.rig
+    expect 0 "^TERMINAL${tab}7${tab}32$" ./wiring rigs/morning.rig
+    expect_in 0 "^ROW${tab}1${tab}32${tab}0${tab}2$" './wiring < rigs/morning.rig'
+    expect_in 0 "^ROW${tab}1${tab}32${tab}0${tab}2$" 'cd rigs && cat morning.rig | ../wiring | cat'
+    expect_in 0 '^same$' 'cmp <(./wiring rigs/wiring/sheet.rig) rigs/wiring/sheet.out && echo same'
+    expect_in 0 '^same$' 'cmp <(./wiring --table rigs/wiring/sheet.rig) rigs/wiring/sheet.table && echo same'
+    expect_in 0 '^same$' 'cmp <(./wiring --table < rigs/wiring/sheet.rig) rigs/wiring/sheet.table && echo same'
+    expect 0 "^RIG${tab}3${tab}6$" ./wiring rigs/broken/order.rig
+    expect 0 "^RIG${tab}3${tab}6$" ./wiring --table rigs/broken/order.rig
+    expect_in 0 "^RIG${tab}1${tab}1$" './wiring < /dev/null'
+    expect_in 0 '^0$' "set -o pipefail; ./wiring $no_rows | wc -c"
+    expect_in 0 '^1$' "set -o pipefail; ./wiring --table $no_rows | wc -l"
+    expect 2 'there is no option --none' ./wiring --table --none
+    expect 2 'one file is taken, not 2' ./wiring rigs/morning.rig --table
+    expect 2 'there is no file rigs/none.rig' ./wiring --table rigs/none.rig
+    expect 2 'rigs is a directory' ./wiring --table rigs
+    expect_in 1 'No space left on device' './wiring --table rigs/morning-rig.rig >/dev/full'
+    expect_in 1 'standard output is closed' "./wiring $no_rows >&-"
+}
+
 # misused COMMAND: what any command over a file refuses
 misused() {
     expect 2 "^usage: $1 FILE" "$1" --no-such-option
@@ -114,11 +139,14 @@ numbers() {
     expect 2 '^usage: compare' second/build/compare --only none second/build/runner
     expect 2 '^usage: compare' second/build/compare --only entries second/build/runner
     expect 2 '^usage: compare' second/build/compare --only panel second/build/runner
+    expect 2 '^usage: compare' second/build/compare --only wiring second/build/runner
     expect 2 '^usage: compare' second/build/compare --only inputs -
     expect 2 '^usage: runner' second/build/runner --none
-    expect 0 '4 inputs, 0 different' second/build/compare second/build/runner 7 1
+    expect 0 '5 inputs, 0 different' second/build/compare second/build/runner 7 1
     expect 0 '1 inputs, 0 different' second/build/compare --only panel --panel 'second/build/runner --panel' - 7 1
     expect_in 1 '1 inputs, 1 different' 'second/build/compare --keep '"'$room'"' --only panel --panel second/build/runner - 7 1'
+    expect 0 '1 inputs, 0 different' second/build/compare --only wiring --wiring 'second/build/runner --wiring' - 7 1
+    expect_in 1 '1 inputs, 2 different' 'second/build/compare --keep '"'$room'"' --only wiring --wiring second/build/runner - 7 1'
     expect 2 '^usage: ./perf' ./perf none
     expect 2 '^usage: ./perf' ./perf growth 5
 }
@@ -139,6 +167,8 @@ helps
 runs
 misused ./bench
 misused ./rigcheck
+sheets
+misused ./wiring
 expect 2 'there is no file rigs/none.rig' ./bench --panel rigs/none.rig
 expect 2 'there is no option --none' ./bench --panel --none
 expect 2 'one file is taken, not 2' ./bench --panel rigs/morning.rig --table
