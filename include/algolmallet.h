@@ -40,8 +40,8 @@ extern "C" {
 #endif
 
 /* The version of this header: first, second and third number, and all three as one, which rises. */
-#define ALGOLMALLET_VERSION "0.6.0"
-#define ALGOLMALLET_VERSION_NUMBER 6000 /* 1,000,000 times the first, 1,000 times the second, and the third */
+#define ALGOLMALLET_VERSION "0.7.0"
+#define ALGOLMALLET_VERSION_NUMBER 7000 /* 1,000,000 times the first, 1,000 times the second, and the third */
 
 /* The version of the archive: ALGOLMALLET_VERSION_NUMBER, if this header belongs to it. */
 uint32_t algolmallet_version(void);

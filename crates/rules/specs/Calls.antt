@@ -1,5 +1,5 @@
 -- THE CALLS: what each does, what each refuses, what each answers; steps, runs and the start.
-use mathlib.Core.Bool.{Bool, not, cond, _&&_, _||_}
+use mathlib.Core.Bool.{Bool, true, false, not, cond, _&&_, _||_}
 use mathlib.Core.List.{List, [], _∷_}
 use Prim.Native.Nat.{ℕ, zero, suc, _+_, _%_}
 use lib.Dec.{leb, ltb, eqb}
@@ -33,6 +33,24 @@ pub data Call : Type 0 where
   readBlock writeBlock : ℕ → List ℕ → List ℕ → Call
   nextWaking : Call
   readOverruns : ℕ → Call
+
+-- which calls are ticks
+unfoldable pub isTick : Call → Bool
+isTick (schedule t) = false
+isTick (cancel t) = false
+isTick (terminate t) = false
+isTick finish = false
+isTick (tick buffer) = true
+isTick (waitUntil t) = false
+isTick (waitFor n) = false
+isTick (latched f v) = false
+isTick (unlatched f v) = false
+isTick (signal f v) = false
+isTick (readFlag f) = false
+isTick (readBlock k area buffer) = false
+isTick (writeBlock k area buffer) = false
+isTick nextWaking = false
+isTick (readOverruns t) = false
 
 -- ---- what each call does before its queue is served
 

@@ -1,7 +1,6 @@
 -- THE WIRING SHEET (L11): "how often a terminal is spoken to". "64 minor cycles a major frame": in which cycles of a frame a row is due and a
 -- terminal is spoken to, and how often in the whole frame. Cycle c has the counts that are c modulo 64; that any 64 accepted ticks in a row of
 -- any run come to what is said here of one frame: theorem wired, crate runs.
-use mathlib.Core.Bool.{Bool, true, false}
 use mathlib.Core.List.{List}
 use Prim.Native.Nat.{ℕ, _/_}
 use lib.Dec.{eqb}
@@ -11,7 +10,6 @@ use Rattle.word_parts.specs.Packed.{pastEleven}
 use Rattle.rules.specs.Sizes.{minorCycles}
 use Rattle.rules.specs.Rig.{Row}
 use Rattle.rules.specs.Bus.{rowDue, busWords}
-use Rattle.rules.specs.Calls.{Call, schedule, cancel, terminate, finish, tick, waitUntil, waitFor, latched, unlatched, signal, readFlag, readBlock, writeBlock, nextWaking, readOverruns}
 
 -- what the cycles of a frame have together
 abbrev pub aFrame : (ℕ → ℕ) → ℕ
@@ -35,21 +33,3 @@ timesAFrame b = aFrame (dueIn b)
 
 unfoldable pub commandsAFrame : ℕ → ℕ → (ℕ → Row) → ℕ → ℕ
 commandsAFrame rows master row address = aFrame (commandsIn rows master row address)
-
--- which calls are ticks
-unfoldable pub isTick : Call → Bool
-isTick (schedule t) = false
-isTick (cancel t) = false
-isTick (terminate t) = false
-isTick finish = false
-isTick (tick buffer) = true
-isTick (waitUntil t) = false
-isTick (waitFor n) = false
-isTick (latched f v) = false
-isTick (unlatched f v) = false
-isTick (signal f v) = false
-isTick (readFlag f) = false
-isTick (readBlock k area buffer) = false
-isTick (writeBlock k area buffer) = false
-isTick nextWaking = false
-isTick (readOverruns t) = false

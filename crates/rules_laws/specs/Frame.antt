@@ -21,9 +21,9 @@ use Rattle.rules.specs.Serving.{activate}
 use Rattle.rules.specs.Waiting.{waitOn, waitUntilCount, wakeDue}
 use Rattle.rules.specs.Running.{dispatch}
 use Rattle.rules.specs.Bus.{rowDue, rowWords, busOne, busWords}
-use Rattle.rules.specs.Frame.{dueIn, commandsTo, commandsIn, timesAFrame, commandsAFrame, isTick}
+use Rattle.rules.specs.Frame.{dueIn, commandsTo, commandsIn, timesAFrame, commandsAFrame}
 use Rattle.rules.specs.Calls.{Call, schedule, cancel, terminate, finish, tick, waitUntil, waitFor, latched, unlatched, signal, readFlag, readBlock, writeBlock, nextWaking, readOverruns}
-use Rattle.rules.specs.Calls.{scheduled, finished, terminated, cancelled, ticked, effect, ended, settled, output, wordsAt, accepted, after, refusal, step}
+use Rattle.rules.specs.Calls.{isTick, scheduled, finished, terminated, cancelled, ticked, effect, ended, settled, output, wordsAt, accepted, after, refusal, step}
 use Rattle.rules_laws.specs.Good.{settle-count}
 use Rattle.rules_laws.specs.Testing.{tested-keeps}
 

@@ -21,7 +21,7 @@ use Rattle.rules.specs.Conditions.{drive, names}
 use Rattle.rules.specs.Serving.{push, activate, ready, tooSoon, oneMore, overrun, takes, wake, offer, offerNext, offers, serveFlag, wokenBy, activatedBy, another, serving, serve}
 use Rattle.rules.specs.Family.{family, isMarked, offOne, offs}
 use Rattle.rules.specs.Calls.{Call, schedule, cancel, terminate, finish, tick, waitUntil, waitFor, latched, unlatched, signal, readFlag, readBlock, writeBlock, nextWaking, readOverruns}
-use Rattle.rules.specs.Calls.{tested, scheduled, finished, terminated, cancelled, queueOne, cycleQueue, ticked, effect, refusals, refusal, isActivation, notPlain, ended, further, again, settled, started}
+use Rattle.rules.specs.Calls.{isTick, tested, scheduled, finished, terminated, cancelled, queueOne, cycleQueue, ticked, effect, refusals, refusal, isActivation, notPlain, ended, further, again, settled, started}
 use Rattle.rules_laws.specs.Testing.{tested-cases}
 use Rattle.rules_laws.specs.Acceptance.{flagged-is}
 use Rattle.rules_laws.specs.RefusedExactly.{is-minor}
@@ -122,23 +122,6 @@ module _ (r : Rig) (m : ℕ → ℕ → ℕ) where
     settle-same t w h = ap (again (withMinor r m) t) (serve-same w h) ∙ again-same t (serve r w)
 
 -- ---- the list that tells it
-
-unfoldable pub isTick : Call → Bool
-isTick (schedule t) = false
-isTick (cancel t) = false
-isTick (terminate t) = false
-isTick finish = false
-isTick (tick buffer) = true
-isTick (waitUntil t) = false
-isTick (waitFor n) = false
-isTick (latched f v) = false
-isTick (unlatched f v) = false
-isTick (signal f v) = false
-isTick (readFlag f) = false
-isTick (readBlock k area buffer) = false
-isTick (writeBlock k area buffer) = false
-isTick nextWaking = false
-isTick (readOverruns t) = false
 
 -- the cycle of a tick; no flag for another call
 unfoldable pub heardBy : Rig → State → Call → ℕ → ℕ

@@ -4,27 +4,32 @@
 -- chains, Read). The chains are those of `IsChain` (rules, Soundness): the time chain, and each flag's for on and for off.
 use mathlib.Core.Path.{_≡_}
 use mathlib.Core.Logic.{_≢_, _⊎_, _↔_}
-use mathlib.Core.List.{List, _∷_, reverse}
-use Prim.Native.Nat.{ℕ, suc, _+_, _≤_, _<_, min}
+use mathlib.Core.Bool.{Bool, true, cond}
+use mathlib.Core.List.{List, [], _∷_, _++_, reverse}
+use Prim.Native.Nat.{ℕ, suc, _+_, _-_, _/_, _%_, _≤_, _<_, min}
 use lib.ListN.{length}
+use Rattle.laws.specs.Bits.{bit}
+use Rattle.laws.specs.Tables.{total, howMany}
 use Rattle.laws.specs.Members.{In, Distinct}
 use Rattle.laws.specs.Ordered.{Ordered}
 use Rattle.chains.specs.Held.{at}
 use Rattle.chains.specs.Read.{chainAt, backAt}
-use Rattle.rules.specs.Sizes.{mostTasks, positions, tickWords}
-use Rattle.rules.specs.Rig.{placeOf}
+use Rattle.rules.specs.Sizes.{mostTasks, positions, minorCycles, tickWords}
+use Rattle.rules.specs.Rig.{Row, placeOf}
 use Rattle.rules.specs.State.{Chain, timeChain, chainOf, State, Entry, Work, stateOf, inactive, waiting, dispatchable, on}
 use Rattle.rules.specs.Serving.{mostOverruns, made, serve}
 use Rattle.rules.specs.Soundness.{IsChain}
 use Rattle.rules.specs.Calls.{terminate, finish, tick, signal, effect, ended, run, start}
 use Rattle.rules.specs.History.{Earlier, Sooner}
 use Rattle.rules.specs.Overruns.{overrunsCounted}
+use Rattle.rules.specs.Bus.{rowDue, rowWords, busWords}
+use Rattle.rules.specs.Frame.{dueIn, commandsTo, commandsIn, timesAFrame, commandsAFrame}
 use Rattle.rules_laws.specs.Activation.{ByService, ByTest}
 use Rattle.rules_laws.specs.Heard.{WaitedOn, byTest}
 use Rattle.rules_laws.specs.Heard as H
 use Rattle.exec_family.specs.Anchors.{anchorOf}
 use Rattle.exec.specs.Sound.{rigIn, view, SoundRecord}
-use Rattle.runs.specs.Runs.{Made, MadeOn, callsOf, codeOf, servedOf, wokenOf, activatedOf, toldBy, historyIn, eventsIn}
+use Rattle.runs.specs.Runs.{Made, MadeOn, callsOf, codeOf, servedOf, wokenOf, activatedOf, toldBy, historyIn, eventsIn, ticksIn, countMade, handedOut}
 use Rattle.exec.specs.declared.Exec.{Exec}
 
 -- the state of a task, and its waking count; who waits in a chain, read forward and backward
@@ -184,3 +189,53 @@ pub record OverrunsTold (y : Exec) (t : ℕ) (m : Made) : Type 0 where
   pub same : m .step .exec ≡ y
   pub told : 1 ≤ t → t ≤ y .rig .tasks → (codeOf (m .step) ≡ 0) × (toldBy (m .step) ≡ overrunsIn y t)
   pub refused : (t ≡ 0) ⊎ (y .rig .tasks < t) → codeOf (m .step) ≡ 6
+
+-- ---- L11: A STATEMENT FOR THE WIRING SHEET. Of the accepted ticks of the run ms from the start's record x.
+
+-- row k, numbered from 1
+abbrev pub rowIn : Exec → ℕ → Row
+rowIn x k = rigIn x .row (k - 1)
+
+-- it is due at a tick: "A row is due when count modulo period equals phase", at the count that the tick made
+abbrev pub dueAt : Exec → ℕ → Made → Bool
+dueAt x k m = rowDue (rowIn x k) (countMade m)
+
+-- the command words, at a tick, of so many rows: of those that are due
+abbrev pub wordsOfRows : Exec → ℕ → (ℕ → Row) → Made → List ℕ
+wordsOfRows x n rows m = busWords n (x .rig .master) rows (countMade m)
+
+-- "at the ticks at which it is due, and at no others, the row's command words stand at their place in the words that the tick wrote": behind those of
+-- the rows before it, and before those of the rows behind it
+abbrev pub HandsOut : Exec → ℕ → Made → Type 0
+HandsOut x k m =
+    handedOut m
+    ≡ wordsOfRows x (k - 1) (rigIn x .row) m
+    ++ (cond (dueAt x k m) (rowWords (x .rig .master) (rowIn x k)) []
+    ++ wordsOfRows x (x .rig .rows - k) (λ (i : ℕ). rigIn x .row (k + i)) m)
+
+-- these stand in a row among the accepted ticks of the run
+abbrev pub InARow : List Made → List Made → Type 0
+InARow ms window = (before : List Made) × (behind : List Made) × (ticksIn ms ≡ before ++ (window ++ behind))
+
+-- row k
+pub record Wired (x : Exec) (ms : List Made) (k : ℕ) : Type 0 where
+  -- "in any 64 accepted ticks in a row, a synchronous row of period p is due exactly 64/p times"
+  pub times : (window : List Made) → InARow ms window → length window ≡ 64 → howMany (dueAt x k) window ≡ 64 / rowIn x k .period
+  -- "and p ticks lie from each to the next": from one at which it is due, past those at which it is not, to the next at which it is
+  pub next :
+      (m n : Made) (between : List Made) → InARow ms (m ∷ (between ++ n ∷ [])) →
+      dueAt x k m ≡ true → howMany (dueAt x k) between ≡ 0 → dueAt x k n ≡ true →
+      length (between ++ n ∷ []) ≡ rowIn x k .period
+  pub handed : (m : Made) → InARow ms (m ∷ []) → HandsOut x k m
+  -- what the sheet says of it: how often in a frame, and in which cycles
+  pub sheet : timesAFrame (rowIn x k) ≡ 64 / rowIn x k .period
+  pub cycles : (m : Made) → bit (dueAt x k m) ≡ dueIn (rowIn x k) (countMade m % minorCycles)
+
+-- "how often a terminal is spoken to": in any 64 accepted ticks in a row as often as the sheet says of a frame, and at each tick as its cycle says
+pub record SpokenTo (x : Exec) (ms : List Made) (address : ℕ) : Type 0 where
+  pub times :
+      (window : List Made) → InARow ms window → length window ≡ 64 →
+      total (λ (m : Made). commandsTo address (handedOut m)) window ≡ commandsAFrame (x .rig .rows) (x .rig .master) (rigIn x .row) address
+  pub cycles :
+      (m : Made) → InARow ms (m ∷ []) →
+      commandsTo address (handedOut m) ≡ commandsIn (x .rig .rows) (x .rig .master) (rigIn x .row) address (countMade m % minorCycles)

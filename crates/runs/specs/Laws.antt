@@ -1,17 +1,23 @@
 -- Runs of the code keep to the rules; demand 3 of the code, and the waking clause.
 use mathlib.Core.Path.{_≡_, refl, sym, _∙_, ap, subst}
-use mathlib.Core.Logic.{_≢_, _⊎_, ⊎-elim, _↔_}
-use mathlib.Core.Bool.{Bool, cond}
+use mathlib.Core.Logic.{_≢_, _⊎_, inl, inr, ⊎-elim, _↔_}
+use mathlib.Core.Bool.{Bool, true, cond, _&&_}
 use mathlib.Core.List.{List, [], _∷_, _++_, reverse}
-use Prim.Native.Nat.{ℕ, suc, _+_, _≤_, _<_, min}
+use Prim.Native.Nat.{ℕ, suc, _+_, _-_, _*_, _/_, _%_, _≤_, _<_, min}
 use native.Mathlib.Omega.{arith}
-use borrow.Author.Tests.{lt-leb}
-use Rattle.laws.specs.Cases.{by}
+use native.Mathlib.Nat.{add-zero, suc-add, add-suc}
+use lib.Dec.{eqb}
+use lib.ListN.{length, take, length-append}
+use borrow.Author.Tests.{lt-leb, eqb-true}
+use Rattle.laws.specs.Bits.{bit}
+use Rattle.laws.specs.Cases.{by, by-bool, and-true}
+use Rattle.laws.specs.Tables.{total, howMany, sum}
+use Rattle.laws.specs.Laws.Sums.{sum-same, sum-first, round-mod}
 use Rattle.laws.specs.Members.{In, Distinct}
 use Rattle.laws.specs.Ordered.{Ordered}
 use Rattle.chains.specs.Read.{chainsOf}
 use Rattle.chains.specs.Laws.Read.{chains-at, sound-chains, read-backward}
-use Rattle.rig.specs.Rules.{Right}
+use Rattle.rig.specs.Rules.{Right, periods}
 use Rattle.rig.specs.Forms.{cyclesOf}
 use Rattle.rig.specs.declared.Rig.{Rig}
 use Rattle.rules.specs.Rig as G
@@ -21,7 +27,7 @@ use Rattle.rules.specs.State.{Chain, timeChain, chainOf, waiting}
 use Rattle.rules.specs.Serving.{mostOverruns, made, serve}
 use Rattle.rules.specs.Soundness.{IsChain, Sound}
 use Rattle.rules.specs.Calls as R
-use Rattle.rules.specs.Calls.{tick, waitUntil, waitFor, nextWaking, readOverruns, noSuch, refusal}
+use Rattle.rules.specs.Calls.{isTick, tick, waitUntil, waitFor, nextWaking, readOverruns, noSuch, refusal}
 use Rattle.rules.specs.Proper.{ProperRun}
 use Rattle.rules_laws.specs.Acceptance.{there-is}
 use Rattle.rules_laws.specs.Refusals.{code-is, refused-unchanged}
@@ -35,6 +41,9 @@ use Rattle.rules.specs.History as H
 use Rattle.rules_laws.specs.InOrder.{chains-in-order}
 use Rattle.rules.specs.Waking.{Struck}
 use Rattle.rules.specs.Overruns.{Event, eventsIf, eventsFrom, startEvents, eventsOf, overrunsCounted}
+use Rattle.rules.specs.Bus.{rowDue, rowWords, busWords}
+use Rattle.rules.specs.Frame.{dueIn, commandsTo, commandsIn}
+use Rattle.rules_laws.specs.Frame.{AllTimed, due-times, quotient, frame-round, due-next, bus-at, words-of-cycle, commands-times, times-is, is-tick, step-count, tick-sends}
 use Rattle.rules_laws.specs.Waking.{Spared}
 use Rattle.rules_laws.specs.Waking as W
 use Rattle.rules_laws.specs.WakingLaws as WL
@@ -53,8 +62,8 @@ use Rattle.exec.specs.Laws.Meeting.{refused-tells-nothing}
 use Rattle.exec_sound.specs.Laws.RightRig.{rig-ok}
 use Rattle.exec.specs.Laws.Promises.{twelve-exactly, Answered, asked, overruns-asked, six-exactly, six-unchanged}
 use Rattle.exec.specs.Starting.{Started, noExec, brokenRig}
-use Rattle.runs.specs.Runs.{Made, MadeOn, Ran, callsOf, codeOf, servedOf, wokenOf, activatedOf, toldBy, AcceptedStart, noting, historyIn, happening, eventsIn, SparedIn, NoneSoonerIn}
-use Rattle.runs.specs.Demands.{Stands, Chained, Activated, Bounded, Demand, Wakes, forwardIn, stateIn, wakeIn, OnTime, Told, leaves, Comes, byTestIn, Hears, Heard, NobodyLeft, AtMost, Overran, OverrunsTold}
+use Rattle.runs.specs.Runs.{Made, MadeOn, Ran, callsOf, codeOf, servedOf, wokenOf, activatedOf, toldBy, AcceptedStart, noting, historyIn, happening, eventsIn, SparedIn, NoneSoonerIn, isAcceptedTick, ticksIn, countMade, handedOut}
+use Rattle.runs.specs.Demands.{Stands, Chained, Activated, Bounded, Demand, Wakes, forwardIn, stateIn, wakeIn, OnTime, Told, leaves, Comes, byTestIn, Hears, Heard, NobodyLeft, AtMost, Overran, OverrunsTold, rowIn, dueAt, wordsOfRows, HandsOut, InARow, Wired, SpokenTo}
 use Rattle.exec.specs.declared.Exec.{Exec}
 use Rattle.exec.specs.declared.Step.{Step}
 
@@ -84,8 +93,43 @@ record Gives (r : G.Rig) (s : S.State) (x : Exec) (m : Made) : Type 0 where
   rig : m .step .exec .rig ≡ x .rig
   cycles : m .step .exec .cycles ≡ x .cycles
   answer : answerOf (m .step .answer) ≡ R.step r s (m .call) .answer
+  lent : m .after ≡ R.step r s (m .call) .lent
+
+-- L11: a tick that made the count c, and handed out its words; ticks that made one count after the other, from c on
+record TickAt (r : G.Rig) (c : ℕ) (m : Made) : Type 0 where
+  made : countMade m ≡ c
+  sent : handedOut m ≡ R.wordsAt r c
+
+Ticks : G.Rig → ℕ → List Made → Type 0
+Ticks r c [] = Unit {0}
+Ticks r c (m ∷ ms) = TickAt r c m × Ticks r (suc c) ms
 
 module _ (r : G.Rig) where
+  ticks-front : (c : ℕ) (xs ys : List Made) → Ticks r c (xs ++ ys) → Ticks r c xs
+  unfolding Ticks
+  ticks-front c [] ys t = tt
+  ticks-front c (x ∷ xs) ys t = (t .0, ticks-front (suc c) xs ys (t .1))
+
+  ticks-behind : (c : ℕ) (xs ys : List Made) → Ticks r c (xs ++ ys) → Ticks r (c + length xs) ys
+  unfolding Ticks
+  ticks-behind c [] ys t = subst (λ (n : ℕ). Ticks r n ys) (sym (add-zero c)) t
+  ticks-behind c (x ∷ xs) ys t = subst (λ (n : ℕ). Ticks r n ys) (suc-add c (length xs) ∙ sym (add-suc c (length xs))) (ticks-behind (suc c) xs ys (t .1))
+
+  -- what stands in a row among them
+  in-a-row : (c : ℕ) (ms window : List Made) → Ticks r c (ticksIn ms) → InARow ms window → (d : ℕ) × Ticks r d window
+  in-a-row c ms window t w =
+      (c + length (w .0), ticks-front _ window (w .1) (ticks-behind c (w .0) (window ++ w .1) (subst (Ticks r c) (w .2) t)))
+
+  -- a sum over them is one over their counts
+  ticks-sum : (g : Made → ℕ) (f : ℕ → ℕ) → ((c : ℕ) (m : Made) → TickAt r c m → g m ≡ f c)
+      → (c : ℕ) (l : List Made) → Ticks r c l → total g l ≡ sum (length l) (λ i. f (c + i))
+  unfolding Ticks total sum
+  ticks-sum g f h c [] t = refl
+  ticks-sum g f h c (m ∷ l) t =
+      let first = sum-first (length l) (λ i. f (c + i)) in
+      let further = sum-same (length l) (λ i. f (suc c + i)) (λ i. f (c + suc i)) (λ i b. ap f (suc-add c i ∙ sym (add-suc c i))) in
+      omega (arith, h c m (t .0), ticks-sum g f h (suc c) l (t .1), first, further, ap f (add-zero c))
+
   gives : (s : S.State) (x : Exec) → Shows r s x → (m : Made) → MadeOn x m → Gives r s x m
   gives s x h m o = ⊎-elim (λ p. go (p .1)) (λ p. absurd (p .0 (h .sound))) (o .meets .is)
     where
@@ -101,6 +145,7 @@ module _ (r : G.Rig) where
             rig = f .rig;
             cycles = f .cycles;
             answer = f .answer ∙ (λ i. R.step (h .rig i) (h .state i) (m .call) .answer);
+            lent = f .lent ∙ (λ i. R.step (h .rig i) (h .state i) (m .call) .lent);
           }
 
   code-same : (s : S.State) (x : Exec) → Shows r s x → (m : Made) → MadeOn x m → codeOf (m .step) ≡ refusal r s (m .call)
@@ -154,6 +199,37 @@ module _ (r : G.Rig) where
     (λ d e b. q .0 d (code-same s x h m (p .0) ∙ e) (ap (λ (v : S.State). begins v (m .call)) (h .state) ∙ b)),
     sooner-same (R.step r s (m .call) .next) (m .step .exec) (gives s x h m (p .0) .next) ms y (p .1) c (q .1),
   )
+
+  -- L11: the accepted ticks make one count after the other, and hand out the words of the count that they make
+  ticks-rise : (s : S.State) (x : Exec) → Shows r s x → (ms : List Made) (y : Exec) → Ran x ms y → Ticks r (suc (s .count)) (ticksIn ms)
+  unfolding ticksIn Ticks
+  ticks-rise s x h [] y e = tt
+  ticks-rise s x h (m ∷ ms) y p =
+      let g = gives s x h m (p .0) in
+      let rest = ticks-rise (R.step r s (m .call) .next) (m .step .exec) (g .next) ms y (p .1) in
+      let risen : R.step r s (m .call) .next .count ≡ cond (isAcceptedTick m) (suc (s .count)) (s .count) =
+      step-count r s (m .call) ∙ ap (λ (n : ℕ). cond (isTick (m .call) && eqb n 0) (suc (s .count)) (s .count)) (sym (code-same s x h m (p .0))) in
+      by-bool (isAcceptedTick m) (λ b. Ticks r (suc (s .count)) (cond b (m ∷ ticksIn ms) (ticksIn ms)))
+      (λ e.
+      let count = risen ∙ ap (λ (b : Bool). cond b (suc (s .count)) (s .count)) e in
+      (sent s x h m (p .0) e count, subst (λ (n : ℕ). Ticks r (suc n) (ticksIn ms)) count rest))
+      (λ e. subst (λ (n : ℕ). Ticks r (suc n) (ticksIn ms)) (risen ∙ ap (λ (b : Bool). cond b (suc (s .count)) (s .count)) e) rest)
+    where
+      sent : (s : S.State) (x : Exec) → Shows r s x → (m : Made) → MadeOn x m → isAcceptedTick m ≡ true → R.step r s (m .call) .next .count ≡ suc (s .count)
+          → TickAt r (suc (s .count)) m
+      sent s x h m o e count =
+          let both = and-true (isTick (m .call)) (eqb (codeOf (m .step)) 0) e in
+          let t = is-tick (m .call) (both .0) in
+          let g = gives s x h m o in
+          let free : refusal r s (m .call) ≡ 0 = sym (code-same s x h m o) ∙ eqb-true (codeOf (m .step)) 0 (both .1) in
+          record {
+            made = ap (λ (u : S.State). u .count) (g .next .state) ∙ count;
+            sent =
+                (λ i. take (g .answer i .report .words) (g .lent i))
+                ∙ subst (λ (k : R.Call). refusal r s k ≡ 0 → take (R.step r s k .answer .report .words) (R.step r s k .lent) ≡ R.wordsAt r (R.step r s k .next .count))
+                (sym (t .1)) (tick-sends r s (t .0)) free
+                ∙ ap (R.wordsAt r) count;
+          }
 
 ran-proper : (x : Exec) (ms : List Made) (y : Exec) → Ran x ms y → ProperRun (callsOf ms)
 ran-proper x [] y e = tt
@@ -300,6 +376,18 @@ wakes-shown r s ks z end t c w =
           );
     }
 
+-- ---- L11: "periods 1, 2, 4, 8, 16, 32, 64" go into 64
+
+period-divides : (p : ℕ) → In p periods → (q : ℕ) × (q * p ≡ 64)
+period-divides p (inl e) = (64, ap (λ (n : ℕ). 64 * n) e)
+period-divides p (inr (inl e)) = (32, ap (λ (n : ℕ). 32 * n) e)
+period-divides p (inr (inr (inl e))) = (16, ap (λ (n : ℕ). 16 * n) e)
+period-divides p (inr (inr (inr (inl e)))) = (8, ap (λ (n : ℕ). 8 * n) e)
+period-divides p (inr (inr (inr (inr (inl e))))) = (4, ap (λ (n : ℕ). 4 * n) e)
+period-divides p (inr (inr (inr (inr (inr (inl e)))))) = (2, ap (λ (n : ℕ). 2 * n) e)
+period-divides p (inr (inr (inr (inr (inr (inr (inl e))))))) = (1, ap (λ (n : ℕ). 1 * n) e)
+period-divides p (inr (inr (inr (inr (inr (inr (inr e))))))) = absurd e
+
 -- ---- FROM AN ACCEPTED START
 
 refused-four : (r : Step) → codeOf r ≡ 0 → Refuses noExec brokenRig r → ⊥
@@ -338,6 +426,13 @@ module _ (g : Rig) (table : List (List ℕ)) (x : Exec) (s : AcceptedStart g tab
 
   rig-right : RigOk (rigIn x)
   rig-right = ok x (shown .sound)
+
+  -- L11: the rows of the start's rig
+  timed : AllTimed (x .rig .rows) (rigIn x .row)
+  timed i l =
+      let b = shown .sound .rig .rows i l in
+      let q = period-divides _ (b .period) in
+      (q .0, record { divides = q .1; below = b .phase })
 
   module _ (ms : List Made) (y : Exec) (ran : Ran x ms y) where
     there : Shows (rigIn x) (R.run (rigIn x) (R.start (rigIn x)) (callsOf ms)) y
@@ -424,6 +519,71 @@ module _ (g : Rig) (table : List (List ℕ)) (x : Exec) (s : AcceptedStart g tab
 
     pub overruns-told : (m : Made) → MadeOn y m → (t : ℕ) → m .call ≡ readOverruns t → OverrunsTold y t m
     overruns-told m o = sound-overruns-told y (there .sound) m o
+
+    -- L11: A STATEMENT FOR THE WIRING SHEET
+    ticks : Ticks (rigIn x) (suc (R.start (rigIn x) .count)) (ticksIn ms)
+    ticks = ticks-rise (rigIn x) (R.start (rigIn x)) x shown ms y ran
+
+    -- what a tick handed out, seen from row k
+    hands-out : (k : ℕ) → 1 ≤ k → k ≤ x .rig .rows → (m : Made) → InARow ms (m ∷ []) → HandsOut x k m
+    unfolding R.wordsAt Ticks
+    hands-out k a b m w =
+        let t = in-a-row (rigIn x) _ ms (m ∷ []) ticks w .1 .0 in
+        let rows = x .rig .rows in
+        let master = x .rig .master in
+        let row = rigIn x .row in
+        let all : rows ≡ k - 1 + suc (rows - k) = omega arith in
+        let from : suc (k - 1) ≡ k = omega arith in
+        t .sent
+        ∙ ap (busWords rows master row) (sym (t .made))
+        ∙ ap (λ (n : ℕ). busWords n master row (countMade m)) all
+        ∙ bus-at master row (countMade m) (k - 1) (rows - k)
+        ∙ ap (λ (n : ℕ).
+        wordsOfRows x (k - 1) row m ++ (cond (rowDue (rowIn x k) (countMade m)) (rowWords master (rowIn x k)) [] ++ wordsOfRows x (rows - k) (λ (i : ℕ). row (n + i)) m)) from
+
+    pub wired : (k : ℕ) → 1 ≤ k → k ≤ x .rig .rows → Wired x ms k
+    unfolding Ticks
+    wired k a b =
+        let r = rigIn x in
+        let d = rowIn x k in
+        let q = timed (k - 1) (omega arith) in
+        record {
+          times = λ window w e.
+              let t = in-a-row r _ ms window ticks w in
+              ticks-sum r (λ m. bit (dueAt x k m)) (dueIn d) (λ c m h. ap (dueIn d) (h .made)) (t .0) window (t .1)
+              ∙ ap (λ (n : ℕ). sum n (λ i. dueIn d (t .0 + i))) e
+              ∙ due-times d (q .0) (q .1) (t .0)
+              ∙ quotient d (q .0) (q .1);
+          next = λ m n between w first none last.
+              let t = in-a-row r _ ms (m ∷ (between ++ n ∷ [])) ticks w in
+              let front = ticks-front r (suc (t .0)) between (n ∷ []) (t .1 .1) in
+              let end = ticks-behind r (suc (t .0)) between (n ∷ []) (t .1 .1) .0 in
+              let e = due-next d (q .0) (q .1) (t .0) (length between)
+              (ap (dueIn d) (sym (t .1 .0 .made)) ∙ ap bit first)
+              (sym (ticks-sum r (λ m. bit (dueAt x k m)) (dueIn d) (λ c m h. ap (dueIn d) (h .made)) (suc (t .0)) between front) ∙ none)
+              (ap (dueIn d) (sym (end .made)) ∙ ap bit last) in
+              omega (arith, length-append between (n ∷ []), e);
+          handed = hands-out k a b;
+          sheet = times-is d (q .0) (q .1);
+          cycles = λ m. round-mod 64 (dueIn d) (λ n. ap bit (frame-round d (q .0) (q .1) n)) (countMade m);
+        }
+
+    pub spoken-to : (address : ℕ) → SpokenTo x ms address
+    unfolding R.wordsAt Ticks
+    spoken-to address =
+        let rows = x .rig .rows in
+        let master = x .rig .master in
+        let row = rigIn x .row in
+        record {
+          times = λ window w e.
+              let t = in-a-row (rigIn x) _ ms window ticks w in
+              ticks-sum (rigIn x) (λ m. commandsTo address (handedOut m)) (commandsIn rows master row address) (λ c m a. ap (commandsTo address) (a .sent)) (t .0) window (t .1)
+              ∙ ap (λ (n : ℕ). sum n (λ i. commandsIn rows master row address (t .0 + i))) e
+              ∙ commands-times rows master row timed address (t .0);
+          cycles = λ m w.
+              let t = in-a-row (rigIn x) _ ms (m ∷ []) ticks w .1 .0 in
+              ap (commandsTo address) (t .sent ∙ ap (busWords rows master row) (sym (t .made)) ∙ words-of-cycle rows master row timed (countMade m));
+        }
 
     -- L2: WHOM DID IT WAKE?
     pub heard : (m : Made) → MadeOn y m → Heard y m

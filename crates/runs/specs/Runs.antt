@@ -1,10 +1,13 @@
 -- RUNS OF THE CODE: the calls that are made on a record one after the other, each with the step that it gave, refused calls
 -- among them.
 use mathlib.Core.Path.{_≡_}
+use mathlib.Core.Bool.{Bool, cond, _&&_}
 use mathlib.Core.List.{List, [], _∷_}
 use Prim.Native.Nat.{ℕ, suc, _≤_}
+use lib.Dec.{eqb}
+use lib.ListN.{take}
 use Rattle.rig.specs.declared.Rig.{Rig}
-use Rattle.rules.specs.Calls.{Call}
+use Rattle.rules.specs.Calls.{Call, isTick}
 use Rattle.rules.specs.Proper.{Proper}
 use Rattle.rules.specs.History.{History, notedIf, never, untilCount, begins}
 use Rattle.rules.specs.Waking.{Struck}
@@ -28,6 +31,10 @@ wokenOf r = answerOf (r .answer) .report .woken
 
 abbrev pub activatedOf : Step → ℕ
 activatedOf r = answerOf (r .answer) .report .activated
+
+-- how many bus words a tick wrote
+abbrev pub wordsOf : Step → ℕ
+wordsOf r = answerOf (r .answer) .report .words
 
 -- the number that a question is answered by
 abbrev pub toldBy : Step → ℕ
@@ -90,3 +97,18 @@ SparedIn x (m ∷ ms) t = (Struck (rigIn x) (view x) (m .call) t → ⊥) × Spa
 abbrev pub NoneSoonerIn : Exec → ℕ → List Made → Type 0
 NoneSoonerIn x c [] = Unit {0}
 NoneSoonerIn x c (m ∷ ms) = ((d : ℕ) → codeOf (m .step) ≡ 0 → begins (view x) (m .call) ≡ untilCount d → c ≤ d) × NoneSoonerIn (m .step .exec) c ms
+
+-- L11: "the accepted ticks of the run in order"
+abbrev pub isAcceptedTick : Made → Bool
+isAcceptedTick m = isTick (m .call) && eqb (codeOf (m .step)) 0
+
+unfoldable pub ticksIn : List Made → List Made
+ticksIn [] = []
+ticksIn (m ∷ ms) = cond (isAcceptedTick m) (m ∷ ticksIn ms) (ticksIn ms)
+
+-- the count that a tick made, and "the words that the tick wrote": at the front of its buffer, as many as it answers
+abbrev pub countMade : Made → ℕ
+countMade m = m .step .exec .st .count
+
+abbrev pub handedOut : Made → List ℕ
+handedOut m = take (wordsOf (m .step)) (m .after)

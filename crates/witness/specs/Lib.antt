@@ -11,6 +11,7 @@ pub mod Morning
 pub mod MorningRun
 pub mod MorningWait
 pub mod MorningAsked
+pub mod MorningTicks
 pub mod FullRig
 pub mod FullRun
 pub mod MorningStream

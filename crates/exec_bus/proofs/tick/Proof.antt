@@ -9,7 +9,8 @@ use Rattle.exec_refusals.specs.Rows.{tickRows}
 use Rattle.exec_outcome.specs.Laws.Meeting.{judged-sound, judged-none, judged-tells}
 use Rattle.exec_outcome.specs.Laws.Tables.{tick-table}
 use Rattle.exec_outcome.specs.Laws.Settling.{settles}
-use Rattle.exec_bus.specs.Laws.Tick.{tick-ok, tick-room, rows-fit, bus-fits, ticked-work, tick-tells}
+use Rattle.compool.specs.Laws.Rows.{rows-fit}
+use Rattle.exec_bus.specs.Laws.Tick.{tick-ok, tick-room, bus-fits, ticked-work, tick-tells}
 use Rattle.exec_bus.proofs.tick.Statement.{statement}
 use Rattle.exec_bus.proofs.tick.Tie as tie
 

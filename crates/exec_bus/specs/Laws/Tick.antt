@@ -10,20 +10,19 @@ use borrow.Author.Tests.{leb-false, ltb-false}
 use Rattle.laws.specs.Laws.Iter.{iter-ind}
 use Rattle.laws.specs.Put.{put}
 use Rattle.chains.specs.Held.{at}
-use Rattle.rig.specs.Rules.{Right, noCycle}
+use Rattle.rig.specs.Rules.{noCycle}
 use Rattle.rig.specs.declared.Cycle.{Cycle}
 use Rattle.rig.specs.declared.Rig.{Rig}
 use Rattle.rules.specs.Rig as G
 use Rattle.rules.specs.State as S
 use Rattle.rules.specs.Bus.{rowDue, rowWords, busOne, busWords}
 use Rattle.rules.specs.Calls as R
-use Rattle.rules.specs.Calls.{lastCount}
+use Rattle.rules.specs.Calls.{isTick, lastCount}
 use Rattle.rules.specs.Waiting.{wakeDue}
 use Rattle.rules_laws.specs.Acceptance.{passed}
-use Rattle.rules_laws.specs.Heeding.{isTick, heardBy}
+use Rattle.rules_laws.specs.Heeding.{heardBy}
 use Rattle.exec_queue.specs.View.{minorOf}
 use Rattle.compool.specs.View.{rowsOf}
-use Rattle.compool.specs.Post.{RowsFit}
 use Rattle.compool.specs.Laws.Words.{row-short}
 use Rattle.exec_state.specs.View.{rigOf, viewOf, workOf}
 use Rattle.exec_waking.specs.Post.{TickOk, Ticked}
@@ -35,22 +34,6 @@ use Rattle.exec_outcome.specs.Outcome.{Tells}
 use Rattle.exec_outcome.specs.Laws.Meeting.{accepted-tells}
 use Rattle.exec_outcome.specs.Laws.Settling.{Settled, next-is, told-is}
 use Rattle.exec_outcome.specs.declared.Outcome.{Outcome}
-
--- the rows are as the bus words ask
-pub rows-fit : (g : Rig) (cycles : List Cycle) → Right g cycles → RowsFit (g .rows) (g .row)
-rows-fit g cycles h =
-    record {
-      few = h .row-count;
-      row = λ k b.
-          let s = h .rows k b in
-          record {
-            sender = s .sender;
-            senderSub = omega (arith, s .senderSub .1);
-            receiver = s .receiver;
-            receiverSub = omega (arith, s .receiverSub .1);
-            period = omega (arith, s .phase);
-          };
-    }
 
 -- at most two words a row
 bus-few : (n master : ℕ) (row : ℕ → G.Row) (count : ℕ) → length (busWords n master row count) ≤ n + n

@@ -12,10 +12,10 @@ use Rattle.rig.specs.declared.Rig.{Rig}
 use Rattle.rules.specs.Rig as G
 use Rattle.rules.specs.State as S
 use Rattle.rules.specs.Calls as R
+use Rattle.rules.specs.Calls.{isTick}
 use Rattle.rules.specs.Proper as P
 use Rattle.rules.specs.Soundness as Rules
 use Rattle.rules_laws.specs.Acceptance.{passed}
-use Rattle.rules_laws.specs.Heeding.{isTick}
 use Rattle.rules_laws.specs.Refusals.{decide-here, decide-next}
 use Rattle.rules.specs.Serving.{unserved, serve}
 use Rattle.rules_laws.specs.Serve.{serve-nil}
