@@ -12,6 +12,7 @@ pub mod NextWaking
 pub mod Calls
 pub mod Scripts
 pub mod ACaseForEachRule
+pub mod AFrameOfThreeRows
 pub mod Morning
 pub mod RigOk
 pub mod Soundness

@@ -1,26 +1,29 @@
 -- A FRAME (L11): how often a row is due in any 64 counts in a row, and how many counts lie from one to the next; the words of a count, seen from a
 -- row; the words come round with the frame; the count rises by accepted ticks alone.
 use mathlib.Core.Path.{_≡_, refl, sym, ap, _∙_}
-use mathlib.Core.Bool.{Bool, true, false, cond, _&&_, false≢true}
-use mathlib.Core.List.{List, [], _++_, append-nil, append-assoc}
+use mathlib.Core.Logic.{_≢_}
+use mathlib.Core.Bool.{Bool, true, false, not, cond, _&&_, false≢true}
+use mathlib.Core.List.{List, [], _∷_, _++_, append-nil, append-assoc}
 use Prim.Native.Nat.{ℕ, zero, suc, _+_, _*_, _/_, _%_, _≤_, _<_}
 use native.Mathlib.Omega.{arith}
 use native.Mathlib.Nat.{zero-add, add-zero, suc-add, add-suc, mul-one, add-mod-right, add-mul-mod-self-right, mod-eq-of-lt, mul-div-left}
 use lib.Dec.{eqb, leb, eqb·suc-zero}
 use lib.ListN.{take}
 use lib.Seq.{take-at}
+use borrow.Author.Tests.{eqb-true}
 use Rattle.laws.specs.Bits.{bit}
 use Rattle.laws.specs.Cases.{and-yes, and-no}
-use Rattle.laws.specs.Tables.{sum}
+use Rattle.laws.specs.Tables.{total, sum}
 use Rattle.laws.specs.Iter.{iter}
 use Rattle.laws.specs.Put.{put}
 use Rattle.laws.specs.Laws.Sums.{sum-same, sum-more, sum-one, sum-first, round-sum, rounds-sum, round-mod}
+use Rattle.word_parts.specs.Packed.{commandWord}
 use Rattle.rules.specs.Rig.{Rig, Row}
 use Rattle.rules.specs.State.{State, valueOf}
 use Rattle.rules.specs.Serving.{activate}
 use Rattle.rules.specs.Waiting.{waitOn, waitUntilCount, wakeDue}
 use Rattle.rules.specs.Running.{dispatch}
-use Rattle.rules.specs.Bus.{rowDue, rowWords, busOne, busWords}
+use Rattle.rules.specs.Bus.{rowDue, receiveWord, transmitWord, rowWords, busOne, busWords}
 use Rattle.rules.specs.Frame.{dueIn, commandsTo, commandsIn, timesAFrame, commandsAFrame}
 use Rattle.rules.specs.Calls.{Call, schedule, cancel, terminate, finish, tick, waitUntil, waitFor, latched, unlatched, signal, readFlag, readBlock, writeBlock, nextWaking, readOverruns}
 use Rattle.rules.specs.Calls.{isTick, scheduled, finished, terminated, cancelled, ticked, effect, ended, settled, output, wordsAt, accepted, after, refusal, step}
@@ -126,6 +129,38 @@ module _ (master : ℕ) where
   bus-same (suc k) row c d h =
       let before = bus-same k row c d (λ i l. h i (omega arith)) in
       λ j. cond (h k (omega arith) j) (before j ++ rowWords master (row k)) (before j)
+
+-- ---- whom a row speaks to: one command to each end but the master
+
+word-address : (address transmit sub words : ℕ) → transmit ≤ 1 → sub ≤ 31 → commandWord address transmit sub words / 2048 ≡ address
+unfolding commandWord
+word-address address transmit sub words t s = omega arith
+
+pub row-speaks : (master : ℕ) (b : Row) → b .sender ≢ b .receiver → b .senderSub ≤ 31 → b .receiverSub ≤ 31 → (address : ℕ)
+    → commandsTo address (rowWords master b)
+    ≡ bit (eqb (b .receiver) address && not (eqb (b .receiver) master)) + bit (eqb (b .sender) address && not (eqb (b .sender) master))
+unfolding rowWords commandsTo total
+row-speaks master b n s r address = go (eqb (b .sender) master) (eqb (b .receiver) master) refl refl
+  where
+    receives : bit (eqb (receiveWord b / 2048) address) ≡ bit (eqb (b .receiver) address)
+    receives = ap (λ (a : ℕ). bit (eqb a address)) (word-address (b .receiver) 0 (b .receiverSub) (b .words) (omega arith) r)
+
+    transmits : bit (eqb (transmitWord b / 2048) address) ≡ bit (eqb (b .sender) address)
+    transmits = ap (λ (a : ℕ). bit (eqb a address)) (word-address (b .sender) 1 (b .senderSub) (b .words) (omega arith) s)
+
+    asked : (x : Bool) → bit (x && true) ≡ bit x
+    asked x = ap bit (and-yes x)
+
+    spared : (x : Bool) → bit (x && false) ≡ 0
+    spared x = ap bit (and-no x)
+
+    go : (x y : Bool) → eqb (b .sender) master ≡ x → eqb (b .receiver) master ≡ y
+        → commandsTo address (cond x (receiveWord b ∷ []) (cond y (transmitWord b ∷ []) (receiveWord b ∷ transmitWord b ∷ [])))
+        ≡ bit (eqb (b .receiver) address && not y) + bit (eqb (b .sender) address && not x)
+    go true true e f = absurd (n (eqb-true (b .sender) master e ∙ sym (eqb-true (b .receiver) master f)))
+    go true false e f = omega (arith, receives, asked (eqb (b .receiver) address), spared (eqb (b .sender) address))
+    go false true e f = omega (arith, transmits, asked (eqb (b .sender) address), spared (eqb (b .receiver) address))
+    go false false e f = omega (arith, receives, transmits, asked (eqb (b .receiver) address), asked (eqb (b .sender) address))
 
 -- every row's period goes into 64, and its phase is below it
 abbrev pub AllTimed : ℕ → (ℕ → Row) → Type 0

@@ -4,9 +4,10 @@
 -- chains, Read). The chains are those of `IsChain` (rules, Soundness): the time chain, and each flag's for on and for off.
 use mathlib.Core.Path.{_≡_}
 use mathlib.Core.Logic.{_≢_, _⊎_, _↔_}
-use mathlib.Core.Bool.{Bool, true, cond}
+use mathlib.Core.Bool.{Bool, true, not, cond, _&&_}
 use mathlib.Core.List.{List, [], _∷_, _++_, reverse}
 use Prim.Native.Nat.{ℕ, suc, _+_, _-_, _/_, _%_, _≤_, _<_, min}
+use lib.Dec.{eqb}
 use lib.ListN.{length}
 use Rattle.laws.specs.Bits.{bit}
 use Rattle.laws.specs.Tables.{total, howMany}
@@ -227,6 +228,12 @@ pub record Wired (x : Exec) (ms : List Made) (k : ℕ) : Type 0 where
       dueAt x k m ≡ true → howMany (dueAt x k) between ≡ 0 → dueAt x k n ≡ true →
       length (between ++ n ∷ []) ≡ rowIn x k .period
   pub handed : (m : Made) → InARow ms (m ∷ []) → HandsOut x k m
+  -- whom it speaks to when it is due: each of its ends but the master, once
+  pub speaks :
+      (address : ℕ) →
+      commandsTo address (rowWords (x .rig .master) (rowIn x k))
+      ≡ bit (eqb (rowIn x k .receiver) address && not (eqb (rowIn x k .receiver) (x .rig .master)))
+      + bit (eqb (rowIn x k .sender) address && not (eqb (rowIn x k .sender) (x .rig .master)))
   -- what the sheet says of it: how often in a frame, and in which cycles
   pub sheet : timesAFrame (rowIn x k) ≡ 64 / rowIn x k .period
   pub cycles : (m : Made) → bit (dueAt x k m) ≡ dueIn (rowIn x k) (countMade m % minorCycles)

@@ -43,7 +43,7 @@ use Rattle.rules.specs.Waking.{Struck}
 use Rattle.rules.specs.Overruns.{Event, eventsIf, eventsFrom, startEvents, eventsOf, overrunsCounted}
 use Rattle.rules.specs.Bus.{rowDue, rowWords, busWords}
 use Rattle.rules.specs.Frame.{dueIn, commandsTo, commandsIn}
-use Rattle.rules_laws.specs.Frame.{AllTimed, due-times, quotient, frame-round, due-next, bus-at, words-of-cycle, commands-times, times-is, is-tick, step-count, tick-sends}
+use Rattle.rules_laws.specs.Frame.{AllTimed, due-times, quotient, frame-round, due-next, bus-at, row-speaks, words-of-cycle, commands-times, times-is, is-tick, step-count, tick-sends}
 use Rattle.rules_laws.specs.Waking.{Spared}
 use Rattle.rules_laws.specs.Waking as W
 use Rattle.rules_laws.specs.WakingLaws as WL
@@ -564,6 +564,10 @@ module _ (g : Rig) (table : List (List ℕ)) (x : Exec) (s : AcceptedStart g tab
               (ap (dueIn d) (sym (end .made)) ∙ ap bit last) in
               omega (arith, length-append between (n ∷ []), e);
           handed = hands-out k a b;
+          speaks =
+              let sizes = shown .sound .rig .rows (k - 1) (omega arith) in
+              row-speaks (x .rig .master) d (shown .sound .rig .sender-differs (k - 1) (omega arith))
+              (omega (arith, sizes .senderSub .1)) (omega (arith, sizes .receiverSub .1));
           sheet = times-is d (q .0) (q .1);
           cycles = λ m. round-mod 64 (dueIn d) (λ n. ap bit (frame-round d (q .0) (q .1) n)) (countMade m);
         }
