@@ -12,9 +12,9 @@ use Rattle.rules.specs.Bus.{rowWords, busWords}
 use Rattle.rules.specs.Frame.{dueIn, commandsTo, commandsIn, timesAFrame, commandsAFrame}
 use Rattle.rules.specs.Scripts.{B}
 
--- the master is at address 1
+-- the master is at address 1; the first row is due in cycle 0, the second in cycle 63
 abbrev pub threeRows : List Row
-threeRows = B 1 5 7 2 32 2 0 ∷ B 3 1 1 2 4 4 1 ∷ B 3 4 7 4 16 8 2 ∷ []
+threeRows = B 1 5 7 2 32 2 0 ∷ B 3 1 1 2 4 4 3 ∷ B 3 4 7 4 16 8 2 ∷ []
 
 abbrev pub rowOfThree : ℕ → Row
 rowOfThree i = getD threeRows i (B 0 0 0 0 0 0 0)
