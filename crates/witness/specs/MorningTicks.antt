@@ -11,7 +11,7 @@ use lib.Seq.{length-take-le}
 use Rattle.laws.specs.Iter.{iter}
 use Rattle.laws.specs.All.{all}
 use Rattle.laws.specs.Any.{any}
-use Rattle.laws.specs.Tables.{total, howMany, over}
+use Rattle.laws.specs.Tables.{total, howMany, sum, over}
 use Rattle.laws.specs.Put.{put}
 use Rattle.word_parts.specs.Packed.{commandWord}
 use Rattle.rig.specs.declared.Cycle.{Cycle}
@@ -102,19 +102,23 @@ ticked = runOf morningRig (codeCycles bench) (R.start seen) tickingCalls
 pub tickedEnd : Exec
 tickedEnd = recordOf morningRig (codeCycles bench) (R.run seen (R.start seen) tickingCalls)
 
+joined-proper : (ks ls : List R.Call) → ProperRun ks → ProperRun ls → ProperRun (ks ++ ls)
+joined-proper [] ls p q = q
+joined-proper (k ∷ ks) ls p q = (p .0, joined-proper ks ls (p .1) q)
+
+ticking-proper : (n : ℕ) → ProperRun (ticking n)
+unfolding ticking tick₀
+ticking-proper zero = tt
+ticking-proper (suc n) = (tt, ticking-proper n)
+
+rounds-proper : (n : ℕ) → ProperRun (rounds n)
+unfolding rounds round
+rounds-proper zero = tt
+rounds-proper (suc n) = joined-proper round (rounds n) (omega arith, (tt, (tt, ticking-proper 13))) (rounds-proper n)
+
 proper : ProperRun tickingCalls
 unfolding tickingCalls
 proper = (tt, (tt, rounds-proper 10))
-  where
-    joined : (ks ls : List R.Call) → ProperRun ks → ProperRun ls → ProperRun (ks ++ ls)
-    joined [] ls p q = q
-    joined (k ∷ ks) ls p q = (p .0, joined ks ls (p .1) q)
-
-    ticking-proper : (n : ℕ) → ProperRun (ticking n)
-    ticking-proper n = ?
-
-    rounds-proper : (n : ℕ) → ProperRun (rounds n)
-    rounds-proper n = ?
 
 pub ticked-ran : Ran morningStart ticked tickedEnd
 unfolding morningStart ticked tickedEnd
@@ -144,8 +148,10 @@ window-64 : (n : ℕ) → n + 64 ≤ 130 → length (window n) ≡ 64
 window-64 n h = length-take-le 64 (drop n (ticksIn ticked)) (omega (arith, length-drop n (ticksIn ticked), ticked-130))
 
 row-1 : Wired morningStart ticked 1
-unfolding morningStart
-row-1 = wired morningRig (codeTable bench) morningStart morning-starts ticked tickedEnd ticked-ran 1 (omega arith) ?
+unfolding morningStart bench rig
+row-1 =
+    wired morningRig (codeTable bench) morningStart morning-starts ticked tickedEnd ticked-ran 1 (omega arith)
+    (omega (arith, ap (λ (r : G.Rig). r .rows) morning-rig))
 
 -- the row is due 32 times
 pub thirty-two : (n : ℕ) → n + 64 ≤ 130 → howMany (dueAt morningStart 1) (window n) ≡ 32
@@ -153,6 +159,13 @@ unfolding morningStart bench rig
 thirty-two n h = row-1 .times (window n) (in-a-row n) (window-64 n h) ∙ ap (λ (r : G.Rig). 64 / r .row 0 .period) morning-rig
 
 -- and 32 commands go to terminal 7
+seven : commandsAFrame (bench .rows) (bench .master) (bench .row) 7 ≡ 32
+unfolding commandsAFrame commandsTo sum total bench rig iter busWords rowWords commandWord
+seven = refl
+
 pub spoken-to-seven : (n : ℕ) → n + 64 ≤ 130 → total (λ (m : Made). commandsTo 7 (handedOut m)) (window n) ≡ 32
+unfolding morningStart
 spoken-to-seven n h =
-    spoken-to morningRig (codeTable bench) morningStart morning-starts ticked tickedEnd ticked-ran 7 .times (window n) (in-a-row n) (window-64 n h) ∙ ?
+    spoken-to morningRig (codeTable bench) morningStart morning-starts ticked tickedEnd ticked-ran 7 .times (window n) (in-a-row n) (window-64 n h)
+    ∙ ap (λ (r : G.Rig). commandsAFrame (r .rows) (r .master) (r .row) 7) morning-rig
+    ∙ seven
