@@ -3,7 +3,7 @@ use Prim.Native.Nat.{ℕ, _≤_, _<_}
 use mathlib.Core.Path.{_≡_}
 use mathlib.Core.Logic.{_⊎_, _≢_}
 use mathlib.Core.Bool.{Bool, true, false, cond}
-use mathlib.Core.List.{List, []}
+use mathlib.Core.List.{List}
 use lib.Dec.{eqb}
 use lib.ListN.{length, take}
 use Rattle.compool.specs.View.{rowsOf}
@@ -26,15 +26,16 @@ fileText table file = answered table (readOf file)
 abbrev pub tableOption : List ℕ
 tableOption = ascii "--table"
 
--- what an option asks for: none the lines, this one the table, and any other is answered by how the program is called
-pub data Asks (option file text : List ℕ) : Type 0 where
-  lines : option ≡ [] → text ≡ fileText false file → Asks option file text
-  table : option ≡ tableOption → text ≡ fileText true file → Asks option file text
-  another : option ≢ [] → option ≢ tableOption → text ≡ usageText → Asks option file text
+-- what the program's arguments ask for, its own name counted among them: no more than that the lines, this one option the table, and anything else is
+-- answered by how the program is called
+pub data Asks (arguments : ℕ) (option file text : List ℕ) : Type 0 where
+  lines : arguments < 2 → text ≡ fileText false file → Asks arguments option file text
+  table : arguments ≡ 2 → option ≡ tableOption → text ≡ fileText true file → Asks arguments option file text
+  another : 2 ≤ arguments → (arguments ≡ 2 → option ≢ tableOption) → text ≡ usageText → Asks arguments option file text
 
 -- "a rig, the line RUN, then script lines": the rig is read alone. What is asked for stands at the front, if there is room for any sheet; else
 -- nothing is written.
-pub record Told (option input out after : List ℕ) (p : ℕ) : Type 0 where
+pub record Told (arguments : ℕ) (option input out after : List ℕ) (p : ℕ) : Type 0 where
   pub is :
-      ((text : List ℕ) × (sheetRoom ≤ length out) × Asks option (take (rigEnd input) input) text × Wrote out 0 text after p)
+      ((text : List ℕ) × (sheetRoom ≤ length out) × Asks arguments option (take (rigEnd input) input) text × Wrote out 0 text after p)
       ⊎ ((length out < sheetRoom) × (after ≡ out) × (p ≡ 0))

@@ -22,17 +22,20 @@ fn sheet(out: &mut [u8], file: &[u8], table: bool) -> usize
     wiring_text::put_sheet(out, table, rows, g.rows as usize, g.master)
 }
 
-// Tells it: the sheet of the rig that the input begins with, as the option asks, and its length. With less than ROOM bytes nothing is
-// written.
-pub fn tell(option: &[u8], input: &[u8], out: &mut [u8]) -> usize
-    ensures { λ r. ⌜ Told (now (option .entry)) (now (input .entry)) (now (out .entry)) (now (out .exit)) r ⌝ }
+// Tells it: the sheet of the rig that the input begins with, as the program's arguments ask, and its length. `arguments` is how many there
+// are, the program's name among them, and `option` the first behind that. With less than ROOM bytes nothing is written.
+pub fn tell(arguments: usize, option: &[u8], input: &[u8], out: &mut [u8]) -> usize
+    ensures { λ r. ⌜ Told arguments (now (option .entry)) (now (input .entry)) (now (out .entry)) (now (out .exit)) r ⌝ }
 {
     if out.len() < ROOM {
         return 0;
     }
     let end = bench_read::rig_end(input);
-    if option.len() == 0 {
+    if arguments < 2 {
         return sheet(out, &input[..end], false);
+    }
+    if 2 < arguments {
+        return wiring_lines::put_usage(out);
     }
     if check::same(option, b"--table") {
         return sheet(out, &input[..end], true);

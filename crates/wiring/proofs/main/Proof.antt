@@ -23,9 +23,6 @@ arg-requires c κs = search needs
 arg-count-requires : tie.Need-arg-count-requires
 arg-count-requires c κs = search needs
 
-option-length-requires : tie.Need-option-length-requires
-option-length-requires c κs = search needs
-
 array-share-prefix-option : tie.Need-array-share-prefix-option
 array-share-prefix-option c = search needs
 
@@ -45,10 +42,10 @@ tell-requires : tie.Need-tell-requires
 tell-requires c κs = search needs
 
 array-share-prefix-out : tie.Need-array-share-prefix-out
-array-share-prefix-out c = told-fits _ _ _ _ _ (c .before .tell .ensures)
+array-share-prefix-out c = told-fits _ _ _ _ _ _ (c .before .tell .ensures)
 
 slice-aggregate-write-all : tie.Need-slice-aggregate-write-all
-slice-aggregate-write-all c = simp length-take (omega (arith, told-fits _ _ _ _ _ (c .before .before .tell .ensures)))
+slice-aggregate-write-all c = simp length-take (omega (arith, told-fits _ _ _ _ _ _ (c .before .before .tell .ensures)))
 
 write-all-requires : tie.Need-write-all-requires
 write-all-requires c κs = search needs
@@ -66,7 +63,6 @@ main-spec =
     slice-aggregate-arg
     arg-requires
     arg-count-requires
-    option-length-requires
     array-share-prefix-option
     slice-aggregate-tell
     array-share-prefix-buffer
