@@ -14,6 +14,7 @@ use Rattle.laws.specs.Cases.{if-yes, if-no}
 use Rattle.text.specs.Split.{part}
 use Rattle.bench_script.specs.Input.{rigEnd}
 use Rattle.put_text.specs.Wrote.{Wrote}
+use Rattle.put_text.specs.Laws.Text.{short}
 use Rattle.put_text.specs.Laws.Wrote.{wrote-then, wrote-as, wrote-none, wrote-same}
 use Rattle.rig_build.specs.declared.Answer.{Answer}
 use Rattle.rig_meaning.specs.Reading.{readOf}
@@ -28,10 +29,6 @@ use Rattle.rig_phrases.specs.Counts.{tasksText, flagsText, conditionsText, rows
 use Rattle.rig_saying.specs.Saying.{countTo, conditionCount, lineText, headText, culpritText, whyText, refusedText, rightText, answered, sayingOf, rigPart, Said, CountsOf}
 
 -- ---- lengths
-
-short : (k : ℕ) (b : Bool) (x y : List ℕ) → length x ≤ k → length y ≤ k → length (cond b x y) ≤ k
-short k true x y h g = h
-short k false x y h g = g
 
 joined : (x y : List ℕ) (j k : ℕ) → length x ≤ j → length y ≤ k → length (x ++ y) ≤ j + k
 joined x y j k h g = let e = length-append x y in omega arith

@@ -12,6 +12,7 @@ use borrow.Author.Tests.{eq-eqb, ne-eqb}
 use Rattle.laws.specs.Cases.{if-yes, if-no}
 use Rattle.laws.specs.Tables as tables
 use Rattle.put_text.specs.Wrote.{Wrote}
+use Rattle.put_text.specs.Laws.Text.{short}
 use Rattle.put_text.specs.Laws.Wrote.{wrote-then, wrote-as, wrote-none}
 use Rattle.rules.specs.Sizes.{minorCycles}
 use Rattle.rules.specs.Rig.{Row}
@@ -20,7 +21,7 @@ use Rattle.wiring_counts.specs.Cycles.{InCycles}
 use Rattle.wiring_counts.specs.Laws.{frame-is}
 use Rattle.wiring_lines.specs.Line.{sheetLine, topText}
 use Rattle.wiring_lines.specs.Laws.Each.{each-short}
-use Rattle.wiring_lines.specs.Laws.Lines.{short, line-short, top-short, line-same}
+use Rattle.wiring_lines.specs.Laws.Lines.{line-short, top-short, line-same}
 use Rattle.wiring_text.specs.Sheet.{rowName, terminalName, rowText, spokenText, terminalText, rowsText, terminalsText, sheetText}
 
 -- ---- lengths

@@ -1,6 +1,7 @@
 -- A text is copied byte after byte: after i of them, their part of the text stands there.
 use Prim.Native.Nat.{ℕ, _+_, _≤_, _<_}
 use mathlib.Core.Path.{_≡_, sym}
+use mathlib.Core.Bool.{Bool, true, false, cond}
 use mathlib.Core.List.{List, [], _∷_, _++_}
 use native.Mathlib.Omega.{arith}
 use native.Mathlib.Numerals.{add-one}
@@ -24,3 +25,8 @@ module _ (l : List ℕ) (at : ℕ) (t : List ℕ) where
 
     pub copy-end : length t ≤ i → Wrote l at t m (at + i)
     copy-end h = wrote-as l m (take i t) t at (at + i) (take-all i t h) w
+
+-- one of two texts is no longer than either may be
+pub short : (k : ℕ) (b : Bool) (x y : List ℕ) → length x ≤ k → length y ≤ k → length (cond b x y) ≤ k
+short k true x y h g = h
+short k false x y h g = g

@@ -12,6 +12,7 @@ use borrow.Author.Tests.{eq-eqb, ne-eqb}
 use Rattle.laws.specs.Cases.{if-yes, if-no}
 use Rattle.laws.specs.Sizes.{minorCycles}
 use Rattle.put_text.specs.Wrote.{Wrote}
+use Rattle.put_text.specs.Laws.Text.{short}
 use Rattle.put_text.specs.Laws.Wrote.{wrote-then, wrote-as, wrote-none, byte-wrote}
 use Rattle.bench_script.specs.Output.{fieldsText, lineText}
 use Rattle.bench_script.specs.Laws.Written.{fields-length, two-fields-wrote}
@@ -19,10 +20,6 @@ use Rattle.wiring_lines.specs.Line.{rigName, columnNames, each, cell, ce
 use Rattle.wiring_lines.specs.Laws.Each.{each-short, each-same}
 
 -- ---- lengths
-
-pub short : (k : ℕ) (b : Bool) (x y : List ℕ) → length x ≤ k → length y ≤ k → length (cond b x y) ≤ k
-short k true x y h g = h
-short k false x y h g = g
 
 pub field-short : (n : ℕ) → length (fieldsText (n ∷ [])) ≤ 11
 field-short n = omega (arith, fields-length (n ∷ []))
