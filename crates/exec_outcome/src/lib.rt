@@ -120,7 +120,7 @@ pub fn settle_again(rig: Rig, w: Work, t: usize) -> Outcome
         &rig.lineFlag,
         &rig.activation,
     );
-    let o = settle(rig, d.st.tested(rig, t));
+    let o = settle(rig, exec_testing::tested(d.st, rig, t));
     let st = o.st;
     Outcome {
         st,

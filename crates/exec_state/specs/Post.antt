@@ -1,4 +1,4 @@
--- What the methods of the state ask, and what they give: each the rule of its name.
+-- What the methods of the state ask, and what they and the functions of exec_testing give: each the rule of its name.
 -- Where a rule looks at the rig but not at its cycles, its contract holds with whatever cycles stand beside the rig.
 use mathlib.Core.Path.{_≡_}
 use mathlib.Core.List.{List}

@@ -7,11 +7,11 @@ use rig_tables::FLAG_PLACES;
 use rig_tables::TASK_PLACES;
 ghost use Prim.Native.Nat.{_<_, _≤_};
 ghost use Rattle.chains.specs.Held.{HoldsChains};
-ghost use Rattle.exec_state.specs.Post.{CancelOk, Dispatched, Finished, Terminated, Cancelled, Tested, Scheduled, Blank};
+ghost use Rattle.exec_state.specs.Post.{CancelOk, Dispatched, Finished, Terminated, Cancelled, Blank};
 ghost use Rattle.exec_state.specs.Set.{withRanks};
 
 // "States: 0 uninvoked, 1 inactive, 2 waiting, 3 dispatchable."
-const INACTIVE: u8 = 1;
+pub const INACTIVE: u8 = 1;
 
 pub const DISPATCHABLE: u8 = 3;
 
@@ -117,41 +117,5 @@ impl State {
         let l = exec_family::desert(self.links, marks);
         self.links = l;
         Work { st: self, queue: q }
-    }
-
-    // Task t, if it is inactive with all its conditions as desired, is activated.
-    pub fn tested(mut self, rig: Rig, t: usize) -> Work
-        requires { ⌜ t ≤ 64 ⌝ }
-        ensures { λ r. ⌜ Tested self rig t r ⌝ }
-    {
-        let none = Queue::empty();
-        if self.state[t] != INACTIVE {
-            return Work {
-                st: self,
-                queue: none,
-            };
-        }
-        if !exec_conditions::met(&rig.present, &rig.desired, t, &self.cond) {
-            return Work {
-                st: self,
-                queue: none,
-            };
-        }
-        let f = rig.activation[t];
-        let q = none.push(f, ON);
-        self.state[t] = DISPATCHABLE;
-        exec_conditions::relax(&rig.present, &rig.latched, &rig.desired, t, &mut self.cond);
-        Work { st: self, queue: q }
-    }
-
-    // Task t is inactive with its unlatched conditions undesired and with no overruns, and then tested.
-    pub fn scheduled(mut self, rig: Rig, t: usize) -> Work
-        requires { ⌜ t ≤ 64 ⌝ }
-        ensures { λ r. ⌜ Scheduled self rig t r ⌝ }
-    {
-        exec_conditions::relax(&rig.present, &rig.latched, &rig.desired, t, &mut self.cond);
-        self.state[t] = INACTIVE;
-        self.overruns[t] = 0;
-        self.tested(rig, t)
     }
 }

@@ -30,7 +30,7 @@ pub fn schedule(rig: Rig, cycles: [Cycle; CYCLES], st: State, task: u32) -> Outc
     if n != 0 {
         return exec_outcome::refused(st, n);
     }
-    exec_outcome::settle(rig, st.scheduled(rig, task as usize))
+    exec_outcome::settle(rig, exec_testing::scheduled(st, rig, task as usize))
 }
 
 // "the named task and all its descendants become uninvoked and leave their chains"
@@ -88,5 +88,5 @@ pub fn start(rig: Rig, cycles: [Cycle; CYCLES]) -> Outcome
     if !rig_whole::right(rig, cycles) {
         return exec_outcome::refused(blank, RIG_BREAKS_A_RULE);
     }
-    exec_outcome::settle(rig, blank.scheduled(rig, FIRST_TASK))
+    exec_outcome::settle(rig, exec_testing::scheduled(blank, rig, FIRST_TASK))
 }

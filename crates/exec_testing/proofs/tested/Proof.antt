@@ -1,7 +1,7 @@
-use Rattle.exec_state.specs.Laws.Effects.{tested-active, tested-unmet, tested-yes}
+use Rattle.exec_testing.specs.Laws.Testing.{tested-active, tested-unmet, tested-yes}
 use borrow.Author.Needs.{needs}
-use Rattle.exec_state.proofs.State.tested.Statement.{statement}
-use Rattle.exec_state.proofs.State.tested.Tie as tie
+use Rattle.exec_testing.proofs.tested.Statement.{statement}
+use Rattle.exec_testing.proofs.tested.Tie as tie
 
 empty-requires : tie.Need-empty-requires
 empty-requires c κs = search needs
@@ -31,8 +31,8 @@ element-copy-out-f c = search needs
 push-requires : tie.Need-push-requires
 push-requires c κs = search needs
 
-element-write-self : tie.Need-element-write-self
-element-write-self c = search needs
+element-write-st : tie.Need-element-write-st
+element-write-st c = search needs
 
 relax-requires : tie.Need-relax-requires
 relax-requires c κs = search needs
@@ -58,6 +58,6 @@ tested-spec =
     returns-2
     element-copy-out-f
     push-requires
-    element-write-self
+    element-write-st
     relax-requires
     returns-3)
