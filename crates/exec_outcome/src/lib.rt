@@ -6,7 +6,7 @@ use rig::Rig;
 use rig_tables::CYCLE_FLAGS;
 ghost use mathlib.Core.Path.{_≡_};
 ghost use Rattle.exec_outcome.specs.Outcome.{refusedBy, keptWith};
-ghost use Rattle.exec_outcome.specs.Laws.Settling.{Settles, SettlesAgain, emptyCycle, Settled};
+ghost use Rattle.exec_outcome.specs.Laws.Settling.{Settles, emptyCycle, Settled};
 
 // The refusal's number is 0 for an accepted call. Told are the flags served, how many waiting tasks that made dispatchable and how
 // many it activated, the bus words and a value. What a refused call tells is 0, and its state is as it was.
@@ -95,40 +95,4 @@ pub fn settle(rig: Rig, w: Work) -> Outcome
         flags: [0; CYCLE_FLAGS],
     };
     settle_in(rig, cycle, w)
-}
-
-// "After finish and terminate": once what is queued is served, task t is tested again, and what that queues is served too.
-pub fn settle_again(rig: Rig, w: Work, t: usize) -> Outcome
-    requires { ⌜ SettlesAgain rig w t ⌝ }
-    ensures { λ r. ⌜ Settled rig emptyCycle w t r ⌝ }
-{
-    let st = w.st;
-    let queue = w.queue;
-    let cycle = Cycle {
-        flags: [0; CYCLE_FLAGS],
-    };
-    let d = exec_serving::serve(
-        st,
-        queue,
-        cycle,
-        rig.lines as usize,
-        &rig.present,
-        &rig.latched,
-        &rig.desired,
-        &rig.lineTask,
-        &rig.linePos,
-        &rig.lineFlag,
-        &rig.activation,
-    );
-    let o = settle(rig, exec_testing::tested(d.st, rig, t));
-    let st = o.st;
-    Outcome {
-        st,
-        refusal: 0,
-        served: d.served + o.served,
-        woken: d.woken + o.woken,
-        activated: d.activated + o.activated,
-        words: 0,
-        value: 0,
-    }
 }

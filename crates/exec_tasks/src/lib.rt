@@ -64,7 +64,7 @@ pub fn terminate(rig: Rig, cycles: [Cycle; CYCLES], st: State, task: u32) -> Out
         return exec_outcome::refused(st, n);
     }
     let t = task as usize;
-    exec_outcome::settle_again(rig, st.terminated(rig, t), t)
+    exec_again::settle_again(rig, st.terminated(rig, t), t)
 }
 
 // "(the running task): inactive, activation flag queued off"
@@ -77,7 +77,7 @@ pub fn finish(rig: Rig, cycles: [Cycle; CYCLES], st: State) -> Outcome
         return exec_outcome::refused(st, n);
     }
     let t = st.running as usize;
-    exec_outcome::settle_again(rig, st.finished(rig), t)
+    exec_again::settle_again(rig, st.finished(rig), t)
 }
 
 // "Start: count 0, flags and conditions off, all tasks uninvoked; then task 1 is scheduled."

@@ -4,7 +4,7 @@ use mathlib.Core.Path.{_≡_, refl, sym, _∙_, ap, subst}
 use mathlib.Core.Logic.{_≢_}
 use mathlib.Core.Bool.{Bool, true, false, cond}
 use mathlib.Core.List.{List, [], _∷_}
-use Prim.Native.Nat.{ℕ, zero, suc, _+_, _*_, _%_, _≤_}
+use Prim.Native.Nat.{ℕ, suc, _+_, _*_, _%_, _≤_}
 use native.Mathlib.Omega.{arith}
 use lib.Dec.{eqb, leb}
 use lib.ListN.{replicate}
@@ -17,15 +17,14 @@ use Rattle.rig.specs.declared.Rig.{Rig}
 use Rattle.rules.specs.Rig as G
 use Rattle.rules.specs.Rig.{inCycle, isMinor}
 use Rattle.rules.specs.State as S
-use Rattle.rules.specs.Serving.{inactives, activate, serve}
+use Rattle.rules.specs.Serving.{activate, serve}
 use Rattle.rules.specs.Waiting.{waitOn, waitUntilCount, wakeDue}
 use Rattle.rules.specs.Running.{dispatch}
 use Rattle.rules.specs.Calls as R
 use Rattle.rules.specs.Proper as P
 use Rattle.rules_laws.specs.Queued.{Fine}
-use Rattle.rules_laws.specs.Serve.{load, served-left}
-use Rattle.rules_laws.specs.Testing.{tested-cases, tested-keeps, tested-load, again-le}
-use Rattle.rules_laws.specs.WaitingLaws.{chains-set}
+use Rattle.rules_laws.specs.Serve.{load}
+use Rattle.rules_laws.specs.Testing.{tested-keeps}
 use Rattle.rules_laws.specs.Good.{settle-running}
 use Rattle.rules_laws.specs.Bound.{effect-load}
 use Rattle.rules_laws.specs.Steps.{effect-ready}
@@ -34,12 +33,11 @@ use Rattle.rules_laws.specs.Heeding.{none-heard, heardBy, settle-by-list}
 use Rattle.exec_queue.specs.View.{minorOf}
 use Rattle.exec_queue.specs.Laws.Cycles.{one-cycle}
 use Rattle.exec_state.specs.View.{rigOf, viewOf, workOf}
-use Rattle.exec_state.specs.Post.{Dispatched, Tested}
+use Rattle.exec_state.specs.Post.{Dispatched}
 use Rattle.exec_state.specs.declared.State.{State}
 use Rattle.exec_state.specs.declared.Work.{Work}
 use Rattle.exec_serving.specs.Post.{Fits, Servable, Begins, Emptied}
-use Rattle.exec_serving.specs.Laws.Serving.{servable-push}
-use Rattle.exec_serving.specs.View.{doneOf, rigInCycle}
+use Rattle.exec_serving.specs.View.{rigInCycle}
 use Rattle.exec_serving.specs.declared.Done.{Done}
 use Rattle.exec_sound.specs.Sound.{SoundParts}
 use Rattle.exec_sound.specs.Laws.RightRig.{rig-ok}
@@ -53,12 +51,6 @@ pub record Settles (g : Rig) (w : Work) : Type 0 where
   pub begins : Begins (g .lines) (g .lineTask) (g .linePos) (g .activation) (w .st) (w .queue)
   pub low : w .st .running ≤ 64
 
--- and where task t is tested again
-pub record SettlesAgain (g : Rig) (w : Work) (t : ℕ) : Type 0 where
-  pub first : Settles g w
-  pub some : 1 ≤ t
-  pub there : t ≤ 64
-
 -- a cycle with no flag
 abbrev pub emptyCycle : Cycle
 emptyCycle = record { flags = replicate 15 0 }
@@ -71,23 +63,6 @@ pub record Settled (g : Rig) (cycle : Cycle) (w : Work) (t : ℕ) (o : Outcome) 
   pub accepted : o .refusal ≡ 0
   pub sound : L.HoldsChains (o .st .links)
   pub sized : Sized (o .st .links)
-
--- what a serving came to, and what is told of the one after it: no sum of such numbers goes out of range
-pub record Small (d : Done) (o : Outcome) : Type 0 where
-  pub served : d .served + o .served ≤ 79
-  pub woken : d .woken + o .woken ≤ 5056
-  pub activated : d .activated + o .activated ≤ 5056
-  pub words : o .words ≡ 0
-
--- a task with a number is tested
-some-load : (r : G.Rig) (t : ℕ) → 1 ≤ t → (s : S.State) → load (R.tested r t s) ≤ inactives (s .states)
-some-load r zero b s = let z : ⊥ = omega arith in absurd z
-some-load r (suc k) b s = tested-load r k s
-
-some-again : (r : G.Rig) (t : ℕ) → 1 ≤ t → (d : S.Done) → R.further d (serve r (R.tested r t (d .now))) ≡ R.again r t d
-unfolding R.again
-some-again r zero b d = let z : ⊥ = omega arith in absurd z
-some-again r (suc k) b d = refl
 
 module _ (g : Rig) (cycle : Cycle) (w : Work) (d : Done) (e : Emptied g cycle (w .st) (w .queue) d) where
   -- who runs is not touched by the serving
@@ -108,91 +83,6 @@ module _ (g : Rig) (cycle : Cycle) (w : Work) (d : Done) (e : Emptied g cycle (w
         sound = subst L.HoldsChains (sym (f .links)) (e .sound);
         sized = f .sized;
       }
-
-  -- ---- and task t is tested again
-
-  module _ (t : ℕ) (h : SettlesAgain g w t) (x : Work) (m : Tested (d .st) g t x) where
-    pub again-settles : Settles g x
-    unfolding activate
-    again-settles =
-        let r = rigInCycle g cycle in
-        let s = viewOf (d .st) in
-        let q = sym (m .is (cycle ∷ [])) in
-        record {
-          begins =
-              record {
-                fits = h .first .begins .fits;
-                room =
-                    subst (λ (y : S.Work). load y ≤ 79) q
-                    (omega (
-                      arith,
-                      some-load r t (h .some) s,
-                      ap (λ (y : S.Done). inactives (y .now .states)) (e .is),
-                      served-left r (workOf (w .st) (w .queue)),
-                      h .first .begins .room,
-                    ));
-                sound = subst L.HoldsChains (sym (m .links)) (e .sound);
-                chains =
-                    subst (λ (y : S.Work). ChainsIn (y .now)) q
-                    (tested-keeps r ChainsIn
-                    (λ u y i c. chains-set (y .now .count) (y .now .wakes) (y .now .chains) (y .now .states) u 3 (λ z. omega (arith, i, z)) (λ z. omega arith) c)
-                    t s (e .chains));
-                entries =
-                    subst (λ (y : S.Work). Servable (y .queue)) q
-                    (tested-cases r t s (λ y. Servable (y .queue))
-                    (λ i c. servable-push (r .activation t) 1 [] (h .first .begins .fits .flags t) (omega arith) tt) (λ n. tt));
-              };
-          low = subst (λ (y : S.Work). y .now .running ≤ 64) q (tested-keeps r (λ y. y .running ≤ 64) (λ u y i c. c) t s (settled-low (h .first)));
-        }
-
-    module _ (o : Outcome) (f : Settled g cycle x 0 o) where
-      -- what is told is what both servings came to
-      further-is :
-          R.reported (R.further (doneOf d) (record { now = viewOf (o .st); served = o .served; woken = o .woken; activated = o .activated })) 0 0
-          ≡ R.reported (R.again (rigInCycle g cycle) t (serve (rigInCycle g cycle) (workOf (w .st) (w .queue)))) 0 0
-      unfolding R.again
-      further-is =
-          let r = rigInCycle g cycle in
-          let a = f .told in
-          (λ i. record {
-            served = d .served + a i .served;
-            woken = d .woken + a i .woken;
-            activated = d .activated + a i .activated;
-            words = 0;
-            value = 0;
-          })
-          ∙ ap (λ (y : S.Work). R.reported (R.further (doneOf d) (serve r y)) 0 0) (m .is (cycle ∷ []))
-          ∙ ap (λ (y : S.Done). R.reported y 0 0) (some-again r t (h .some) (doneOf d) ∙ ap (R.again r t) (e .is))
-
-      -- "the number of flags it served, which is at most 79"
-      pub again-small : Small d o
-      unfolding R.again
-      again-small =
-          let n : d .served + o .served ≤ 79 =
-          omega (arith, ap (λ (y : R.Report). y .served) further-is, again-le (rigInCycle g cycle) t (workOf (w .st) (w .queue)), h .first .begins .room) in
-          record {
-            served = n;
-            woken = omega (arith, n, e .small .0, f .small .0);
-            activated = omega (arith, n, e .small .1, f .small .1);
-            words = ap (λ (y : R.Report). y .words) (f .told);
-          }
-
-      pub again-is : Settled g cycle w t
-          (record { st = o .st; refusal = 0; served = d .served + o .served; woken = d .woken + o .woken; activated = d .activated + o .activated; words = 0; value = 0 })
-      unfolding R.again
-      again-is =
-          record {
-            now =
-                let r = rigInCycle g cycle in
-                f .now
-                ∙ ap (λ (y : S.Work). dispatch r (serve r y .now)) (m .is (cycle ∷ []))
-                ∙ ap (λ (y : S.Done). dispatch r (y .now)) (some-again r t (h .some) (doneOf d) ∙ ap (R.again r t) (e .is));
-            told = further-is;
-            small = (omega (arith, e .small .0, f .small .0), omega (arith, e .small .1, f .small .1));
-            accepted = refl;
-            sound = f .sound;
-            sized = f .sized;
-          }
 
 -- ---- what is asked holds of every accepted call
 

@@ -1,8 +1,9 @@
 use native.Mathlib.Omega.{arith}
 use borrow.Author.Needs.{needs}
-use Rattle.exec_outcome.specs.Laws.Settling.{Small, emptyCycle, again-settles, again-small, again-is}
-use Rattle.exec_outcome.proofs.settle_again.Statement.{statement}
-use Rattle.exec_outcome.proofs.settle_again.Tie as tie
+use Rattle.exec_outcome.specs.Laws.Settling.{emptyCycle}
+use Rattle.exec_again.specs.Laws.Again.{Small, again-settles, again-small, again-is}
+use Rattle.exec_again.proofs.settle_again.Statement.{statement}
+use Rattle.exec_again.proofs.settle_again.Tie as tie
 
 small : (c : tie.After-settle) → Small (c .before .before .serve .result) (c .settle .result)
 small c =
