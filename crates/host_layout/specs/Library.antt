@@ -10,4 +10,4 @@ recordAlign = 4
 
 -- version 0.7.0 as one number, larger for a later one: 1,000,000 for each of the first, 1,000 for each of the second, 1 for each of the third
 abbrev pub version : ℕ
-version = 0 * 1000000 + 6 * 1000 + 0
+version = 0 * 1000000 + 7 * 1000 + 0
