@@ -2,12 +2,12 @@
 -- row; the words come round with the frame; the count rises by accepted ticks alone.
 use mathlib.Core.Path.{_≡_, refl, sym, ap, _∙_}
 use mathlib.Core.Logic.{_≢_}
-use mathlib.Core.Bool.{Bool, true, false, not, cond, _&&_, false≢true}
+use mathlib.Core.Bool.{Bool, true, false, not, cond, _&&_}
 use mathlib.Core.List.{List, [], _∷_, _++_, append-nil, append-assoc}
 use Prim.Native.Nat.{ℕ, zero, suc, _+_, _*_, _/_, _%_, _≤_, _<_}
 use native.Mathlib.Omega.{arith}
 use native.Mathlib.Nat.{zero-add, add-zero, suc-add, add-suc, mul-one, add-mod-right, add-mul-mod-self-right, mod-eq-of-lt, mul-div-left}
-use lib.Dec.{eqb, leb, eqb·suc-zero}
+use lib.Dec.{eqb, eqb·suc-zero}
 use lib.ListN.{take}
 use lib.Seq.{take-at}
 use borrow.Author.Tests.{eqb-true}
@@ -19,16 +19,14 @@ use Rattle.laws.specs.Put.{put}
 use Rattle.laws.specs.Laws.Sums.{sum-same, sum-more, sum-one, sum-first, round-sum, rounds-sum, round-mod}
 use Rattle.word_parts.specs.Packed.{commandWord}
 use Rattle.rules.specs.Rig.{Rig, Row}
-use Rattle.rules.specs.State.{State, valueOf}
-use Rattle.rules.specs.Serving.{activate}
-use Rattle.rules.specs.Waiting.{waitOn, waitUntilCount, wakeDue}
+use Rattle.rules.specs.State.{State}
 use Rattle.rules.specs.Running.{dispatch}
 use Rattle.rules.specs.Bus.{rowDue, receiveWord, transmitWord, rowWords, busOne, busWords}
 use Rattle.rules.specs.Frame.{dueIn, commandsTo, commandsIn, timesAFrame, commandsAFrame}
-use Rattle.rules.specs.Calls.{Call, schedule, cancel, terminate, finish, tick, waitUntil, waitFor, latched, unlatched, signal, readFlag, readBlock, writeBlock, nextWaking, readOverruns}
-use Rattle.rules.specs.Calls.{isTick, scheduled, finished, terminated, cancelled, ticked, effect, ended, settled, output, wordsAt, accepted, after, refusal, step}
+use Rattle.rules.specs.Calls.{Call, tick}
+use Rattle.rules.specs.Calls.{isTick, effect, ended, settled, output, wordsAt, accepted, after, refusal, step}
 use Rattle.rules_laws.specs.Good.{settle-count}
-use Rattle.rules_laws.specs.Testing.{tested-keeps}
+use Rattle.rules_laws.specs.Ticking.{effect-count}
 
 -- ---- a row of a right rig: its period goes into 64 q times, and "phase below the period"
 
@@ -188,54 +186,14 @@ times-is b q h = sym (round-sum 64 (dueIn b) (λ n. ap bit (frame-round b q h n)
 
 -- ---- ticks: the count rises by accepted ones alone
 
-pub is-tick : (k : Call) → isTick k ≡ true → (buffer : List ℕ) × (k ≡ tick buffer)
-unfolding isTick
-is-tick (schedule t) e = absurd (false≢true e)
-is-tick (cancel t) e = absurd (false≢true e)
-is-tick (terminate t) e = absurd (false≢true e)
-is-tick finish e = absurd (false≢true e)
-is-tick (tick buffer) e = (buffer, refl)
-is-tick (waitUntil t) e = absurd (false≢true e)
-is-tick (waitFor n) e = absurd (false≢true e)
-is-tick (latched f v) e = absurd (false≢true e)
-is-tick (unlatched f v) e = absurd (false≢true e)
-is-tick (signal f v) e = absurd (false≢true e)
-is-tick (readFlag f) e = absurd (false≢true e)
-is-tick (readBlock k area buffer) e = absurd (false≢true e)
-is-tick (writeBlock k area buffer) e = absurd (false≢true e)
-is-tick nextWaking e = absurd (false≢true e)
-is-tick (readOverruns t) e = absurd (false≢true e)
-
 module _ (r : Rig) (s : State) where
-  one-of : (b : Bool) (x : State) → x .count ≡ s .count → (cond b s x) .count ≡ s .count
-  one-of true x e = refl
-  one-of false x e = e
-
-  effect-count : (k : Call) → effect r s k .now .count ≡ cond (isTick k) (suc (s .count)) (s .count)
-  unfolding effect scheduled finished terminated cancelled ticked wakeDue waitOn waitUntilCount activate isTick
-  effect-count (schedule t) = tested-keeps r (λ x. x .count ≡ s .count) (λ u w a k. k) t _ refl
-  effect-count (cancel t) = refl
-  effect-count (terminate t) = refl
-  effect-count finish = refl
-  effect-count (tick buffer) = refl
-  effect-count (waitUntil k) = one-of (leb k (s .count)) (waitUntilCount s k) refl
-  effect-count (waitFor n) = one-of (leb (s .count + n) (s .count)) (waitUntilCount s (s .count + n)) refl
-  effect-count (latched f v) = one-of (eqb (valueOf s f) v) (waitOn s f v) refl
-  effect-count (unlatched f v) = refl
-  effect-count (signal f v) = refl
-  effect-count (readFlag f) = refl
-  effect-count (readBlock k area buffer) = refl
-  effect-count (writeBlock k area buffer) = refl
-  effect-count nextWaking = refl
-  effect-count (readOverruns t) = refl
-
   pub step-count : (k : Call) → step r s k .next .count ≡ cond (isTick k && eqb (refusal r s k) 0) (suc (s .count)) (s .count)
   unfolding step after accepted settled dispatch
   step-count k = go (refusal r s k)
     where
       go : (n : ℕ) → after n r s k .next .count ≡ cond (isTick k && eqb n 0) (suc (s .count)) (s .count)
       go zero =
-          settle-count r (effect r s k) (ended s k) ∙ effect-count k ∙ ap (λ b. cond b (suc (s .count)) (s .count)) (sym (and-yes (isTick k)))
+          settle-count r (effect r s k) (ended s k) ∙ effect-count r s k ∙ ap (λ b. cond b (suc (s .count)) (s .count)) (sym (and-yes (isTick k)))
       go (suc n) = ap (λ b. cond b (suc (s .count)) (s .count)) (sym (ap (λ b. isTick k && b) (eqb·suc-zero n) ∙ and-no (isTick k)))
 
   -- an accepted tick hands out the words of the count that it makes

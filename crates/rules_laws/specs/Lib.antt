@@ -1,5 +1,6 @@
 pub mod Serve
 pub mod Testing
+pub mod Ticking
 pub mod Made
 pub mod Heard
 pub mod NobodyLeft

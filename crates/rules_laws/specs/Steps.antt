@@ -1,5 +1,5 @@
 -- "A fresh record is sound and every call keeps it so".
-use mathlib.Core.Path.{_≡_, refl, sym, ap, _∙_}
+use mathlib.Core.Path.{_≡_, refl, sym, ap, _∙_, subst}
 use mathlib.Core.Logic.{_≢_}
 use mathlib.Core.Bool.{Bool, true, false, cond, true≢false}
 use mathlib.Core.List.{List, [], _∷_}
@@ -8,16 +8,16 @@ use native.Mathlib.Omega.{arith}
 use borrow.Author.Tests.{eqb-true, leb-false, not-false}
 use lib.Dec.{eqb, leb}
 use lib.ListN.{length-replicate}
-use Rattle.laws.specs.Cases.{or-false}
+use Rattle.laws.specs.Cases.{by, or-false}
 use Rattle.laws.specs.Laws.Tables.{zeros}
 use Rattle.rules.specs.Rig.{Rig, isMinor}
 use Rattle.rules.specs.RigOk.{RigOk}
 use Rattle.rules.specs.State.{State, Work, stateOf, valueOf, active, withRunning, blank}
 use Rattle.rules.specs.Serving.{activate, serve}
-use Rattle.rules.specs.Waiting.{waitOn, waitUntilCount, wakeDue}
+use Rattle.rules.specs.Waiting.{waitOn, waitUntilCount}
 use Rattle.rules.specs.Running.{dispatch}
 use Rattle.rules.specs.Calls.{Call, schedule, cancel, terminate, finish, tick, waitUntil, waitFor, latched, unlatched, signal, readFlag, readBlock, writeBlock, nextWaking, readOverruns}
-use Rattle.rules.specs.Calls.{scheduled, finished, terminated, cancelled, ticked, quiet, effect, refusals, refusal, isInvoked, notActive, isActivation, notPlain, lastCount, ended, again, settled, accepted, after, step, run, started, start}
+use Rattle.rules.specs.Calls.{isTick, scheduled, quiet, effect, refusals, refusal, isInvoked, notActive, isActivation, notPlain, lastCount, ended, again, settled, accepted, after, step, run, started, start}
 use Rattle.rules.specs.Proper.{Proper, ProperRun}
 use Rattle.rules.specs.Soundness.{Sound}
 use Rattle.rules_laws.specs.Queued.{look}
@@ -27,6 +27,7 @@ use Rattle.rules_laws.specs.Good.{Good, Ready, sound-good, settle-good, 
 use Rattle.rules_laws.specs.Testing.{tested-keeps}
 use Rattle.rules_laws.specs.Effects.{quiet-ready, scheduled-ready, finished-ready, terminated-ready, waitOn-ready, waitUntil-ready, signal-ready, ticked-ready}
 use Rattle.rules_laws.specs.Cancelling.{cancelled-ready}
+use Rattle.rules_laws.specs.Ticking.{is-tick, effect-count}
 
 -- ---- dispatch
 
@@ -107,27 +108,21 @@ module _ (r : Rig) (ok : RigOk r) (s : State) (h : Sound r s) where
   effect-ready (readOverruns t) p e = quiet-ready r s good
 
   -- the count rises in a tick alone, and not past the last
-  until-count : (b : Bool) (x : State) → x .count ≡ s .count → (cond b s x) .count ≤ lastCount
-  until-count true x e = h .range
-  until-count false x e = omega (arith, e, h .range)
-
   pub effect-range : (k : Call) → refusal r s k ≡ 0 → effect r s k .now .count ≤ lastCount
-  unfolding effect refusal refusals scheduled finished terminated cancelled ticked wakeDue waitOn waitUntilCount activate
-  effect-range (schedule t) e = tested-keeps r (λ x. x .count ≤ lastCount) (λ u w a k. k) t _ (h .range)
-  effect-range (cancel t) e = h .range
-  effect-range (terminate t) e = h .range
-  effect-range finish e = h .range
-  effect-range (tick buffer) e = leb-false lastCount (s .count) (passed 8 (leb lastCount (s .count)) _ e .0)
-  effect-range (waitUntil k) e = until-count (leb k (s .count)) (waitUntilCount s k) refl
-  effect-range (waitFor n) e = until-count (leb (s .count + n) (s .count)) (waitUntilCount s (s .count + n)) refl
-  effect-range (latched f v) e = until-count (eqb (valueOf s f) v) (waitOn s f v) refl
-  effect-range (unlatched f v) e = h .range
-  effect-range (signal f v) e = h .range
-  effect-range (readFlag f) e = h .range
-  effect-range (readBlock k area buffer) e = h .range
-  effect-range (writeBlock k area buffer) e = h .range
-  effect-range nextWaking e = h .range
-  effect-range (readOverruns t) e = h .range
+  unfolding refusal refusals
+  effect-range k e =
+      by (isTick k)
+      (λ t.
+      let named = is-tick k t in
+      let ahead = below (named .0) (subst (λ (c : Call). refusal r s c ≡ 0) (named .1) e) in
+      omega (arith, ahead, effect-count r s k ∙ ap risen t))
+      (λ t. omega (arith, h .range, effect-count r s k ∙ ap risen t))
+    where
+      risen : Bool → ℕ
+      risen b = cond b (suc (s .count)) (s .count)
+
+      below : (buffer : List ℕ) → refusal r s (tick buffer) ≡ 0 → suc (s .count) ≤ lastCount
+      below buffer e = leb-false lastCount (s .count) (passed 8 (leb lastCount (s .count)) _ e .0)
 
 -- ---- every step, every run
 

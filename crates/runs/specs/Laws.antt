@@ -3,7 +3,7 @@ use mathlib.Core.Path.{_≡_, refl, sym, _∙_, ap, subst}
 use mathlib.Core.Logic.{_≢_, _⊎_, inl, inr, ⊎-elim, _↔_}
 use mathlib.Core.Bool.{Bool, true, cond, _&&_}
 use mathlib.Core.List.{List, [], _∷_, _++_, reverse}
-use Prim.Native.Nat.{ℕ, suc, _+_, _-_, _*_, _/_, _%_, _≤_, _<_, min}
+use Prim.Native.Nat.{ℕ, suc, _+_, _-_, _*_, _≤_, _<_, min}
 use native.Mathlib.Omega.{arith}
 use native.Mathlib.Nat.{add-zero, suc-add, add-suc}
 use lib.Dec.{eqb}
@@ -11,7 +11,7 @@ use lib.ListN.{length, take, length-append}
 use borrow.Author.Tests.{lt-leb, eqb-true}
 use Rattle.laws.specs.Bits.{bit}
 use Rattle.laws.specs.Cases.{by, by-bool, and-true}
-use Rattle.laws.specs.Tables.{total, howMany, sum}
+use Rattle.laws.specs.Tables.{total, sum}
 use Rattle.laws.specs.Laws.Sums.{sum-same, sum-first, round-mod}
 use Rattle.laws.specs.Members.{In, Distinct}
 use Rattle.laws.specs.Ordered.{Ordered}
@@ -43,7 +43,8 @@ use Rattle.rules.specs.Waking.{Struck}
 use Rattle.rules.specs.Overruns.{Event, eventsIf, eventsFrom, startEvents, eventsOf, overrunsCounted}
 use Rattle.rules.specs.Bus.{rowDue, rowWords, busWords}
 use Rattle.rules.specs.Frame.{dueIn, commandsTo, commandsIn}
-use Rattle.rules_laws.specs.Frame.{AllTimed, due-times, quotient, frame-round, due-next, bus-at, row-speaks, words-of-cycle, commands-times, times-is, is-tick, step-count, tick-sends}
+use Rattle.rules_laws.specs.Frame.{AllTimed, due-times, quotient, frame-round, due-next, bus-at, row-speaks, words-of-cycle, commands-times, times-is, step-count, tick-sends}
+use Rattle.rules_laws.specs.Ticking.{is-tick}
 use Rattle.rules_laws.specs.Waking.{Spared}
 use Rattle.rules_laws.specs.Waking as W
 use Rattle.rules_laws.specs.WakingLaws as WL

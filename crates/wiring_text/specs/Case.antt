@@ -8,11 +8,11 @@ use Rattle.word_parts.specs.Packed.{commandWord}
 use Rattle.put_text.specs.Text.{ascii}
 use Rattle.text.specs.Split.{led}
 use Rattle.decimal.specs.Decimal.{decBy, dec}
-use Rattle.bench_script.specs.Output.{fieldsText}
+use Rattle.bench_script.specs.Output.{fieldsText, lineText}
 use Rattle.rules.specs.Rig.{Row}
 use Rattle.rules.specs.Bus.{rowWords, busWords}
 use Rattle.rules.specs.Frame.{commandsTo, timesAFrame, commandsAFrame}
-use Rattle.wiring_lines.specs.Line.{each, cell, cellsText, numbersText, sheetLine, topText}
+use Rattle.wiring_lines.specs.Line.{each, cell, cellsText, numbersText, sheetLine, topText, refusedText}
 use Rattle.wiring_text.specs.Sheet.{rowText, spokenText, terminalText, rowsText, terminalsText, sheetText}
 
 -- the bench morning: its one row, `B 1 5 7 2 32 2 0`, is the master's
@@ -38,3 +38,8 @@ twice k = record { sender = 2; senderSub = 1; receiver = 3; receiverSub = 1; wor
 pub twice-sheet : sheetText false 2 1 twice ≡ ascii "ROW\t1\t2\t0\t32\nROW\t2\t1\t1\t64\nTERMINAL\t2\t3\nTERMINAL\t3\t3\n"
 unfolding sheetText topText rowsText rowText terminalsText terminalText spokenText sheetLine each timesAFrame commandsAFrame commandsTo busWords rowWords commandWord iter total sum fieldsText led dec decBy
 twice-sheet = refl
+
+-- a refused rig: number, then line
+pub refused-rig : refusedText 3 6 ≡ ascii "RIG\t3\t6\n"
+unfolding lineText fieldsText led dec decBy
+refused-rig = refl
