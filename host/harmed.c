@@ -48,7 +48,14 @@ static void put_back(algolmallet_record *copy, enum harm harm, const algolmallet
 /* The question that the line has. */
 static algolmallet_reply ask(algolmallet_record *copy, const struct script_line *line)
 {
-    return line->verb == 'H' ? algolmallet_next_waking(copy) : algolmallet_overruns(copy, line->number[1]);
+    switch (line->verb) {
+    case 'H':
+        return algolmallet_next_waking(copy);
+    case 'P':
+        return algolmallet_overruns(copy, line->number[1]);
+    default:
+        return algolmallet_why_not(copy, line->number[1], line->number[2]);
+    }
 }
 
 static void ask_harmed(const algolmallet_record *record, const struct script_line *line)
@@ -67,7 +74,8 @@ static void ask_harmed(const algolmallet_record *record, const struct script_lin
 
 static bool is_question(const struct script_line *line)
 {
-    bool has_its_numbers = (line->verb == 'H' && line->numbers == 1) || (line->verb == 'P' && line->numbers == 2);
+    bool has_its_numbers =
+        (line->verb == 'H' && line->numbers == 1) || (line->verb == 'P' && line->numbers == 2) || (line->verb == 'I' && line->numbers == 3);
     return has_its_numbers && line->number[0] < HARMS;
 }
 

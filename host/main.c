@@ -70,8 +70,8 @@ static void run_bench(algolmallet_record *record, more_calls *run_more)
 static int usage(FILE *to, int status)
 {
     fputs("usage: host               a rig, the line RUN and a script on standard input\n"
-          "       host --panel       the same; lines V and O as panel.h says\n"
-          "       host --entries     the same; lines W, D, J, H and P as blocks.h and harmed.h say\n",
+          "       host --panel       the same; lines V, O and Y as panel.h says\n"
+          "       host --entries     the same; lines W, D, J, H, P and I as blocks.h and harmed.h say\n",
           to);
     return status;
 }

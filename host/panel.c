@@ -25,12 +25,23 @@ static void tell_overruns(algolmallet_record *record, uint32_t task)
     putchar('\n');
 }
 
+static void tell_why_not(algolmallet_record *record, uint32_t task, uint32_t links)
+{
+    algolmallet_reply reply = algolmallet_why_not(record, task, links);
+    print_reply("Y", &reply);
+    if (reply.refusal == ALGOLMALLET_ACCEPTED && reply.value != ALGOLMALLET_CAN_START)
+        printf("\t%" PRIu32, reply.value);
+    putchar('\n');
+}
+
 bool run_panel_call(algolmallet_record *record, const struct script_line *line)
 {
     if (line->verb == 'V' && line->numbers == 0)
         tell_next_waking(record);
     else if (line->verb == 'O' && line->numbers == 1)
         tell_overruns(record, line->number[0]);
+    else if (line->verb == 'Y' && line->numbers == 2)
+        tell_why_not(record, line->number[0], line->number[1]);
     else
         return false;
     return true;

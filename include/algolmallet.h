@@ -40,8 +40,8 @@ extern "C" {
 #endif
 
 /* The version of this header: first, second and third number, and all three as one, which rises. */
-#define ALGOLMALLET_VERSION "0.7.0"
-#define ALGOLMALLET_VERSION_NUMBER 7000 /* 1,000,000 times the first, 1,000 times the second, and the third */
+#define ALGOLMALLET_VERSION "0.8.0"
+#define ALGOLMALLET_VERSION_NUMBER 8000 /* 1,000,000 times the first, 1,000 times the second, and the third */
 
 /* The version of the archive: ALGOLMALLET_VERSION_NUMBER, if this header belongs to it. */
 uint32_t algolmallet_version(void);
@@ -51,6 +51,9 @@ uint32_t algolmallet_version(void);
 #define ALGOLMALLET_TICK_WORDS 128
 #define ALGOLMALLET_ROW_WORDS 33
 #define ALGOLMALLET_FILE_BYTES 40960
+
+/* What algolmallet_why_not answers of a task that can start: above every position of a condition, 0 to 15. */
+#define ALGOLMALLET_CAN_START 16
 
 /* Room for the longest text of a refusal, with the byte 0 that ends it; and the stack that a call may use. */
 #define ALGOLMALLET_TEXT_BYTES 144
@@ -72,20 +75,20 @@ enum algolmallet_refusal {
     ALGOLMALLET_OUT_OF_ORDER = 3,
     /* "a whole-file rule is broken (line 0)" */
     ALGOLMALLET_RULE_BROKEN = 4,
-    /* "any call on a record but the tick .., while no task is running"; algolmallet_next_waking and algolmallet_overruns need none either */
+    /* "any call on a record but the tick .., while no task is running"; algolmallet_next_waking, algolmallet_overruns and algolmallet_why_not need none either */
     ALGOLMALLET_NOBODY_RUNS = 5,
     /* "no such task, flag or row" */
     ALGOLMALLET_NO_SUCH = 6,
     /* "caller is not the named task's controller; signal of an activation or minor-cycle flag; wait on or reading of a
      * minor-cycle flag" */
     ALGOLMALLET_NOT_ALLOWED = 7,
-    /* "schedule of an invoked task, cancel of an uninvoked one, terminate of one not active" */
+    /* "schedule of an invoked task, cancel of an uninvoked one, terminate of one not active"; of algolmallet_why_not "if the task isn't inactive" */
     ALGOLMALLET_WRONG_STATE = 8,
     /* "waking count above 2,147,483,647; tick at that count" */
     ALGOLMALLET_COUNT_TOO_HIGH = 9,
     /* "a lent buffer has not the length that this paper states for it" */
     ALGOLMALLET_WRONG_LENGTH = 10,
-    /* "a word's field, an expected address or a status image is outside its size": of algolmallet_judge, no call's */
+    /* "a word's field, an expected address or a status image is outside its size": of algolmallet_judge; and of algolmallet_why_not "for d above 3" */
     ALGOLMALLET_WORD_OUTSIDE_SIZE = 11,
     /* "the record handed in is not sound" */
     ALGOLMALLET_NOT_SOUND = 12
@@ -105,7 +108,7 @@ typedef struct {
     uint32_t line;      /* of a start refused by 1 to 4: the rig file's line, 0 for the whole file; else 0 */
     uint32_t served;    /* flag changes that the call served, "at most 79" */
     uint32_t words;     /* bus words written by a tick */
-    uint32_t value;     /* of a flag read, 0 or 1; of algolmallet_next_waking a waking count, 0 for none; of algolmallet_overruns the number; else 0 */
+    uint32_t value;     /* of a flag read, 0 or 1; of algolmallet_next_waking a waking count, 0 for none; of algolmallet_overruns the number; of algolmallet_why_not a position or ALGOLMALLET_CAN_START; else 0 */
     uint32_t count;     /* the count after the call, as the record has it; 0 after a refused start */
     uint32_t running;   /* the running task after the call, as the record has it, 0 for none */
     uint32_t woken;     /* "how many waiting tasks" the call's services "made dispatchable" */
@@ -183,6 +186,14 @@ algolmallet_reply algolmallet_next_waking(algolmallet_record *r);
  * 65,535. Schedule sets it to 0" (and so does a start); "cancel, terminate and finish keep it". The call "reads it for any task", in any state, "with no
  * running task needed". The record is as it was, and nothing is served. Refused by 12, 6. */
 algolmallet_reply algolmallet_overruns(algolmallet_record *r, uint32_t task);
+
+/* "Why won't it start?" (request L13). "An inactive task can start within d links .. when each condition stands as desired or can be brought there. One that
+ * desires on can be brought there if one of its flags is a minor-cycle flag, a plain flag, or, with d at least 1, the activation flag of an inactive task that
+ * can start within d - 1 links. One that desires off: if one of its flags is plain, or is the activation flag of an active task." `links` is d, "from 0 to 3".
+ * The reply's `value` is ALGOLMALLET_CAN_START if the task can start, else the position, 0 to 15, of "the lowest condition that blocks". "A larger d never turns a
+ * yes into a no." A refusal's value is 0, as a block at position 0 is: look at `refusal` first. "It needs no running task." The record is as it was, and nothing
+ * is served. Refused by 12, 6, 8 "if the task isn't inactive", 11 "for d above 3". */
+algolmallet_reply algolmallet_why_not(algolmallet_record *r, uint32_t task, uint32_t links);
 
 /* "Row k's block starts at word 33(k - 1) of the lent area: a tag word, then its data. The area has exactly 33 words a row;
  * the caller's buffer has exactly the row's words." Read "copies the data out"; write "stores the data and the count modulo

@@ -26,7 +26,7 @@ extern "C" {
 #endif
 
 /* The version of this header, and of the archive that is installed with it. */
-#define ALGOLMALLET_TERMINAL_VERSION "0.7.0"
+#define ALGOLMALLET_TERMINAL_VERSION "0.8.0"
 
 /* What a word entry can answer, by the paper's refusal numbers. */
 enum algolmallet_word_refusal {

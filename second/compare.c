@@ -278,15 +278,16 @@ static unsigned print_seldom(const tally *t, const wishes *w)
     unsigned n = 0;
     if (wants(w, INPUTS))
         n += tally_missing(t, LEAST_HITS, stdout) + tally_panel_missing_off(&t->panel, LEAST_HITS, stdout) +
-             tally_overruns_missing_off(&t->overruns, LEAST_HITS, stdout);
+             tally_overruns_missing_off(&t->overruns, LEAST_HITS, stdout) + tally_why_missing_off(&t->why, LEAST_HITS, stdout);
     if (wants(w, STREAMS))
         n += tally_stream_missing(&t->stream, LEAST_HITS, stdout);
     if (wants(w, ENTRIES))
         n += tally_missing_calls(t, "WDJ", LEAST_HITS, stdout) + tally_panel_missing_harmed(&t->panel, LEAST_HITS, stdout) +
-             tally_heard_missing_entries(&t->heard, LEAST_HITS, stdout) + tally_overruns_missing_harmed(&t->overruns, LEAST_HITS, stdout);
+             tally_heard_missing_entries(&t->heard, LEAST_HITS, stdout) + tally_overruns_missing_harmed(&t->overruns, LEAST_HITS, stdout) +
+             tally_why_missing_harmed(&t->why, LEAST_HITS, stdout);
     if (wants(w, PANEL))
         n += tally_panel_missing(&t->panel, LEAST_HITS, stdout) + tally_heard_missing_asked(&t->heard, LEAST_HITS, stdout) +
-             tally_overruns_missing(&t->overruns, LEAST_HITS, stdout);
+             tally_overruns_missing(&t->overruns, LEAST_HITS, stdout) + tally_why_missing(&t->why, LEAST_HITS, stdout);
     if (wants(w, WIRING))
         n += tally_wiring_missing(&t->wiring, LEAST_HITS, stdout);
     return n;
@@ -297,9 +298,9 @@ static int report(const comparison *k, const tally *t, const wishes *w)
     unsigned seldom = 0;
     tally_print(t, stdout);
     if (wants(w, ENTRIES) && !is_given(&w->entries))
-        printf("(W, D, J, H and P were run in this process alone: no --entries)\n");
+        printf("(W, D, J, H, P and I were run in this process alone: no --entries)\n");
     if (wants(w, PANEL) && !is_given(&w->panel))
-        printf("(V and O were run in this process alone: no --panel)\n");
+        printf("(V, O and Y were run in this process alone: no --panel)\n");
     if (wants(w, WIRING) && !is_given(&w->wiring))
         printf("(inputs for the wiring sheet were counted in this process alone: no --wiring)\n");
     if (k->differences == 0 && w->count >= DEFAULT_COUNT)

@@ -2,6 +2,7 @@
 
 #include <string.h>
 
+#include "panel.h"
 #include "script.h"
 
 enum { LENT_MAX = ENTRIES_ROOM_MAX };
@@ -45,6 +46,9 @@ bool entries_judge(const uint8_t *line, size_t length, entries_call *out)
     case 'P':
         return script_number(&at, end, &out->harm) && script_number(&at, end, &out->task) && at == end &&
                out->harm < HARMS;
+    case 'I':
+        return script_number(&at, end, &out->harm) && script_number(&at, end, &out->task) &&
+               script_number(&at, end, &out->links) && at == end && out->harm < HARMS;
     default:
         return false;
     }
@@ -112,10 +116,11 @@ static void undo_harm(exec *e, enum harm harm, const exec *before)
     memcpy((uint8_t *)e + h.from, (const uint8_t *)before + h.from, h.length);
 }
 
-/* The question that the line has. */
+/* The panel's question that the line has. */
 static answer ask(const exec *e, const entries_call *call)
 {
-    return call->verb == 'H' ? exec_next_waking(e) : exec_overruns(e, call->task);
+    char verb = call->verb == 'H' ? 'V' : call->verb == 'P' ? 'O' : 'Y';
+    return panel_ask(e, &(panel_call){.verb = verb, .task = call->task, .links = call->links});
 }
 
 static size_t run_harmed(const exec *e, const entries_call *call, answer *a, char *out)
@@ -140,12 +145,12 @@ static size_t run_harmed(const exec *e, const entries_call *call, answer *a, cha
     return (size_t)(at - out);
 }
 
-/* ---- All five ---- */
+/* ---- All of them ---- */
 
 size_t entries_run(exec *e, entries_area *area, const entries_call *call, answer *a, char *out)
 {
     uint32_t check;
-    if (call->verb == 'H' || call->verb == 'P')
+    if (strchr("HPI", call->verb) != NULL)
         return run_harmed(e, call, a, out);
     *a = call->verb == 'W' ? run_write(e, area, call, &check) : run_lent(e, area, call, &check);
     char *at = print_head(out, call->verb, a, e);

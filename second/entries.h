@@ -16,6 +16,8 @@
  *                            start, 2 all its bytes 0, 3 all 255, 4 the first
  *                            half of them 255, 5 the second half
  *   P harm task              the task's overruns, asked of such a copy
+ *   I harm task d            "Why won't it start?" within d links, asked of such
+ *                            a copy
  *
  * with tabs between the fields, `area` up to 4,096, `words` up to 64, `room`
  * up to 256, `harm` up to 5; larger numbers are of wrong shape (? alone).  The
@@ -30,10 +32,10 @@
  * its own words, is seen.  The check number of words w0, w1, ... starts as 0
  * and with each becomes (31 check + word) modulo 65,521.
  *
- * H and P print verb, answer, flags served, words, value, woken and activated, as
- * they are told (of H a value of 0 for none), and then answer and value once more,
- * asked of the copy when the harmed bytes have been put back: the question has
- * left the others as they were.  Count and running task are not printed: a
+ * H, P and I print verb, answer, flags served, words, value, woken and activated, as
+ * they are told (of H a value of 0 for none, of I one of 16 for a task that can
+ * start), and then answer and value once more, asked of the copy when the harmed
+ * bytes have been put back: the question has left the others as they were.  Count and running task are not printed: a
  * harmed record may have any.
  */
 #ifndef SECOND_ENTRIES_H
@@ -54,20 +56,21 @@ typedef struct {
 
 void entries_fill_area(entries_area *area);
 
-/* What H and P do to their copy of the record. */
+/* What H, P and I do to their copy of the record. */
 enum harm { HARM_NONE, HARM_REFUSED_START, HARM_ZEROS, HARM_ALL, HARM_FIRST_HALF, HARM_SECOND_HALF, HARMS };
 
 typedef struct {
-    char verb;      /* W, D, J, H or P */
+    char verb;      /* W, D, J, H, P or I */
     uint32_t row;   /* W, D */
     uint32_t area;  /* W, D */
     uint32_t words; /* W, D: data words; J: room */
     uint32_t first; /* W */
-    uint32_t harm;  /* H, P */
-    uint32_t task;  /* P */
+    uint32_t harm;  /* H, P, I */
+    uint32_t task;  /* P, I */
+    uint32_t links; /* I */
 } entries_call;
 
-/* Whether a line without its LF is one of the five. */
+/* Whether a line without its LF is one of these. */
 bool entries_judge(const uint8_t *line, size_t length, entries_call *out);
 
 /* Makes the call and prints its line; answers the line's length. */

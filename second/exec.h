@@ -69,7 +69,7 @@ typedef struct {
     enum refusal refusal;
     uint8_t served;    /* flags served by this call */
     uint16_t words;    /* exec_tick: bus words written */
-    uint32_t value;    /* exec_read_flag: the flag's; exec_next_waking: the waking count, 0 for none; exec_overruns: the number */
+    uint32_t value;    /* exec_read_flag: the flag's; exec_next_waking: the waking count, 0 for none; exec_overruns: the number; exec_why_not: why.h */
     uint8_t woken;     /* "how many waiting tasks" the services of this call "made dispatchable" (request L2) */
     uint8_t activated; /* "and how many" they "activated"; a schedule's own activation is no service's, nor is a test's */
     uint8_t heard;     /* services that added to either; not printed, the comparison counts sums by it */

@@ -12,6 +12,7 @@ enum input_kind {
     LISTENERS,
     RUNS_AGAIN,
     OVERRUNS,
+    LINKS,
     STOPS,
     SERVES_79,
     SCRIPT_DAMAGED,
@@ -42,15 +43,24 @@ static const uint8_t kinds[] = {
 static const uint8_t panel_kinds[] = {
     SLEEPERS, SMALL, SLEEPERS, FAMILIES, SLEEPERS, SLEEPERS, MEDIUM, SLEEPERS, RESTARTS, SLEEPERS,
     SLEEPERS, LISTENERS, SLEEPERS, RACES, RUNS_AGAIN, SLEEPERS, SCRIPT_DAMAGED, SLEEPERS, FUZZED, LINE_ORDER,
-    OVERRUNS, OVERRUNS, OVERRUNS, OVERRUNS};
+    OVERRUNS, OVERRUNS, OVERRUNS, OVERRUNS, LINKS, LINKS, LINKS, LINKS, LINKS, LINKS};
 
 /* One input in so many for the panel goes up to the stop of overruns; it is long. */
 enum { ROUND = sizeof kinds, PANEL_ROUND = sizeof panel_kinds, STOPS_EVERY = 500, STOPS_AT = 7 };
 
-/*
- * Of a hundred lines, those before which lines are woven in: V for the runner and for the panel, H; and the same of O and P.
- */
-enum { ASKED_RUNNER = 3, ASKED_PANEL = 40, ASKED_HARMED = 6, OVERRUNS_RUNNER = 1, OVERRUNS_PANEL = 12, OVERRUNS_HARMED = 6 };
+/* Of a hundred lines, those before which questions are woven in: for the runner, for the panel, and of harmed records. */
+typedef struct {
+    uint64_t salt; /* numbers of its own for each question, so that the rest of an input is the same with or without it */
+    unsigned runner, panel, harmed;
+    line_adder *asks, *asks_harmed;
+} question;
+
+static const question questions[] = {
+    {UINT64_C(0x7765617665733131), 3, 40, 6, add_question, add_harmed_question},
+    {UINT64_C(0x6f76657272756e73), 1, 12, 6, add_overruns_question, add_harmed_overruns_question},
+    {UINT64_C(0x7768796e6f743133), 1, 12, 18, add_why_question, add_harmed_why_question}};
+
+enum { QUESTIONS = sizeof questions / sizeof questions[0] };
 
 void gen_add_run(text *out)
 {
@@ -177,6 +187,11 @@ static void overruns_input(chance *c, text *out)
     played_input(c, &(purpose){gen_overruns_rig, gen_overruns_script, 100, 250}, out);
 }
 
+static void links_input(chance *c, text *out)
+{
+    played_input(c, &(purpose){gen_links_rig, gen_links_script, 100, 250}, out);
+}
+
 static void stops_input(chance *c, text *out)
 {
     static rig r;
@@ -264,6 +279,7 @@ static const struct {
     [LISTENERS] = {"listeners", listeners_input},
     [RUNS_AGAIN] = {"tasks that run again", again_input},
     [OVERRUNS] = {"overruns", overruns_input},
+    [LINKS] = {"tasks that wait for each other", links_input},
     [STOPS] = {"overruns up to their stop", stops_input},
     [SERVES_79] = {"79 served", full_serving_input},
     [SCRIPT_DAMAGED] = {"damaged script", damaged_script_input},
@@ -295,57 +311,55 @@ const char *gen_panel_name(uint64_t index)
     return makers[panel_kind(index)].name;
 }
 
-/* Numbers of their own for what is woven in, so that the rest of an input is the same with or without it. */
-static chance weaving_chance(uint64_t seed, uint64_t index)
+/* Puts a question between the lines of the input that begins at `start` of `out`. */
+static void weave(const question *q, uint64_t seed, uint64_t index, unsigned percent, line_adder *add, size_t start, text *out)
 {
-    return chance_of(seed ^ UINT64_C(0x7765617665733131), index);
-}
-
-static chance overruns_chance(uint64_t seed, uint64_t index)
-{
-    return chance_of(seed ^ UINT64_C(0x6f76657272756e73), index);
+    chance c = chance_of(seed ^ q->salt, index);
+    gen_weave(&c, percent, add, start, out);
 }
 
 void gen_input(uint64_t seed, uint64_t index, text *out)
 {
-    chance c = chance_of(seed, index), woven = weaving_chance(seed, index), more = overruns_chance(seed, index);
+    chance c = chance_of(seed, index);
     unsigned kind = kinds[index % ROUND];
     size_t start = out->length;
     if (kind >= RULE_BROKEN)
         broken_rule_input(&c, (rig_rule)(kind - RULE_BROKEN), out);
     else
         makers[kind].make(&c, out);
-    gen_weave(&woven, ASKED_RUNNER, add_question, start, out);
-    gen_weave(&more, OVERRUNS_RUNNER, add_overruns_question, start, out);
+    for (const question *q = questions; q < questions + QUESTIONS; q++)
+        weave(q, seed, index, q->runner, q->asks, start, out);
 }
 
 void gen_panel_input(uint64_t seed, uint64_t index, text *out)
 {
     uint64_t own = seed ^ UINT64_C(0x70616e656c733131);
-    chance c = chance_of(own, index), woven = weaving_chance(own, index), more = overruns_chance(own, index);
+    chance c = chance_of(own, index);
     size_t start = out->length;
     makers[panel_kind(index)].make(&c, out);
     if (panel_kind(index) == STOPS) /* long enough as it is, and it asks where it matters */
         return;
-    gen_weave(&woven, ASKED_PANEL, add_question, start, out);
-    gen_weave(&more, OVERRUNS_PANEL, add_overruns_question, start, out);
+    for (const question *q = questions; q < questions + QUESTIONS; q++)
+        weave(q, own, index, q->panel, q->asks, start, out);
 }
 
 void gen_entries_input(uint64_t seed, uint64_t index, text *out)
 {
     static rig r;
     uint64_t own = seed ^ UINT64_C(0x656e747269657331);
-    chance c = chance_of(own, index), woven = weaving_chance(own, index), more = overruns_chance(own, index);
+    chance c = chance_of(own, index);
     size_t start = out->length;
     if (index % 5 == 4)
         gen_overruns_rig(&c, &r);
+    else if (index % 5 >= 2)
+        gen_links_rig(&c, &r);
     else
         gen_rig(&c, (rig_size)(index % 3), &r);
     gen_print_rig(&r, out);
     gen_add_run(out);
     gen_entries_script(&c, &r, pick(&c, 200, 400), out);
-    gen_weave(&woven, ASKED_HARMED, add_harmed_question, start, out);
-    gen_weave(&more, OVERRUNS_HARMED, add_harmed_overruns_question, start, out);
+    for (const question *q = questions; q < questions + QUESTIONS; q++)
+        weave(q, own, index, q->harmed, q->asks_harmed, start, out);
 }
 
 /* The first full-size rig of the seed that has all 1,024 A lines and all 64 rows. */

@@ -31,8 +31,12 @@ const char *gen_panel_name(uint64_t index);
 /* Appends a line that leaves the record as it is; `tasks` is how many tasks the input's rig says that it has. */
 typedef void line_adder(chance *c, unsigned tasks, text *out);
 
-/* The panel's V and O, now and then with wrong fields; H and P of entries.h. */
-line_adder add_question, add_overruns_question, add_harmed_question, add_harmed_overruns_question;
+/* The panel's V, O and Y, now and then with wrong fields; H, P and I of entries.h. */
+line_adder add_question, add_overruns_question, add_why_question;
+line_adder add_harmed_question, add_harmed_overruns_question, add_harmed_why_question;
+
+/* The d of a question why: mostly 0 to 3, else 4 or above. */
+unsigned gen_links_asked(chance *c);
 
 /*
  * Adds such a line before so many of a hundred lines of the script of the input that begins at `start` of `out`.  The
@@ -100,6 +104,12 @@ void gen_again_rig(chance *c, rig *out);
 /* Tasks that minor-cycle flags start: one or several, in conditions of their own or in two; and other conditions beside them. */
 void gen_overruns_rig(chance *c, rig *out);
 
+/*
+ * Tasks that wait for each other's activation flags, to go on or off, in chains and in circles; for minor-cycle and plain
+ * flags at a chain's end; and for several flags of which one may help.
+ */
+void gen_links_rig(chance *c, rig *out);
+
 /* Two tasks with nearly all of 15 minor-cycle flags each, and all of these in every cycle: the soonest way to a number's stop. */
 void gen_stop_rig(chance *c, rig *out);
 
@@ -149,6 +159,9 @@ void gen_again_script(chance *c, const rig *r, unsigned lines, text *out);
 
 /* Plays an overruns rig: its tasks stay active over some ticks, or end, are cancelled and scheduled anew; O lines ask in between. */
 void gen_overruns_script(chance *c, const rig *r, unsigned lines, text *out);
+
+/* Plays a links rig: its tasks are made ready in any order, start, end and wait; Y lines ask in between, mostly of an inactive one. */
+void gen_links_script(chance *c, const rig *r, unsigned lines, text *out);
 
 /* Ticks a stop rig past both numbers' stops, and asks around them; then ends, cancels and schedules those tasks. */
 void gen_stop_script(chance *c, const rig *r, text *out);

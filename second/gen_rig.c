@@ -581,6 +581,72 @@ void gen_overruns_rig(chance *c, rig *out)
     make_rows(c, out, SIZE_SMALL);
 }
 
+/* ---- Tasks that wait for each other ---- */
+
+/* The task before, so that chains come about; or any, this one among them, which makes circles. */
+static unsigned task_waited_for(chance *c, const rig *r, unsigned task)
+{
+    return task > 2 && likely(c, 65) ? task - 1 : pick(c, 2, r->tasks);
+}
+
+/*
+ * A condition on a minor-cycle flag, on a plain one, or on another task's
+ * activation, and often on one or two activations more, which may help or not.
+ */
+static void add_waiting_condition(chance *c, rig *r, const makings *m, unsigned task, unsigned position)
+{
+    unsigned way = pick(c, 0, 99);
+    if (way < 12) {
+        add_minor_condition(r, task, position, m->minor[pick(c, 0, m->minors - 1)]);
+        return;
+    }
+    flag_set set = {{0}};
+    unsigned plain = m->other[pick(c, m->activations, m->others - 1)];
+    set.marked[way < 30 ? plain : r->task[task_waited_for(c, r, task)].activation] = 1;
+    for (unsigned more = likely(c, 75) ? 0 : pick(c, 1, 2); more > 0; more--)
+        set.marked[r->task[pick(c, 1, r->tasks)].activation] = 1;
+    add_condition(r, task, position, likely(c, 25), likely(c, 75));
+    add_flags(r, task, position, &set);
+}
+
+/* None to three conditions; a task with none starts when it is scheduled. */
+static void make_waiting(chance *c, rig *r, const makings *m, unsigned task)
+{
+    unsigned position = likely(c, 60) ? 0 : pick(c, 1, 8);
+    for (unsigned wanted = likely(c, 20) ? 0 : likely(c, 60) ? 1 : pick(c, 2, 3); wanted > 0; wanted--) {
+        add_waiting_condition(c, r, m, task, position);
+        position += pick(c, 1, 3);
+    }
+}
+
+/* A chain up to here: the task waits for the one before and for nothing else, and the first for a plain flag. */
+static void make_chained(chance *c, rig *r, const makings *m, unsigned task)
+{
+    unsigned position = pick(c, 0, 2), plain = m->other[pick(c, m->activations, m->others - 1)];
+    add_condition(r, task, position, likely(c, 10), true);
+    add_one_flag(r, task, position, task == 2 ? plain : r->task[task - 1].activation);
+}
+
+/*
+ * Under task 1, which rests below all others, tasks that mostly wait for the
+ * one before.  Half of the rigs begin with a chain whose end is three, four or
+ * more links away from its plain flag.
+ */
+void gen_links_rig(chance *c, rig *out)
+{
+    unsigned minors = pick(c, 1, 2), last_chained = likely(c, 50) ? pick(c, 5, 7) : 1;
+    makings m = {.tasks = last_chained + pick(c, 4, 8)};
+    begin_below_first(c, out, &m, minors);
+    for (unsigned t = 2; t <= m.tasks; t++) {
+        if (t <= last_chained)
+            make_chained(c, out, &m, t);
+        else
+            make_waiting(c, out, &m, t);
+    }
+    make_cycles(c, out, &m);
+    make_rows(c, out, SIZE_SMALL);
+}
+
 /* Flags 1 to 15 are in every cycle; task 2 has all of them, task 3 all but one, so that it passes its stop within a tick. */
 void gen_stop_rig(chance *c, rig *out)
 {

@@ -3,6 +3,7 @@
 #include "entries.h"
 #include "gen.h"
 #include "script.h"
+#include "why.h"
 
 /* What a script tries, with weights of its own for each script. */
 enum action {
@@ -713,6 +714,94 @@ void gen_overruns_script(chance *c, const rig *r, unsigned lines, text *out)
             overruns_first(&p);
         else
             overruns_other(&p);
+    }
+}
+
+/* ---- Tasks that wait for each other ---- */
+
+/* The links that the inactive task needs to start, 0 also for one that cannot. */
+static unsigned links_needed(const exec *e, unsigned task)
+{
+    for (unsigned links = 0; links <= LINKS_MAX; links++)
+        if (lowest_blocking(e, task, links) == CAN_START)
+            return links;
+    return 0;
+}
+
+/* Asks for the task that needs the most links, with just as many or one less; false if none needs any. */
+static bool ask_at_edge(player *p)
+{
+    unsigned found = 0, most = 0;
+    for (unsigned t = 1; t <= p->e.rig.tasks; t++) {
+        unsigned links = p->e.state[t] == INACTIVE ? links_needed(&p->e, t) : 0;
+        if (links > most) {
+            most = links;
+            found = t;
+        }
+    }
+    if (found != 0)
+        text_print(p->out, "Y\t%u\t%u\n", found, likely(p->c, 70) ? most : most - 1);
+    return found != 0;
+}
+
+/* The panel's Y, mostly of an inactive task, if there is one. */
+static void ask_why(player *p)
+{
+    if (likely(p->c, 30) && ask_at_edge(p))
+        return;
+    unsigned found = pick(p->c, 1, p->e.rig.tasks), seen = 0;
+    bool any = likely(p->c, 10);
+    for (unsigned t = 1; t <= p->e.rig.tasks && !any; t++)
+        if (p->e.state[t] == INACTIVE && pick(p->c, 0, seen++) == 0)
+            found = t;
+    text_print(p->out, "Y\t%u\t%u\n", found, gen_links_asked(p->c));
+}
+
+/* Task 1 of a links rig has the others ready, in any order; now and then it signals, strikes one, or lets time go. */
+static void links_first(player *p)
+{
+    unsigned way = pick(p->c, 0, 99);
+    if (way < 60 && do_schedule(p))
+        return;
+    if (way < 66 && do_signal(p))
+        return;
+    if (way < 75 && (likely(p->c, 60) ? do_cancel(p) : do_terminate(p)))
+        return;
+    if (way < 85)
+        call(p, 'R', pick(p->c, 1, 3), 0);
+    else
+        call(p, 'K', 0, 0);
+}
+
+/* The others end, to be inactive again, or wait, to be active while somebody asks about those that wait for them. */
+static void links_other(player *p)
+{
+    unsigned way = pick(p->c, 0, 99);
+    if (way < 35)
+        call(p, 'F', 0, 0);
+    else if (way < 75)
+        sleep_a_while(p);
+    else if (way < 82 && do_wait_flag(p))
+        return;
+    else if (way < 86 && do_signal(p))
+        return;
+    else
+        call(p, 'K', 0, 0);
+}
+
+void gen_links_script(chance *c, const rig *r, unsigned lines, text *out)
+{
+    static player p;
+    play(&p, c, r, out);
+    for (unsigned i = 0; i < lines; i++) {
+        if (likely(c, 40))
+            ask_why(&p);
+        else if (p.e.running == 0)
+            call(&p, 'K', 0, 0);
+        else if (p.e.running == 1)
+            links_first(&p);
+        else
+            links_other(&p);
     }
 }
 

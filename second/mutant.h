@@ -180,7 +180,50 @@
     B(163, HEADER_NEEDS_ROWS, "the table of a rig with no rows has no header") \
     B(164, LINE_UNTOLD, "a refused rig's line is told as 0") \
     B(165, REFUSED_AS_RUNNER, "a refused rig is told by the runner's word START") \
-    B(166, RUN_UNHEEDED, "the rig does not end before the line RUN")
+    B(166, RUN_UNHEEDED, "the rig does not end before the line RUN") \
+    V(167, WHY_UNKNOWN, "a Y line is answered by ?, as before the request") \
+    V(168, EVERYBODY_STARTS, "every inactive task is told to be able to start") \
+    V(169, ANY_CONDITION_ENOUGH, "a task can start if any of its conditions stands or can be brought there") \
+    V(170, FIRST_CONDITION_ALONE, "the lowest condition that does not stand is asked about alone") \
+    V(171, HIGHEST_TOLD, "the highest condition that blocks is told") \
+    V(172, UNDESIRED_TOLD, "the lowest condition that does not stand is told, though it can be brought there") \
+    V(173, STANDING_UNSEEN, "a condition that stands as desired must be one that can be brought there") \
+    V(174, FLAGS_FOR_CONDITIONS, "a condition stands if one of its flags has the desired value now") \
+    V(175, ALL_FLAGS_NEEDED, "all flags of a condition must be able to bring it about, not one") \
+    V(176, FIRST_FLAG_ALONE, "the first flag of a condition is looked at alone") \
+    V(177, MINOR_BRINGS_NOTHING, "a minor-cycle flag does not bring a condition on") \
+    V(178, PLAIN_NOT_ON, "a plain flag does not bring a condition on") \
+    V(179, PLAIN_NOT_OFF, "a plain flag does not bring a condition off") \
+    V(180, ACTIVE_BRINGS_ON, "the activation flag of an active task brings a condition on") \
+    V(181, ACTIVE_NOT_OFF, "the activation flag of an active task does not bring a condition off") \
+    V(182, WAITING_NOT_OFF, "the activation flag of a waiting task does not bring a condition off") \
+    V(183, INACTIVE_BRINGS_OFF, "the activation flag of an inactive task brings a condition off") \
+    V(184, UNINVOKED_STARTS, "an uninvoked task counts as able to start, by its conditions") \
+    V(185, LINKED_UNASKED, "an inactive task behind a link counts as able to start, whatever its conditions") \
+    V(186, LINKS_UNSEEN, "no link is followed, whatever d") \
+    V(187, LINKS_KEPT, "a link does not lower d") \
+    V(188, LINKS_SHARED, "the links of all conditions together are counted, not those of one way") \
+    V(189, CIRCLES_START, "a task that waits for itself through others counts as able to start") \
+    V(190, ZERO_FOLLOWS_ONE, "a d of 0 follows one link") \
+    V(191, THREE_FOLLOW_TWO, "a d of 3 follows two links") \
+    V(192, WHY_NEEDS_TASK, "the question why is refused by 5 while no task is running") \
+    V(193, WHY_NEEDS_CONTROLLER, "the question why is refused by 7 to a task that does not control the named one") \
+    V(194, NO_SUCH_BY_STATE, "a task that there is not is refused by 8, since it is not inactive") \
+    V(195, STATE_UNJUDGED, "a task that is not inactive is answered by its conditions, not refused by 8") \
+    V(196, UNINVOKED_TAKEN, "an uninvoked task is answered by its conditions, not refused by 8") \
+    V(197, WAITING_TAKEN, "a waiting task is answered by its conditions, not refused by 8") \
+    V(198, LINKS_BEFORE_STATE, "a d above 3 is refused by 11 before the task is found not to be inactive") \
+    V(199, LINKS_BEFORE_TASK, "a d above 3 is refused by 11 before the task is found not to be there") \
+    V(200, FOUR_LINKS_TAKEN, "a d of 4 is taken") \
+    V(201, THREE_LINKS_REFUSED, "a d of 3 is refused by 11") \
+    V(202, LINKS_CUT, "any d above 3 is taken for 3") \
+    V(203, POSITIONS_FROM_1, "the position of the condition that blocks is counted from 1") \
+    V(204, YES_PRINTED, "a task that can start is told by the number 16") \
+    V(205, POSITION_0_UNPRINTED, "the position 0 is not printed") \
+    V(206, THIRD_NUMBER_TAKEN, "a Y line with a field too many is taken") \
+    E(207, UNSOUND_STARTS, "a task of a record that is not sound is told to be able to start") \
+    E(208, NO_TASK_BEFORE_SOUND, "the question why of a task that there cannot be is refused by 6 before the record is found unsound") \
+    E(209, LINKS_BEFORE_SOUND, "a d above 3 is refused by 11 before the record is found unsound")
 
 #define MUTANT_NAME(number, name, text) MUTANT_##name = number,
 enum { MUTANT_LIST(MUTANT_NAME, MUTANT_NAME, MUTANT_NAME, MUTANT_NAME, MUTANT_NAME, MUTANT_NAME, MUTANT_NAME) MUTANT_END };

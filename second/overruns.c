@@ -120,11 +120,6 @@ void count_overruns(exec *e, const serving *s, const task_states *before, unsign
 
 /* ---- Reading ---- */
 
-static bool is_task(const exec *e, uint32_t task)
-{
-    return task >= 1 && task <= e->rig.tasks;
-}
-
 /* For mutants alone: refusals that they give and the request does not. */
 static enum refusal refused_wrongly(const exec *e, uint32_t task)
 {

@@ -26,6 +26,11 @@ typedef struct {
     uint8_t of[TASKS_MAX];
 } task_states;
 
+static inline bool is_task(const exec *e, uint32_t task)
+{
+    return task >= 1 && task <= e->rig.tasks;
+}
+
 /* The running task begins to wait. */
 void wait_on_time(exec *e, uint32_t waking);
 void wait_on_flag(exec *e, uint32_t flag, bool value);

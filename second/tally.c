@@ -119,6 +119,8 @@ static size_t run_entries_call(run *r, const entries_call *call, char *out)
         tally_panel_harmed(&r->t->panel, call, &a);
     else if (call->verb == 'P')
         tally_overruns_harmed(&r->t->overruns, call, &r->e, &a);
+    else if (call->verb == 'I')
+        tally_why_harmed(&r->t->why, call, &r->e, &a);
     else
         tally_heard_line(&r->t->heard, &r->told, call->verb, &a);
     if (call->verb == 'J' && a.refusal == ACCEPTED) {
@@ -136,10 +138,31 @@ static size_t run_panel_call(run *r, const panel_call *call, char *out)
     r->t->call[(unsigned char)call->verb][a.refusal]++;
     if (call->verb == 'V')
         tally_panel_answer(&r->t->panel, &r->waits, &r->e, &a);
-    else
+    else if (call->verb == 'O')
         tally_overruns_answer(&r->t->overruns, &r->overruns, call->task, &r->e, &a);
+    else
+        tally_why_answer(&r->t->why, call, &r->e, &a);
     tally_heard_line(&r->t->heard, &r->told, call->verb, &a);
     return n;
+}
+
+/* A line that is no line for the program at hand, but may be one of the panel's, or would be with other fields. */
+static void count_wrong(tally *t, const uint8_t *line, size_t length, bool has_panel)
+{
+    const struct {
+        char verb;
+        uint64_t *off, *fields;
+    } of[] = {{'V', &t->panel.off, &t->panel.fields},
+              {'O', &t->overruns.off, &t->overruns.fields},
+              {'Y', &t->why.off, &t->why.fields}};
+    panel_call call;
+    bool right = panel_judge(line, length, &call);
+    for (unsigned i = 0; i < sizeof of / sizeof of[0]; i++) {
+        if (length == 0 || *line != of[i].verb)
+            continue;
+        *of[i].off += right && !has_panel;
+        *of[i].fields += has_panel;
+    }
 }
 
 /* Runs a line that is not the runner's own, if it is one of those taken. */
@@ -166,10 +189,8 @@ static size_t run_line(run *r, const uint8_t *line, size_t length, bool whole, l
         return printed;
     if (!whole || !script_judge(line, length, &call)) {
         r->t->call['?'][BAD_SHAPE]++;
-        if (whole) {
-            tally_panel_wrong(&r->t->panel, line, length, taken == PANEL_LINES);
-            tally_overruns_wrong(&r->t->overruns, line, length, taken == PANEL_LINES);
-        }
+        if (whole)
+            count_wrong(r->t, line, length, taken == PANEL_LINES);
         return print_wrong_line(out);
     }
     r->before = r->e;
@@ -230,7 +251,7 @@ static const struct {
     {'R', "wait cycles", "ei"},    {'L', "wait latched", "efg"},     {'N', "wait unlatched", "efg"},
     {'G', "signal", "efg"},        {'Q', "read flag", "efg"},        {'W', "block write", "efj"},
     {'D', "block read", "efj"},    {'J', "tick, any room", "j"},     {'V', "next waking", ""},
-    {'O', "overruns", "f"}};
+    {'O', "overruns", "f"},        {'Y', "why not", "fhk"}};
 
 enum { VERBS = sizeof verbs / sizeof verbs[0] };
 
@@ -242,13 +263,13 @@ static unsigned refusal_of(char letter)
 static void print_verbs(const tally *t, FILE *to)
 {
     fprintf(to, "calls                 accepted");
-    for (unsigned n = NONE_RUNNING; n <= BAD_LENGTH; n++)
+    for (unsigned n = NONE_RUNNING; n <= BAD_FIELD; n++)
         fprintf(to, "  refused %-2u", n);
     fprintf(to, "\n");
     for (unsigned i = 0; i < VERBS; i++) {
         const uint64_t *by = t->call[(unsigned char)verbs[i].verb];
         fprintf(to, "  %c %-16s %10llu", verbs[i].verb, verbs[i].name, (unsigned long long)by[ACCEPTED]);
-        for (unsigned n = NONE_RUNNING; n <= BAD_LENGTH; n++)
+        for (unsigned n = NONE_RUNNING; n <= BAD_FIELD; n++)
             fprintf(to, "  %10llu", (unsigned long long)by[n]);
         fprintf(to, "\n");
     }
@@ -286,6 +307,7 @@ void tally_print(const tally *t, FILE *to)
     tally_heard_print(&t->heard, to);
     tally_again_print(&t->again, to);
     tally_overruns_print(&t->overruns, to);
+    tally_why_print(&t->why, to);
     tally_wiring_print(&t->wiring, to);
 }
 

@@ -17,6 +17,7 @@
 #include "tally_overruns.h"
 #include "tally_panel.h"
 #include "tally_stream.h"
+#include "tally_why.h"
 #include "tally_wiring.h"
 
 enum { REFUSALS = NOT_SOUND + 1 };
@@ -40,6 +41,7 @@ typedef struct {
     heard_tally heard;
     again_tally again;
     overruns_tally overruns;
+    why_tally why;
     wiring_tally wiring;
 } tally;
 

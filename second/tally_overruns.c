@@ -66,15 +66,6 @@ void tally_overruns_answer(overruns_tally *t, const overruns_history *h, uint32_
     t->same_call += h->same_call[task];
 }
 
-void tally_overruns_wrong(overruns_tally *t, const uint8_t *line, size_t length, bool has_panel)
-{
-    panel_call call;
-    if (length == 0 || *line != 'O')
-        return;
-    t->off += !has_panel && panel_judge(line, length, &call);
-    t->fields += has_panel;
-}
-
 void tally_overruns_harmed(overruns_tally *t, const entries_call *call, const exec *e, const answer *a)
 {
     bool exists = call->task >= 1 && call->task <= e->rig.tasks, sound = call->harm == HARM_NONE;

@@ -41,9 +41,6 @@ void tally_overruns_call(overruns_history *h, const script_call *call, const exe
 /* The answer to O on this record, which is sound. */
 void tally_overruns_answer(overruns_tally *t, const overruns_history *h, uint32_t task, const exec *e, const answer *a);
 
-/* A line with its LF that is no line for the program at hand. */
-void tally_overruns_wrong(overruns_tally *t, const uint8_t *line, size_t length, bool has_panel);
-
 /* The answer to P, asked of a copy of this record. */
 void tally_overruns_harmed(overruns_tally *t, const entries_call *call, const exec *e, const answer *a);
 

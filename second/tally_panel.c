@@ -62,14 +62,6 @@ void tally_panel_answer(panel_tally *t, panel_waits *w, const exec *e, const ans
     t->overtaken += e->wait[first_begun(w, e)].wake > a->value;
 }
 
-void tally_panel_wrong(panel_tally *t, const uint8_t *line, size_t length, bool has_panel)
-{
-    if (length == 0 || *line != 'V')
-        return;
-    t->off += length == 1 && !has_panel;
-    t->fields += length > 1 && has_panel;
-}
-
 void tally_panel_harmed(panel_tally *t, const entries_call *call, const answer *a)
 {
     t->harmed[call->harm] += a->refusal == (call->harm == HARM_NONE ? ACCEPTED : NOT_SOUND);

@@ -34,9 +34,6 @@ void tally_panel_waits(panel_waits *w, const exec *before, const exec *after, un
 /* The answer to V on this record, which is sound. */
 void tally_panel_answer(panel_tally *t, panel_waits *w, const exec *e, const answer *a);
 
-/* A line with its LF that is no line for the program at hand. */
-void tally_panel_wrong(panel_tally *t, const uint8_t *line, size_t length, bool has_panel);
-
 void tally_panel_harmed(panel_tally *t, const entries_call *call, const answer *a);
 
 void tally_panel_print(const panel_tally *t, FILE *to);

@@ -26,12 +26,14 @@ CALLS = {
     "Q": "read flag %s",
     "V": "next waking",
     "O": "overruns of %s",
+    "Y": "why not %s, %s",
 }
 
 NOT_A_CALL = "?"
 
-OF_VALUES = "QVO"  # verbs that ask, and are answered by one number
-NO_VALUE = {"V": "none"}  # how it is told that an accepted question was answered by no number
+OF_VALUES = "QVOY"  # verbs that ask, and are answered by one number
+SAID_OF_VALUE = {"Y": "condition %s"}  # how the number is told where it does not stand for itself
+NO_VALUE = {"V": "none", "Y": "can start"}  # how it is told that an accepted question was answered by no number
 
 OF_TASKS = "SXZ"
 OF_COUNTS = "UR"
@@ -53,6 +55,7 @@ REFUSALS_OF_VERB = {
     ("X", 6): "no such task",
     ("Z", 6): "no such task",
     ("O", 6): "no such task",
+    ("Y", 6): "no such task",
     ("S", 7): "the caller is not its controller",
     ("X", 7): "the caller is not its controller",
     ("Z", 7): "the caller is not its controller",
@@ -60,7 +63,9 @@ REFUSALS_OF_VERB = {
     ("S", 8): "it is invoked already",
     ("X", 8): "it is not invoked",
     ("Z", 8): "it is not active",
+    ("Y", 8): "it is not inactive",
     ("K", 9): "the count is at its last",
+    ("Y", 11): "more than 3 links",
 }
 
 REFUSED_RIGS = {
@@ -131,7 +136,7 @@ def wrong_step(number, line, before):
 def value_of(verb, refusal, numbers):
     if verb not in OF_VALUES or refusal != 0:
         return None
-    return str(numbers[0]) if numbers else NO_VALUE.get(verb)
+    return SAID_OF_VALUE.get(verb, "%s") % numbers[0] if numbers else NO_VALUE.get(verb)
 
 
 def called_step(number, line, fields, before):

@@ -26,6 +26,11 @@ int main(void)
     }
     printf("the next waking is at count %u\n", algolmallet_next_waking(record).value); /* 0 for none */
     printf("%u starts of task 1 came too soon\n", algolmallet_overruns(record, 1).value);
+    reply = algolmallet_why_not(record, 2, 1); /* can task 2 start within one link? */
+    if (reply.refusal != ALGOLMALLET_ACCEPTED)
+        printf("why task 2 won't start is refused by %u\n", reply.refusal); /* 8: it is not inactive */
+    else if (reply.value != ALGOLMALLET_CAN_START)
+        printf("condition %u keeps task 2 from starting\n", reply.value);
     free(record);
     return 0;
 }

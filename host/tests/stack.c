@@ -44,6 +44,7 @@ static void signal_flag(void) { reply = algolmallet_signal(record, 2, true); }
 static void read_flag(void) { reply = algolmallet_read_flag(record, 2); }
 static void next_waking(void) { reply = algolmallet_next_waking(record); }
 static void overruns(void) { reply = algolmallet_overruns(record, 2); }
+static void why_not(void) { reply = algolmallet_why_not(record, 2, 3); }
 static void read_block(void) { reply = algolmallet_read_block(record, 1, area, rows * ALGOLMALLET_ROW_WORDS, data, row_words); }
 static void write_block(void) { reply = algolmallet_write_block(record, 1, area, rows * ALGOLMALLET_ROW_WORDS, data, row_words); }
 static void numbers(void) { reply.refusal = algolmallet_version() && algolmallet_record_size() && algolmallet_record_align() ? 0 : 1; }
@@ -63,6 +64,7 @@ static const struct {
     {"read_block", read_block}, {"write_block", write_block},   {"record_size", numbers},
     {"refusal_text", refusal_text}, {"command_fields", command_fields}, {"status_fields", status_fields},
     {"judge", judge},           {"next_waking", next_waking},     {"overruns", overruns},
+    {"why_not", why_not},
 };
 
 static ucontext_t here, there;

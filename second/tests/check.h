@@ -65,6 +65,7 @@ void again_tests(void);
 void sound_tests(void);
 void panel_tests(void);
 void overruns_tests(void);
+void why_tests(void);
 void wiring_tests(void);
 void runner_tests(void);
 void gen_tests(void);

@@ -166,6 +166,7 @@ int main(int argc, char **argv)
     sound_tests();
     panel_tests();
     overruns_tests();
+    why_tests();
     wiring_tests();
     runner_tests();
     gen_tests();

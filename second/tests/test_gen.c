@@ -23,41 +23,17 @@ static void same_seed_same_input(void)
 
 static void right_rigs_are_right(void)
 {
+    static void (*const makers[])(chance *c, rig *out) = {
+        gen_restarting_rig, gen_family_rig, gen_race_rig,     gen_full_serving_rig, gen_sleepers_rig,
+        gen_listeners_rig,  gen_again_rig,  gen_overruns_rig, gen_stop_rig,         gen_links_rig};
+    enum { SIZES = SIZE_FULL + 1, KINDS = SIZES + sizeof makers / sizeof makers[0] };
     static rig r;
-    for (unsigned i = 0; i < 720; i++) {
+    for (unsigned i = 0; i < 60 * KINDS; i++) {
         chance c = chance_of(6, i);
-        switch (i % 12) {
-        case 3:
-            gen_restarting_rig(&c, &r);
-            break;
-        case 4:
-            gen_family_rig(&c, &r);
-            break;
-        case 5:
-            gen_race_rig(&c, &r);
-            break;
-        case 6:
-            gen_full_serving_rig(&c, &r);
-            break;
-        case 7:
-            gen_sleepers_rig(&c, &r);
-            break;
-        case 8:
-            gen_listeners_rig(&c, &r);
-            break;
-        case 9:
-            gen_again_rig(&c, &r);
-            break;
-        case 10:
-            gen_overruns_rig(&c, &r);
-            break;
-        case 11:
-            gen_stop_rig(&c, &r);
-            break;
-        default:
-            gen_rig(&c, (rig_size)(i % 12), &r);
-            break;
-        }
+        if (i % KINDS < SIZES)
+            gen_rig(&c, (rig_size)(i % KINDS), &r);
+        else
+            makers[i % KINDS - SIZES](&c, &r);
         CHECK_IS(rig_broken_rule(&r), RULE_KEPT);
     }
 }
@@ -127,6 +103,7 @@ static void rounds_of_inputs(void)
     CHECK_IS(t.most_served, SERVED_MAX);
     CHECK(t.panel.off > 0 && t.panel.counts == 0);
     CHECK(t.overruns.off > 0 && t.overruns.zero + t.overruns.above_zero == 0);
+    CHECK(t.why.off > 0 && t.call['Y'][ACCEPTED] == 0);
     CHECK_IS(tally_heard_missing(&t.heard, 1, stdout), 0);
     CHECK_IS(tally_again_missing(&t.again, 1, stdout), 0);
 }
@@ -154,6 +131,10 @@ static void rounds_for_the_panel(void)
     CHECK_IS(t.call['O'][NO_SUCH], t.overruns.task_0 + t.overruns.too_high);
     CHECK_IS(t.call['O'][NOT_SOUND] + t.overruns.off, 0);
     CHECK_IS(tally_overruns_missing(&t.overruns, 1, stdout), 0);
+    CHECK_IS(t.call['Y'][NOT_SOUND] + t.why.off, 0);
+    CHECK_IS(t.call['Y'][WRONG_STATE], t.why.uninvoked + t.why.waiting + t.why.dispatchable);
+    CHECK_IS(t.call['Y'][BAD_FIELD], t.why.links_4 + t.why.links_above);
+    CHECK_IS(tally_why_missing(&t.why, 1, stdout), 0);
 }
 
 static void rounds_of_entries(void)
@@ -165,6 +146,7 @@ static void rounds_of_entries(void)
         CHECK(t.panel.harmed[harm] > 0);
     CHECK_IS(tally_heard_missing_entries(&t.heard, 1, stdout), 0);
     CHECK_IS(tally_overruns_missing_harmed(&t.overruns, 1, stdout), 0);
+    CHECK_IS(tally_why_missing_harmed(&t.why, 1, stdout), 0);
 }
 
 /* Whether the program prints for the input what the comparison expects. */
@@ -199,6 +181,7 @@ static void unhit_counters_are_missed(void)
     static const heard_tally none;
     static const again_tally never, left = {.left = 1};
     static const overruns_tally untold;
+    static const why_tally unasked;
     static const wiring_tally unwired;
     FILE *said = tmpfile();
     CHECK(said != NULL);
@@ -212,6 +195,9 @@ static void unhit_counters_are_missed(void)
     CHECK_IS(tally_overruns_missing(&untold, 1, said), 14);
     CHECK_IS(tally_overruns_missing_off(&untold, 1, said), 1);
     CHECK_IS(tally_overruns_missing_harmed(&untold, 1, said), 7);
+    CHECK_IS(tally_why_missing(&unasked, 1, said), 38);
+    CHECK_IS(tally_why_missing_off(&unasked, 1, said), 1);
+    CHECK_IS(tally_why_missing_harmed(&unasked, 1, said), 10);
     CHECK_IS(tally_wiring_missing(&unwired, 1, said), 24);
     fclose(said);
 }

@@ -204,7 +204,7 @@ static void example_rigs(void)
     snprintf(wiring, sizeof wiring, "%s/wiring", rigs_folder);
     CHECK(check_examples(MODE_RUN, rigs_folder) >= 4);
     CHECK(check_examples(MODE_PANEL, rigs_folder) >= 4);
-    CHECK(check_examples(MODE_PANEL, panel) >= 2);
+    CHECK(check_examples(MODE_PANEL, panel) >= 3);
     CHECK(check_examples(MODE_WIRING, wiring) >= 1);
     CHECK(check_examples(MODE_WIRING_TABLE, wiring) >= 1);
 }

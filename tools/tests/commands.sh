@@ -50,6 +50,7 @@ helps() {
     expect 0 '^Panel:   V ' ./bench --panel --help
     expect 0 '^Panel:   V ' ./bench --help --panel
     expect 0 '^         O task ' ./bench --panel --help
+    expect 0 '^         Y task d ' ./bench --panel --help
     expect_in 0 '^0$' './bench --help | grep -c "^Panel:" || true'
     expect 0 '^Table:   KIND  *NUMBER  *TIMES  *0  1  2' ./wiring --help
     expect 0 '^          4  a rule over the whole rig is broken' ./wiring --help
@@ -84,6 +85,13 @@ runs() {
     expect_in 0 '^0$' './bench rigs/panel/overruns.rig | grep -c "^O" || true'
     expect 0 'overruns of 2  *accepted  *5  *1  *0  *0  *4$' ./bench --table --panel rigs/panel/overruns.rig
     expect 0 'overruns of 0  *6: no such task  *8  *2  *0  *0$' ./bench --table --panel rigs/panel/overruns.rig
+    expect 0 "^Y${tab}0${tab}0${tab}0${tab}0${tab}0$" ./bench --panel rigs/panel/start.rig
+    expect_in 0 "^Y${tab}0${tab}0${tab}1${tab}0${tab}0${tab}1$" './bench --panel < rigs/panel/start.rig'
+    expect 0 "^Y${tab}11${tab}2${tab}6${tab}0${tab}0$" ./bench --panel rigs/panel/start.rig
+    expect_in 0 '^0$' './bench rigs/panel/start.rig | grep -c "^Y" || true'
+    expect 0 'why not 3, 1  *accepted  *0  *1  *0  *0  *condition 1$' ./bench --table --panel rigs/panel/start.rig
+    expect 0 'why not 3, 1  *accepted  *0  *1  *0  *0  *can start$' ./bench --table --panel rigs/panel/start.rig
+    expect 0 'why not 7, 4  *11: more than 3 links  *2  *6  *0  *0$' ./bench --table --panel rigs/panel/start.rig
     expect 1 "^START${tab}3${tab}6$" ./bench --panel rigs/broken/order.rig
     expect 0 '^right' ./rigcheck rigs/morning-rig.rig
     expect_in 0 '^right' './rigcheck < rigs/morning-rig.rig'

@@ -203,6 +203,7 @@ def answers_come_as_lines_come(command):
         ask(there[1], back[0], b"\t1\n", b"Q\t0\t31\t1\t0\t0\t0\n")
         ask_panel(there[1], back[0], b"V\n", b"V\t0\t31\t1\t0\t0\n")
         ask_panel(there[1], back[0], b"O\t1\n", b"O\t0\t31\t1\t0\t0\t0\n")
+        ask_panel(there[1], back[0], b"Y\t1\t0\n", b"Y\t8\t31\t1\t0\t0\n")
         ask(there[1], back[0], b"U\t40\n", b"U\t0\t31\t0\t0\t0\n")
         ask_panel(there[1], back[0], b"V\n", b"V\t0\t31\t0\t0\t0\t40\n")
         os.write(there[1], b"K")

@@ -41,6 +41,8 @@ view 0 waking.svg rigs/panel/waking.rig --picture --panel
 view 0 waking-off.txt rigs/panel/waking.rig --table
 view 0 overruns.txt rigs/panel/overruns.rig --panel --table
 view 0 overruns.svg rigs/panel/overruns.rig --picture --panel
+view 0 start.txt rigs/panel/start.rig --panel --table
+view 0 start.svg rigs/panel/start.rig --picture --panel
 view 0 morning.txt rigs/morning.rig --table --panel
 view 1 order.txt rigs/broken/order.rig --panel --table
 echo "views: $passed passed, $failed failed"

@@ -9,7 +9,7 @@ use Rattle.bench_script.specs.Output.{wrongText}
 
 -- so many bytes of a line are kept; no line that says anything has as many
 abbrev pub lineRoom : ℕ
-lineRoom = 16
+lineRoom = 24
 
 -- one byte more of a line
 unfoldable pub withMore : List ℕ → ℕ → List ℕ

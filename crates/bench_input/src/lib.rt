@@ -10,8 +10,8 @@ ghost use Rattle.bench_input.specs.Line.{lineRoom, lastText, lineNumber,
 // "rig file up to 40,960 bytes", and the four of the line RUN: by then it is known where the rig ends.
 pub const KEEP: usize = 40964;
 
-// Of a script line so many bytes are kept that a longer one shows as too long: no line that says anything has more than 14.
-pub const LINE: usize = 16;
+// Of a script line so many bytes are kept that a longer one shows as too long: no line that says anything has more than 23.
+pub const LINE: usize = 24;
 
 // Above any line's number of a rig file.
 const LINES: usize = 65536;

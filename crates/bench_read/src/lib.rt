@@ -1,7 +1,7 @@
 // The bench runner's input read: what a script line says, and where the rig ends.
 use bench_script::Said;
 ghost use mathlib.Core.Path.{_≡_};
-ghost use Rattle.bench_script.specs.Script.{verbOf, ofPanel, alone, withNumber, withValue, saidOf};
+ghost use Rattle.bench_script.specs.Script.{verbOf, ofPanel, alone, withNumber, withValue, withTwo, saidOf};
 ghost use Rattle.bench_script.specs.Input.{isRun, rigEnd};
 
 // The letters of RUN.
@@ -77,6 +77,19 @@ fn with_value(v: u8, f: u32, b: bool) -> Said
     Said::Wrong
 }
 
+// Two numbers: of the panel's Y both may be any, else the second is a value.
+fn with_two(panel: bool, v: u8, n: u32, x: u32) -> Said
+    ensures { λ r. ⌜ r ≡ withTwo panel v n x ⌝ }
+{
+    if v == b'Y' {
+        return of_panel(panel, Said::WhyNot(n, x));
+    }
+    if 1 < x {
+        return Said::Wrong;
+    }
+    with_value(v, n, x == 1)
+}
+
 // What a script line, without its LF, says, with the panel's verbs on or off.
 pub fn read_line(panel: bool, line: &[u8]) -> Said
     ensures { λ r. ⌜ r ≡ saidOf panel (now (line .entry)) ⌝ }
@@ -102,10 +115,10 @@ pub fn read_line(panel: bool, line: &[u8]) -> Said
         return Said::Wrong;
     }
     let x = decimal::number_in(&line[b..t]);
-    if 1 < x {
+    if decimal::CAP <= x {
         return Said::Wrong;
     }
-    with_value(v, n as u32, x == 1)
+    with_two(panel, v, n as u32, x as u32)
 }
 
 // Whether a line, without its LF, is RUN.

@@ -47,6 +47,10 @@ nextWakingVerb = 86
 abbrev pub overrunsVerb : ℕ
 overrunsVerb = 79
 
+-- and `Y` task links, why it won't start: "yes, or the lowest condition that blocks"
+abbrev pub whyVerb : ℕ
+whyVerb = 89
+
 -- "any other script line .. prints ? alone"
 abbrev pub question : ℕ
 question = 63

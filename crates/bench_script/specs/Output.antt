@@ -12,9 +12,9 @@ use Rattle.bench_script.specs.Letters.{tab, lf, question}
 unfoldable pub fieldsText : List ℕ → List ℕ
 fieldsText numbers = led tab (map dec numbers)
 
--- a number of which 0 says that there is none: "nothing if no task waits on time"
-abbrev pub ifAny : ℕ → List ℕ
-ifAny n = cond (eqb n 0) [] (n ∷ [])
+-- a number of which one says that there is none: 0 of a waking count, "nothing if no task waits on time", 16 of a position
+abbrev pub ifAny : ℕ → ℕ → List ℕ
+ifAny none n = cond (eqb n none) [] (n ∷ [])
 
 -- the verb's letters, the numbers, and LF
 unfoldable pub lineText : List ℕ → List ℕ → List ℕ

@@ -6,9 +6,9 @@ use mathlib.Core.List.{List, [], _∷_}
 use lib.Dec.{ltb, eqb}
 use Rattle.decimal.specs.Decimal.{cap, number}
 use Rattle.text.specs.Split.{split}
-use Rattle.bench_script.specs.Letters.{tab, scheduleVerb, cancelVerb, terminateVerb, finishVerb, tickVerb, untilVerb, cyclesVerb, latchedVerb, unlatchedVerb, signalVerb, askVerb, nextWakingVerb, overrunsVerb}
+use Rattle.bench_script.specs.Letters.{tab, scheduleVerb, cancelVerb, terminateVerb, finishVerb, tickVerb, untilVerb, cyclesVerb, latchedVerb, unlatchedVerb, signalVerb, askVerb, nextWakingVerb, overrunsVerb, whyVerb}
 use Rattle.bench_script.specs.declared.Said.{Said}
-use Rattle.bench_script.specs.declared.Said.the-variants.{Schedule, Cancel, Terminate, Finish, Tick, Until, Cycles, Latched, Unlatched, Signal, Ask, NextWaking, Overruns, Wrong}
+use Rattle.bench_script.specs.declared.Said.the-variants.{Schedule, Cancel, Terminate, Finish, Tick, Until, Cycles, Latched, Unlatched, Signal, Ask, NextWaking, Overruns, WhyNot, Wrong}
 
 -- a verb is one letter; 0 is none
 unfoldable pub verbOf : List ℕ → ℕ
@@ -42,14 +42,18 @@ withNumber panel v n =
 unfoldable pub withValue : ℕ → ℕ → Bool → Said
 withValue v f b = cond (eqb v latchedVerb) (Latched f b) (cond (eqb v unlatchedVerb) (Unlatched f b) (cond (eqb v signalVerb) (Signal f b) Wrong))
 
--- "Script numbers run to 4,294,967,295 and values are 0 or 1; any other script line is refused by 1"
+-- "values are 0 or 1"; of the panel Y, of which both are numbers
+unfoldable pub withTwo : Bool → ℕ → ℕ → ℕ → Said
+withTwo panel v n m = cond (eqb v whyVerb) (ofPanel panel (WhyNot n m)) (cond (ltb m 2) (withValue v n (eqb m 1)) Wrong)
+
+-- "Script numbers run to 4,294,967,295 ..; any other script line is refused by 1"
 unfoldable pub fieldsSay : Bool → List (List ℕ) → Said
 fieldsSay panel [] = Wrong
 fieldsSay panel (v ∷ []) = alone panel (verbOf v)
 fieldsSay panel (v ∷ n ∷ []) = cond (ltb (number n) cap) (withNumber panel (verbOf v) (number n)) Wrong
-fieldsSay panel (v ∷ f ∷ b ∷ []) =
-    cond (ltb (number f) cap && ltb (number b) 2) (withValue (verbOf v) (number f) (eqb (number b) 1)) Wrong
-fieldsSay panel (v ∷ f ∷ b ∷ x ∷ xs) = Wrong
+fieldsSay panel (v ∷ n ∷ m ∷ []) =
+    cond (ltb (number n) cap && ltb (number m) cap) (withTwo panel (verbOf v) (number n) (number m)) Wrong
+fieldsSay panel (v ∷ n ∷ m ∷ x ∷ xs) = Wrong
 
 -- fields are parted by one tab
 unfoldable pub saidOf : Bool → List ℕ → Said

@@ -38,6 +38,7 @@ pub enum Said {
     Ask(u32),
     NextWaking,
     Overruns(u32),
+    WhyNot(u32, u32),
     Wrong,
 }
 
@@ -52,12 +53,12 @@ pub fn put_field(out: &mut [u8], at: usize, n: u32) -> usize
     decimal::put_number(out, a, w)
 }
 
-// The same of a number of which 0 says that there is none: then nothing is written.
-pub fn put_if_any(out: &mut [u8], at: usize, n: u32) -> usize
+// The same of a number of which one, `none`, says that there is none: then nothing is written.
+pub fn put_if_any(out: &mut [u8], at: usize, none: u32, n: u32) -> usize
     requires { ⌜ at + fieldRoom ≤ length (now out) ⌝ }
-    ensures { λ r. ⌜ Wrote (now (out .entry)) at (fieldsText (ifAny n)) (now (out .exit)) r ⌝ }
+    ensures { λ r. ⌜ Wrote (now (out .entry)) at (fieldsText (ifAny none n)) (now (out .exit)) r ⌝ }
 {
-    if n == 0 {
+    if n == none {
         return at;
     }
     put_field(out, at, n)

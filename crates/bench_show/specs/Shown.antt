@@ -6,8 +6,9 @@ use mathlib.Core.List.{List, [], _∷_, _++_}
 use Prim.Native.Nat.{ℕ}
 use lib.Dec.{eqb}
 use lib.ListN.{take}
+use Rattle.rules.specs.Sizes.{positions}
 use Rattle.rules.specs.Calls as R
-use Rattle.bench_script.specs.Letters.{tickVerb, askVerb, nextWakingVerb, overrunsVerb}
+use Rattle.bench_script.specs.Letters.{tickVerb, askVerb, nextWakingVerb, overrunsVerb, whyVerb}
 use Rattle.bench_script.specs.Output.{ifAny, lineText}
 
 -- "Its lent buffer has at least 128 words"
@@ -19,13 +20,15 @@ abbrev pub extraRoom : ℕ
 extraRoom = 1408
 
 -- "bus words or the flag's value": of a tick (K) the words that it wrote, of a reading (Q) the value; of the panel's V "the lowest
--- waking count; nothing if no task waits on time", of O the number of overruns, 0 too
+-- waking count; nothing if no task waits on time", of O the number of overruns, 0 too, of Y the position of the lowest condition that blocks, 0
+-- too, and nothing of a yes, which is `positions`
 unfoldable pub extra : ℕ → R.Report → List ℕ → List ℕ
 extra verb report words =
     cond (eqb verb tickVerb) (take (report .words) words)
     (cond (eqb verb askVerb) (report .value ∷ [])
-    (cond (eqb verb nextWakingVerb) (ifAny (report .value))
-    (cond (eqb verb overrunsVerb) (report .value ∷ []) [])))
+    (cond (eqb verb nextWakingVerb) (ifAny 0 (report .value))
+    (cond (eqb verb overrunsVerb) (report .value ∷ [])
+    (cond (eqb verb whyVerb) (ifAny positions (report .value)) []))))
 
 -- the numbers that every answer has: "answer (0 accepted), count, running task (0 none)", woken and activated. A refused answer's report is
 -- `nothing`: "a refusal shows 0 and 0".

@@ -9,8 +9,13 @@ ghost use Rattle.bench_script.specs.Output.{fieldsText, turnRoom};
 ghost use Rattle.exec.specs.Call.{reportOf, answerOf, ProperAnswer};
 ghost use Rattle.bench_show.specs.Shown.{extraRoom, extra, textOf, wordsLent};
 
-// Bus words of a tick, the value of a flag that was read, the lowest waking count if there is one, a task's number of overruns, nothing of
-// any other call.
+// No waking count, and no condition's position: such a value is not printed.
+const NO_COUNT: u32 = 0;
+
+const NO_POSITION: u32 = 16;
+
+// Bus words of a tick, the value of a flag that was read, the lowest waking count if there is one, a task's number of overruns, the position
+// of the condition that blocks if one does, nothing of any other call.
 fn put_extra(verb: u8, report: Report, words: &[u16], out: &mut [u8], at: usize) -> usize
     requires { ⌜ (length (now words) ≤ wordsLent) × (at + extraRoom ≤ length (now out)) ⌝ }
     ensures { λ r. ⌜ Wrote (now (out .entry)) at (fieldsText (extra verb (reportOf report) (now (words .entry)))) (now (out .exit)) r ⌝ }
@@ -23,10 +28,13 @@ fn put_extra(verb: u8, report: Report, words: &[u16], out: &mut [u8], at: usize)
         return bench_script::put_field(out, at, report.value);
     }
     if verb == b'V' {
-        return bench_script::put_if_any(out, at, report.value);
+        return bench_script::put_if_any(out, at, NO_COUNT, report.value);
     }
     if verb == b'O' {
         return bench_script::put_field(out, at, report.value);
+    }
+    if verb == b'Y' {
+        return bench_script::put_if_any(out, at, NO_POSITION, report.value);
     }
     at
 }

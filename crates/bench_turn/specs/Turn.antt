@@ -15,12 +15,12 @@ use Rattle.exec.specs.Call.{withState}
 use Rattle.exec.specs.declared.Exec.{Exec}
 use Rattle.exec.specs.declared.Step.{Step}
 use Rattle.bench_script.specs.Script.{saidOf}
-use Rattle.bench_script.specs.Letters.{question, scheduleVerb, cancelVerb, terminateVerb, finishVerb, tickVerb, untilVerb, cyclesVerb, latchedVerb, unlatchedVerb, signalVerb, askVerb, nextWakingVerb, overrunsVerb}
+use Rattle.bench_script.specs.Letters.{question, scheduleVerb, cancelVerb, terminateVerb, finishVerb, tickVerb, untilVerb, cyclesVerb, latchedVerb, unlatchedVerb, signalVerb, askVerb, nextWakingVerb, overrunsVerb, whyVerb}
 use Rattle.bench_script.specs.Output.{wrongText, turnRoom}
 use Rattle.bench_show.specs.Shown.{wordsLent, textOf}
 use Rattle.put_text.specs.Wrote.{Wrote}
 use Rattle.bench_script.specs.declared.Said.{Said}
-use Rattle.bench_script.specs.declared.Said.the-variants.{Schedule, Cancel, Terminate, Finish, Tick, Until, Cycles, Latched, Unlatched, Signal, Ask, NextWaking, Overruns, Wrong}
+use Rattle.bench_script.specs.declared.Said.the-variants.{Schedule, Cancel, Terminate, Finish, Tick, Until, Cycles, Latched, Unlatched, Signal, Ask, NextWaking, Overruns, WhyNot, Wrong}
 use Rattle.bench_turn.specs.declared.Turn.{Turn}
 
 -- the letter of a verb
@@ -38,6 +38,7 @@ letterOf (Signal f v) = signalVerb
 letterOf (Ask f) = askVerb
 letterOf NextWaking = nextWakingVerb
 letterOf (Overruns t) = overrunsVerb
+letterOf (WhyNot t d) = whyVerb
 letterOf Wrong = question
 
 -- the call of a line, or that it is none; a tick is lent words of 0
@@ -59,6 +60,7 @@ askedBy (Signal f v) = call (R.signal f (bit v))
 askedBy (Ask f) = call (R.readFlag f)
 askedBy NextWaking = call R.nextWaking
 askedBy (Overruns t) = call (R.readOverruns t)
+askedBy (WhyNot t d) = call (R.whyNot t d)
 askedBy Wrong = none
 
 abbrev pub answerText : ℕ → Step → List ℕ → List ℕ

@@ -39,6 +39,7 @@ fn letter(said: Said) -> u8
         Said::Ask(f) => b'Q',
         Said::NextWaking => b'V',
         Said::Overruns(t) => b'O',
+        Said::WhyNot(t, d) => b'Y',
         Said::Wrong => b'?',
     }
 }
@@ -61,6 +62,7 @@ fn ask(e: Exec, said: Said, words: &mut [u16]) -> Step
         Said::Ask(f) => e.read_flag(f),
         Said::NextWaking => e.next_waking(),
         Said::Overruns(t) => e.overruns(t),
+        Said::WhyNot(t, d) => e.why_not(t, d),
         Said::Wrong => Step {
             exec: e,
             answer: Answer::Refused(WRONG_SHAPE),

@@ -156,4 +156,15 @@ impl Exec {
         let st = self.st;
         self.after(exec_questions::overruns(rig, cycles, st, task))
     }
+
+    // "Why won't it start?", of an inactive task and within 0 to 3 links. The value that is told is the position of the lowest condition that
+    // blocks; 16, which is no position, says that it can.
+    pub fn why_not(self, task: u32, links: u32) -> Step
+        ensures { λ r. ⌜ Meets self (Call.whyNot task links) r [] ⌝ }
+    {
+        let rig = self.rig;
+        let cycles = self.cycles;
+        let st = self.st;
+        self.after(exec_why::why_not(rig, cycles, st, task, links))
+    }
 }

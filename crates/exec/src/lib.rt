@@ -1,5 +1,5 @@
 // The executive: the record, and every call on it by value. What a call does to the record's parts stands in crates of its
-// own (exec_tasks, exec_waits, exec_flags, exec_bus, exec_questions); here it becomes the next record and the answer.
+// own (exec_tasks, exec_waits, exec_flags, exec_bus, exec_questions, exec_why); here it becomes the next record and the answer.
 use chains::NODES;
 use rig_tables::CONDITIONS;
 use rig_tables::CYCLE_FLAGS;

@@ -1,5 +1,5 @@
-// The waits of the running task, and the questions (when the next wait for a count ends, how many of a task's starts came too soon), on a
-// record that is lent to be changed where it stands, in the form of crate exec_lent.
+// The waits of the running task, and the questions (when the next wait for a count ends, how many of a task's starts came too soon, why a task
+// won't start), on a record that is lent to be changed where it stands, in the form of crate exec_lent.
 use exec::Answer;
 use exec::Exec;
 ghost use mathlib.Core.List.{[]};
@@ -53,6 +53,15 @@ pub fn overruns(e: &mut Exec, task: u32) -> Answer
     ensures { λ r. ⌜ Meets (now (e .entry)) (Call.readOverruns task) (stepOf (now (e .exit)) r) [] ⌝ }
 {
     let s = (*e).overruns(task);
+    *e = s.exec;
+    s.answer
+}
+
+// The lowest condition that blocks the task's start within so many links.
+pub fn why_not(e: &mut Exec, task: u32, links: u32) -> Answer
+    ensures { λ r. ⌜ Meets (now (e .entry)) (Call.whyNot task links) (stepOf (now (e .exit)) r) [] ⌝ }
+{
+    let s = (*e).why_not(task, links);
     *e = s.exec;
     s.answer
 }

@@ -32,7 +32,7 @@ pub fn overruns(rig: Rig, cycles: [Cycle; CYCLES], st: State, task: u32) -> Outc
     ensures { λ r. ⌜ Tells rig cycles st (readOverruns task) r [] ⌝ }
 {
     let sound = exec_sound::sound(rig, cycles, st);
-    let n = exec_refusals::of_asked(sound, rig.tasks, task);
+    let n = exec_asking::of_asked(sound, rig.tasks, task);
     if n != 0 {
         return exec_outcome::refused(st, n);
     }

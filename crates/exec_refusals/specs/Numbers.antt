@@ -14,7 +14,7 @@ noneSuch = 6
 abbrev pub notAllowed : ℕ
 notAllowed = 7
 
--- "schedule of an invoked task, cancel of an uninvoked one, terminate of one not active"
+-- "schedule of an invoked task, cancel of an uninvoked one, terminate of one not active"; (L13) "if the task isn't inactive"
 abbrev pub wrongState : ℕ
 wrongState = 8
 
@@ -25,6 +25,10 @@ pastCount = 9
 -- "a lent buffer has not the length that this paper states for it"
 abbrev pub wrongLength : ℕ
 wrongLength = 10
+
+-- (L13) "for d above 3"
+abbrev pub tooManyLinks : ℕ
+tooManyLinks = 11
 
 -- "the record handed in is not sound"
 abbrev pub notSound : ℕ

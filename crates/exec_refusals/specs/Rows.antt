@@ -7,12 +7,14 @@ use lib.Dec.{eqb, leb, ltb}
 use Rattle.chains.specs.Held.{at}
 use Rattle.rig.specs.declared.Cycle.{Cycle}
 use Rattle.rig.specs.declared.Row.{Row}
-use Rattle.rules.specs.Rig.{isMinor}
-use Rattle.rules.specs.Calls.{Refusal, row, decide, noSuch, isActivation, lastCount}
+use Rattle.rules.specs.Rig.{isMinor, isActivation}
+use Rattle.rules.specs.State.{inactive}
+use Rattle.rules.specs.Starting.{mostLinks}
+use Rattle.rules.specs.Calls.{Refusal, row, decide, noSuch, lastCount}
 use Rattle.rules_laws.specs.Refusals.{decide-here, decide-next}
 use Rattle.compool.specs.View.{rowsOf}
 use Rattle.exec_queue.specs.View.{minorOf}
-use Rattle.exec_refusals.specs.Numbers.{nobody, noneSuch, notAllowed, wrongState, pastCount, wrongLength, notSound, tickWords}
+use Rattle.exec_refusals.specs.Numbers.{nobody, noneSuch, notAllowed, wrongState, pastCount, wrongLength, tooManyLinks, notSound, tickWords}
 
 -- "For a call, 12 comes first, then the smallest number."
 abbrev pub judge : Bool → List Refusal → ℕ
@@ -54,6 +56,14 @@ tickRows count words = row pastCount (leb lastCount count) ∷ row wrongLength (
 -- a question on a task
 abbrev pub askedRows : ℕ → ℕ → List Refusal
 askedRows tasks t = row noneSuch (noSuch tasks t) ∷ []
+
+-- the question why a task won't start, within so many links
+abbrev pub whyRows : ℕ → List ℕ → ℕ → ℕ → List Refusal
+whyRows tasks state t d =
+    row noneSuch (noSuch tasks t) ∷
+    row wrongState (not (eqb (at state t) inactive)) ∷
+    row tooManyLinks (ltb mostLinks d) ∷
+    []
 
 -- "The area has exactly 33 words a row; the caller's buffer has exactly the row's words", by lengths
 abbrev pub wrongLengths : ℕ → List Row → ℕ → ℕ → ℕ → Bool

@@ -10,7 +10,7 @@ ghost use Prim.Native.Nat.{_-_, _<_};
 ghost use lib.ListN.{getD};
 ghost use Rattle.compool.specs.View.{rowsOf};
 ghost use Rattle.laws.specs.Bits.{bit};
-ghost use Rattle.exec_refusals.specs.Rows.{judge, runRows, countRows, flagRows, signalRows, taskRows, tickRows, blockRows, askedRows};
+ghost use Rattle.exec_refusals.specs.Rows.{judge, runRows, countRows, flagRows, signalRows, taskRows, tickRows, blockRows};
 
 // The numbers of the paper's table.
 pub const NOBODY_RUNS: u8 = 5;
@@ -170,19 +170,6 @@ pub fn of_tick(sound: bool, count: u32, words: usize) -> u8
     }
     if words < TICK_WORDS {
         return WRONG_LENGTH;
-    }
-    0
-}
-
-// Of a question on a task: it needs no running task.
-pub fn of_asked(sound: bool, tasks: u8, t: u32) -> u8
-    ensures { λ r. ⌜ r ≡ judge sound (askedRows tasks t) ⌝ }
-{
-    if !sound {
-        return NOT_SOUND;
-    }
-    if sound_tables::no_such(tasks as usize, t as usize) {
-        return NO_SUCH;
     }
     0
 }

@@ -206,6 +206,17 @@ pub extern "C" fn algolmallet_overruns(e: &mut Exec, task: u32) -> Reply
     s.reply
 }
 
+// Why the inactive task won't start within so many links. The value is the position of the lowest condition that blocks, 16 for none; no running
+// task is needed. The record is what it was.
+#[no_mangle]
+pub extern "C" fn algolmallet_why_not(e: &mut Exec, task: u32, links: u32) -> Reply
+    ensures { λ r. ⌜ Replies (now (e .entry)) (Call.whyNot task links) (codedOf (now (e .exit)) r) [] ⌝ }
+{
+    let s = host_replies::told((*e).why_not(task, links));
+    *e = s.exec;
+    s.reply
+}
+
 // The monitor's side of the bus: words that it hears, taken apart and judged. No record is needed.
 #[no_mangle]
 pub extern "C" fn algolmallet_command_fields(word: u16) -> CommandNumbers

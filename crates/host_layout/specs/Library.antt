@@ -8,6 +8,6 @@ recordSize = 10920
 abbrev pub recordAlign : ℕ
 recordAlign = 4
 
--- version 0.7.0 as one number, larger for a later one: 1,000,000 for each of the first, 1,000 for each of the second, 1 for each of the third
+-- version 0.8.0 as one number, larger for a later one: 1,000,000 for each of the first, 1,000 for each of the second, 1 for each of the third
 abbrev pub version : ℕ
-version = 0 * 1000000 + 7 * 1000 + 0
+version = 0 * 1000000 + 8 * 1000 + 0

@@ -6,7 +6,7 @@ const RECORD_SIZE: usize = 10920;
 
 const RECORD_ALIGN: usize = 4;
 
-const VERSION: u32 = 7000;
+const VERSION: u32 = 8000;
 
 // The version, of which the header has the same number.
 pub fn version_number() -> u32

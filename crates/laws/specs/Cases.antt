@@ -61,3 +61,7 @@ and-yes false = refl
 pub and-no : (b : Bool) → (b && false) ≡ false
 and-no true = refl
 and-no false = refl
+
+pub or-no : (b : Bool) → (b || false) ≡ b
+or-no true = refl
+or-no false = refl

@@ -2,6 +2,7 @@ pub mod All
 pub mod Any
 pub mod Bits
 pub mod First
+pub mod Lowest
 pub mod Functions
 pub mod Iter
 pub mod Members

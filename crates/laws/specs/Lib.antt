@@ -11,6 +11,7 @@ pub mod Functions
 pub mod Members
 pub mod Order
 pub mod First
+pub mod Lowest
 pub mod Stores
 pub mod Bits
 pub mod Ordered

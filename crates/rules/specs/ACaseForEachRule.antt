@@ -10,7 +10,7 @@ use Rattle.laws.specs.Any.{any}
 use Rattle.laws.specs.Tables.{total, over}
 use Rattle.laws.specs.Put.{put}
 use Rattle.word_parts.specs.Packed.{commandWord}
-use Rattle.rules.specs.Rig.{Rig, inCycle, isMinor}
+use Rattle.rules.specs.Rig.{Rig, inCycle, isMinor, isActivation}
 use Rattle.rules.specs.State.{withOverruns, blank}
 use Rattle.rules.specs.Conditions.{relax, met, drive, names}
 use Rattle.rules.specs.Serving.{activate, tooSoon, mostOverruns, oneMore, overrun, takes, rouse, wake, ready, offer, offers, serveFlag, made, serving, serve}
@@ -20,9 +20,9 @@ use Rattle.rules.specs.Running.{best, chosen, dispatch}
 use Rattle.rules.specs.Bus.{written, copied, rowWords, busWords}
 use Rattle.rules.specs.NextWaking.{lowestWaking}
 use Rattle.rules.specs.Calls.{schedule, cancel, terminate, finish, tick, waitUntil, waitFor, latched, unlatched, signal, readFlag, readBlock, writeBlock, nextWaking, readOverruns}
-use Rattle.rules.specs.Calls.{scheduled, finished, terminated, cancelled, cycleQueue, ticked, effect, decide, noSuch, isActivation, lastCount, wrongBlock, refusals, refusal, wordsAt, lent, output, tested, ended, again, settled, accepted, after, step, run, started, start}
+use Rattle.rules.specs.Calls.{scheduled, finished, terminated, cancelled, cycleQueue, ticked, effect, decide, noSuch, lastCount, wrongBlock, refusals, refusal, wordsAt, lent, output, tested, ended, again, settled, accepted, after, step, run, started, start}
 use Rattle.rules.specs.Overruns.{servingEvents, serveEvents, againEvents, schedulingOf, acceptedEvents, eventsIf, eventsFrom, startEvents, eventsOf, overrunsCounted}
-use Rattle.rules.specs.Scripts.{TaskLine, MinorLine, T, C, A, M, B, ofTask, ofCondition, numbers, ofLine, ofCycle, rig, tick₀, startAt, seen, Case, shown, case, caseAt, bench, morningCalls}
+use Rattle.rules.specs.Scripts.{TaskLine, MinorLine, T, C, A, M, B, ofTask, ofCondition, numbers, ofLine, ofCycle, rig, tick₀, startAt, seen, Case, shown, Holds, case, caseAt, bench, morningCalls}
 use Rattle.rules.specs.Scripts.{runs, answers, serves, hears, writes, reads, lends, sends, stateIs, conditionIs, valueIs, overrunsIs, waitFlag, waitTime, _and_}
 
 -- ---- rigs that several cases use
@@ -1116,9 +1116,6 @@ pub countedAfter : ℕ → ℕ
 countedAfter n = overrunsCounted (pulsed 5) 2 (eventsOf (pulsed 5) (take n (starts-that-came-too-soon .calls)))
 
 -- ---- the statement
-
-abbrev pub Holds : Case → Type 0
-Holds c = shown c ≡ c .shows
 
 -- each case shows what it is to show
 pub cases-hold :

@@ -5,10 +5,9 @@ use Prim.Native.Nat.{ℕ, zero, suc, _+_, _%_}
 use lib.Dec.{leb, ltb, eqb}
 use lib.ListN.{length, set}
 use Rattle.laws.specs.Iter.{iter}
-use Rattle.laws.specs.Any.{any}
 use Rattle.laws.specs.Put.{put}
-use Rattle.rules.specs.Sizes.{mostTasks, minorCycles, flagsACycle, tickWords}
-use Rattle.rules.specs.Rig.{Rig, isMinor}
+use Rattle.rules.specs.Sizes.{minorCycles, flagsACycle, tickWords}
+use Rattle.rules.specs.Rig.{Rig, isMinor, notPlain}
 use Rattle.rules.specs.State.{State, Entry, Work, Done, stateOf, valueOf, overrunsOf, withCount, withTables, withChains, withOverruns, withRunning, active, on, off, uninvoked, inactive, blank}
 use Rattle.rules.specs.Conditions.{relax, met}
 use Rattle.rules.specs.Serving.{push, activate, serve}
@@ -17,12 +16,14 @@ use Rattle.rules.specs.Family.{family, cleared, deserted, offs}
 use Rattle.rules.specs.Running.{dispatch}
 use Rattle.rules.specs.Bus.{areaWords, blockWords, written, copied, busWords}
 use Rattle.rules.specs.NextWaking.{lowestWaking}
+use Rattle.rules.specs.Starting.{mostLinks, lowestBlocking}
 
 -- Every call that the paper has on a record, and the questions that customers asked for later. A value is 0 or 1; a list is what a
 -- lent buffer holds.
 --   tick: its buffer; readBlock, writeBlock: row, area, the caller's buffer
 --   nextWaking: "When does the bench next wake someone?"
 --   readOverruns: how many of a task's starts came too soon
+--   whyNot: "Why won't it start?", of a task and within how many links
 pub data Call : Type 0 where
   schedule cancel terminate : ℕ → Call
   finish : Call
@@ -33,6 +34,7 @@ pub data Call : Type 0 where
   readBlock writeBlock : ℕ → List ℕ → List ℕ → Call
   nextWaking : Call
   readOverruns : ℕ → Call
+  whyNot : ℕ → ℕ → Call
 
 -- which calls are ticks
 unfoldable pub isTick : Call → Bool
@@ -51,6 +53,7 @@ isTick (readBlock k area buffer) = false
 isTick (writeBlock k area buffer) = false
 isTick nextWaking = false
 isTick (readOverruns t) = false
+isTick (whyNot t d) = false
 
 -- ---- what each call does before its queue is served
 
@@ -134,6 +137,7 @@ effect r s (readBlock k area buffer) = quiet s
 effect r s (writeBlock k area buffer) = quiet s
 effect r s nextWaking = quiet s
 effect r s (readOverruns t) = quiet s
+effect r s (whyNot t d) = quiet s
 
 -- ---- L3: what is queued is served, and "after finish and terminate" there is more
 
@@ -154,6 +158,7 @@ ended s (readBlock k area buffer) = 0
 ended s (writeBlock k area buffer) = 0
 ended s nextWaking = 0
 ended s (readOverruns t) = 0
+ended s (whyNot t d) = 0
 
 -- a serving after another: their numbers are added
 abbrev pub further : Done → Done → Done
@@ -202,17 +207,6 @@ noSuch many n = eqb n 0 || ltb many n
 abbrev pub notController : Rig → State → ℕ → Bool
 notController r s t = not (eqb (r .controller t) (s .running))
 
--- the flag is a task's activation flag
-abbrev pub activationOne : (ℕ → ℕ) → ℕ → ℕ → Bool
-activationOne activation f i = eqb (activation (i + 1)) f
-
-unfoldable pub isActivation : (ℕ → ℕ) → ℕ → Bool
-isActivation activation f = any mostTasks (activationOne activation f)
-
--- 7: "signal of an activation or minor-cycle flag"
-abbrev pub notPlain : Rig → ℕ → Bool
-notPlain r f = isMinor (r .minor) f || isActivation (r .activation) f
-
 -- 8: "schedule of an invoked task, cancel of an uninvoked one, terminate of one not active"
 abbrev pub isUninvoked : State → ℕ → Bool
 isUninvoked s t = eqb (stateOf s t) uninvoked
@@ -222,6 +216,10 @@ isInvoked s t = not (isUninvoked s t)
 
 abbrev pub notActive : State → ℕ → Bool
 notActive s t = eqb (active (stateOf s t)) 0
+
+-- and (L13) "if the task isn't inactive"
+abbrev pub notInactive : State → ℕ → Bool
+notInactive s t = not (eqb (stateOf s t) inactive)
 
 -- 9: "waking count above 2,147,483,647; tick at that count"
 unfoldable pub lastCount : ℕ
@@ -256,6 +254,8 @@ refusals r s (writeBlock k area buffer) =
 refusals r s nextWaking = []
 -- "A call reads it for any task, with no running task needed. Refusals: 12, then 6."
 refusals r s (readOverruns t) = row 6 (noSuch (r .tasks) t) ∷ []
+-- "It needs no running task. Refusals: 12, then 6, then 8 if the task isn't inactive, then 11 for d above 3."
+refusals r s (whyNot t d) = row 6 (noSuch (r .tasks) t) ∷ row 8 (notInactive s t) ∷ row 11 (ltb mostLinks d) ∷ []
 
 unfoldable pub refusal : Rig → State → Call → ℕ
 refusal r s k = decide (refusals r s k)
@@ -309,6 +309,7 @@ lent (readBlock k area buffer) = buffer
 lent (writeBlock k area buffer) = area
 lent nextWaking = []
 lent (readOverruns t) = []
+lent (whyNot t d) = []
 
 -- what an accepted call that left state s puts out beside the flags it served: how many bus words, the flag's value or a question's
 -- answer, and what the lent buffer holds after it
@@ -339,6 +340,8 @@ output r s (writeBlock k area buffer) = record { words = 0; value = 0; lent = wr
 -- "the lowest waking count among tasks waiting on time", 0 for none
 output r s nextWaking = record { words = 0; value = lowestWaking s; lent = [] }
 output r s (readOverruns t) = record { words = 0; value = overrunsOf s t; lent = [] }
+-- "yes, or the lowest condition that blocks"
+output r s (whyNot t d) = record { words = 0; value = lowestBlocking r s d t; lent = [] }
 
 -- ---- a step, a run, the start
 

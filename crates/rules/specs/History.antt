@@ -11,7 +11,7 @@ use Rattle.laws.specs.Members.{In}
 use Rattle.laws.specs.Ordered.{Ordered}
 use Rattle.rules.specs.Rig.{Rig}
 use Rattle.rules.specs.State.{Chain, timeChain, chainOf, State, stateOf, valueOf, wakeOf, waiting}
-use Rattle.rules.specs.Calls.{Call, schedule, cancel, terminate, finish, tick, waitUntil, waitFor, latched, unlatched, signal, readFlag, readBlock, writeBlock, nextWaking, readOverruns, refusal, step, start}
+use Rattle.rules.specs.Calls.{Call, schedule, cancel, terminate, finish, tick, waitUntil, waitFor, latched, unlatched, signal, readFlag, readBlock, writeBlock, nextWaking, readOverruns, whyNot, refusal, step, start}
 
 -- call: the number of the call, in the run, with which the wait began
 -- chain: the chain of the flag and value waited for, or the time chain
@@ -49,6 +49,7 @@ begins s (readBlock k area buffer) = nothing
 begins s (writeBlock k area buffer) = nothing
 begins s nextWaking = nothing
 begins s (readOverruns t) = nothing
+begins s (whyNot t d) = nothing
 
 -- task t begins, with call number n
 unfoldable pub noted : ℕ → ℕ → Begins → History → History

@@ -9,10 +9,12 @@ pub mod Running
 pub mod Bus
 pub mod Frame
 pub mod NextWaking
+pub mod Starting
 pub mod Calls
 pub mod Scripts
 pub mod ACaseForEachRule
 pub mod AFrameOfThreeRows
+pub mod AnAnswerForEachWay
 pub mod Morning
 pub mod RigOk
 pub mod Soundness
@@ -22,4 +24,5 @@ pub mod History
 pub mod Waking
 pub mod Reasons
 pub mod Overruns
+pub mod WhyNot
 pub mod Laws

@@ -11,7 +11,8 @@ use Rattle.laws.specs.Any.{any}
 use Rattle.laws.specs.Tables.{total, over}
 use Rattle.laws.specs.Put.{put}
 use Rattle.word_parts.specs.Packed.{commandWord}
-use Rattle.rules.specs.Rig.{Rig, inCycle, isMinor}
+use Rattle.rules.specs.Sizes.{positions}
+use Rattle.rules.specs.Rig.{Rig, inCycle, isMinor, isActivation}
 use Rattle.rules.specs.State.{State, blank}
 use Rattle.rules.specs.Conditions.{relax, met, drive, names}
 use Rattle.rules.specs.Serving.{activate, tooSoon, mostOverruns, oneMore, overrun, takes, rouse, wake, ready, offer, offers, serveFlag, made, serving, serve}
@@ -19,8 +20,8 @@ use Rattle.rules.specs.Waiting.{waitOn, waitUntilCount, leave, wakeDue}
 use Rattle.rules.specs.Family.{family, cleared, deserted, offs}
 use Rattle.rules.specs.Running.{best, chosen, dispatch}
 use Rattle.rules.specs.Bus.{written, copied, rowWords, busWords}
-use Rattle.rules.specs.Calls.{Call, schedule, cancel, terminate, finish, tick, waitUntil, waitFor, latched, unlatched, signal, readFlag, readBlock, writeBlock, nextWaking, readOverruns, Step}
-use Rattle.rules.specs.Calls.{tested, scheduled, finished, terminated, cancelled, cycleQueue, ticked, effect, ended, again, settled, decide, noSuch, isActivation, lastCount, wrongBlock, refusals, refusal, wordsAt, lent, output, accepted, after, step, run, started, start}
+use Rattle.rules.specs.Calls.{Call, schedule, cancel, terminate, finish, tick, waitUntil, waitFor, latched, unlatched, signal, readFlag, readBlock, writeBlock, nextWaking, readOverruns, whyNot, Step}
+use Rattle.rules.specs.Calls.{tested, scheduled, finished, terminated, cancelled, cycleQueue, ticked, effect, ended, again, settled, decide, noSuch, lastCount, wrongBlock, refusals, refusal, wordsAt, lent, output, accepted, after, step, run, started, start}
 use Rattle.rules.specs.Scripts.{ofTask, ofCondition, numbers, ofLine, ofCycle, rig, tick₀, bench, morningCalls}
 
 -- ---- "prints verb, answer (0 accepted), count, running task (0 none), then, if accepted, bus words or the flag's value"
@@ -28,7 +29,7 @@ use Rattle.rules.specs.Scripts.{ofTask, ofCondition, numbers, ofLine, of
 
 -- a printed line: the verb and the numbers behind it; the runner has no verb for a block
 pub data Line : Type 0 where
-  START S X Z F K U R L N G Q «V» O block : List ℕ → Line
+  START S X Z F K U R L N G Q «V» O Y block : List ℕ → Line
 
 verb : Call → List ℕ → Line
 verb (schedule t) = S
@@ -46,6 +47,7 @@ verb (readBlock k area buffer) = block
 verb (writeBlock k area buffer) = block
 verb nextWaking = «V»
 verb (readOverruns t) = O
+verb (whyNot t d) = Y
 
 -- "bus words or the flag's value"
 told : Call → Step → List ℕ
@@ -64,6 +66,7 @@ told (readBlock k area buffer) p = []
 told (writeBlock k area buffer) p = []
 told nextWaking p = cond (eqb (p .answer .report .value) 0) [] (p .answer .report .value ∷ [])
 told (readOverruns t) p = p .answer .report .value ∷ []
+told (whyNot t d) p = cond (eqb (p .answer .report .value) positions) [] (p .answer .report .value ∷ [])
 
 line : Call → Step → Line
 line k p =

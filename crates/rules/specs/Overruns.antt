@@ -11,7 +11,7 @@ use lib.ListN.{length}
 use Rattle.rules.specs.Rig.{Rig}
 use Rattle.rules.specs.State.{State, Entry, Work, Done, stateOf, active, on, blank}
 use Rattle.rules.specs.Serving.{tooSoon, serveFlag, inactives, serve}
-use Rattle.rules.specs.Calls.{Call, schedule, cancel, terminate, finish, tick, waitUntil, waitFor, latched, unlatched, signal, readFlag, readBlock, writeBlock, nextWaking, readOverruns, effect, ended, tested, scheduled, refusal, step, start}
+use Rattle.rules.specs.Calls.{Call, schedule, cancel, terminate, finish, tick, waitUntil, waitFor, latched, unlatched, signal, readFlag, readBlock, writeBlock, nextWaking, readOverruns, whyNot, effect, ended, tested, scheduled, refusal, step, start}
 use Rattle.rules.specs.Reasons.{MinorCycleFlag}
 
 -- ---- one overrun, in words
@@ -66,6 +66,7 @@ schedulingOf (readBlock k area buffer) h = h
 schedulingOf (writeBlock k area buffer) h = h
 schedulingOf nextWaking h = h
 schedulingOf (readOverruns t) h = h
+schedulingOf (whyNot t d) h = h
 
 -- an accepted call
 unfoldable pub acceptedEvents : Rig → State → Call → List Event → List Event

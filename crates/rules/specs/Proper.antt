@@ -1,7 +1,7 @@
 -- PROPER CALLS: "values are 0 or 1". A value comes from a script line or as a truth value, and is no other number.
 use mathlib.Core.List.{List, [], _∷_}
 use Prim.Native.Nat.{_≤_}
-use Rattle.rules.specs.Calls.{Call, schedule, cancel, terminate, finish, tick, waitUntil, waitFor, latched, unlatched, signal, readFlag, readBlock, writeBlock, nextWaking, readOverruns}
+use Rattle.rules.specs.Calls.{Call, schedule, cancel, terminate, finish, tick, waitUntil, waitFor, latched, unlatched, signal, readFlag, readBlock, writeBlock, nextWaking, readOverruns, whyNot}
 
 abbrev pub Proper : Call → Type 0
 Proper (schedule t) = Unit {0}
@@ -19,6 +19,7 @@ Proper (readBlock k area buffer) = Unit {0}
 Proper (writeBlock k area buffer) = Unit {0}
 Proper nextWaking = Unit {0}
 Proper (readOverruns t) = Unit {0}
+Proper (whyNot t d) = Unit {0}
 
 -- of every call of a run
 abbrev pub ProperRun : List Call → Type 0

@@ -7,9 +7,10 @@ use Prim.Native.Nat.{ℕ, _+_, _≤_, _<_}
 use lib.ListN.{length}
 use Rattle.rules.specs.Sizes.{mostTasks, minorCycles, flagsACycle, tickWords}
 use Rattle.rules.specs.Rig.{Rig}
-use Rattle.rules.specs.State.{State, stateOf, active, uninvoked}
+use Rattle.rules.specs.State.{State, stateOf, active, uninvoked, inactive}
 use Rattle.rules.specs.Bus.{areaWords, blockWords}
-use Rattle.rules.specs.Calls.{lastCount, Call, schedule, cancel, terminate, finish, tick, waitUntil, waitFor, latched, unlatched, signal, readFlag, readBlock, writeBlock, nextWaking, readOverruns}
+use Rattle.rules.specs.Starting.{mostLinks}
+use Rattle.rules.specs.Calls.{lastCount, Call, schedule, cancel, terminate, finish, tick, waitUntil, waitFor, latched, unlatched, signal, readFlag, readBlock, writeBlock, nextWaking, readOverruns, whyNot}
 
 -- what each number says of a call; ⊥ where the call cannot meet it
 pub record Reasons : Type 1 where
@@ -19,6 +20,7 @@ pub record Reasons : Type 1 where
   pub eight : Type 0
   pub nine : Type 0
   pub ten : Type 0
+  pub eleven : Type 0
 
 -- 5: "any call on a record but the tick .., while no task is running"
 abbrev pub NobodyRuns : State → Type 0
@@ -46,15 +48,16 @@ naming r s t wrong =
       eight = wrong;
       nine = ⊥;
       ten = ⊥;
+      eleven = ⊥;
     }
 
 -- 7: "signal of an activation or minor-cycle flag; wait on or reading of a minor-cycle flag"
 abbrev pub flagging : Rig → State → ℕ → Type 0 → Reasons
-flagging r s f wrong = record { five = NobodyRuns s; six = NoSuch (r .flags) f; seven = wrong; eight = ⊥; nine = ⊥; ten = ⊥ }
+flagging r s f wrong = record { five = NobodyRuns s; six = NoSuch (r .flags) f; seven = wrong; eight = ⊥; nine = ⊥; ten = ⊥; eleven = ⊥ }
 
 -- 9: "waking count above 2,147,483,647"
 abbrev pub waking : State → ℕ → Reasons
-waking s count = record { five = NobodyRuns s; six = ⊥; seven = ⊥; eight = ⊥; nine = lastCount < count; ten = ⊥ }
+waking s count = record { five = NobodyRuns s; six = ⊥; seven = ⊥; eight = ⊥; nine = lastCount < count; ten = ⊥; eleven = ⊥ }
 
 -- 10: "The area has exactly 33 words a row; the caller's buffer has exactly the row's words."
 abbrev pub blocking : Rig → State → ℕ → List ℕ → List ℕ → Reasons
@@ -66,6 +69,7 @@ blocking r s k area buffer =
       eight = ⊥;
       nine = ⊥;
       ten = (length area ≢ areaWords r) ⊎ (length buffer ≢ blockWords r k);
+      eleven = ⊥;
     }
 
 abbrev pub reasons : Rig → State → Call → Reasons
@@ -73,10 +77,10 @@ abbrev pub reasons : Rig → State → Call → Reasons
 reasons r s (schedule t) = naming r s t (stateOf s t ≢ uninvoked)
 reasons r s (cancel t) = naming r s t (stateOf s t ≡ uninvoked)
 reasons r s (terminate t) = naming r s t (active (stateOf s t) ≡ 0)
-reasons r s finish = record { five = NobodyRuns s; six = ⊥; seven = ⊥; eight = ⊥; nine = ⊥; ten = ⊥ }
+reasons r s finish = record { five = NobodyRuns s; six = ⊥; seven = ⊥; eight = ⊥; nine = ⊥; ten = ⊥; eleven = ⊥ }
 -- 9: "tick at that count"; 10: "Its lent buffer has at least 128 words"
 reasons r s (tick buffer) =
-    record { five = ⊥; six = ⊥; seven = ⊥; eight = ⊥; nine = lastCount ≤ s .count; ten = length buffer < tickWords }
+    record { five = ⊥; six = ⊥; seven = ⊥; eight = ⊥; nine = lastCount ≤ s .count; ten = length buffer < tickWords; eleven = ⊥ }
 reasons r s (waitUntil t) = waking s t
 reasons r s (waitFor n) = waking s (s .count + n)
 reasons r s (latched f v) = flagging r s f (MinorCycleFlag r f)
@@ -86,9 +90,20 @@ reasons r s (readFlag f) = flagging r s f (MinorCycleFlag r f)
 reasons r s (readBlock k area buffer) = blocking r s k area buffer
 reasons r s (writeBlock k area buffer) = blocking r s k area buffer
 -- "No running task is needed. Refusals: 12 alone."
-reasons r s nextWaking = record { five = ⊥; six = ⊥; seven = ⊥; eight = ⊥; nine = ⊥; ten = ⊥ }
+reasons r s nextWaking = record { five = ⊥; six = ⊥; seven = ⊥; eight = ⊥; nine = ⊥; ten = ⊥; eleven = ⊥ }
 -- "A call reads it for any task, with no running task needed. Refusals: 12, then 6."
-reasons r s (readOverruns t) = record { five = ⊥; six = NoSuch (r .tasks) t; seven = ⊥; eight = ⊥; nine = ⊥; ten = ⊥ }
+reasons r s (readOverruns t) = record { five = ⊥; six = NoSuch (r .tasks) t; seven = ⊥; eight = ⊥; nine = ⊥; ten = ⊥; eleven = ⊥ }
+-- "It needs no running task. Refusals: 12, then 6, then 8 if the task isn't inactive, then 11 for d above 3."
+reasons r s (whyNot t d) =
+    record {
+      five = ⊥;
+      six = NoSuch (r .tasks) t;
+      seven = ⊥;
+      eight = stateOf s t ≢ inactive;
+      nine = ⊥;
+      ten = ⊥;
+      eleven = mostLinks < d;
+    }
 
 -- "For a call, .. the smallest number": number n is given exactly when its reason holds and none before it
 pub record Exactly (n : ℕ) (w : Reasons) : Type 0 where
@@ -98,5 +113,6 @@ pub record Exactly (n : ℕ) (w : Reasons) : Type 0 where
   pub eight : (n ≡ 8) ↔ (w .eight × (w .five → ⊥) × (w .six → ⊥) × (w .seven → ⊥))
   pub nine : (n ≡ 9) ↔ (w .nine × (w .five → ⊥) × (w .six → ⊥) × (w .seven → ⊥) × (w .eight → ⊥))
   pub ten : (n ≡ 10) ↔ (w .ten × (w .five → ⊥) × (w .six → ⊥) × (w .seven → ⊥) × (w .eight → ⊥) × (w .nine → ⊥))
+  pub eleven : (n ≡ 11) ↔ (w .eleven × (w .five → ⊥) × (w .six → ⊥) × (w .seven → ⊥) × (w .eight → ⊥) × (w .nine → ⊥) × (w .ten → ⊥))
   -- 0: accepted
-  pub none : (n ≡ 0) ↔ ((w .five → ⊥) × (w .six → ⊥) × (w .seven → ⊥) × (w .eight → ⊥) × (w .nine → ⊥) × (w .ten → ⊥))
+  pub none : (n ≡ 0) ↔ ((w .five → ⊥) × (w .six → ⊥) × (w .seven → ⊥) × (w .eight → ⊥) × (w .nine → ⊥) × (w .ten → ⊥) × (w .eleven → ⊥))

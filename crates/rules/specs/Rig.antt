@@ -1,10 +1,10 @@
 -- THE RIG as the rules see it: what a rig file says, by number.
 -- Tasks and flags are numbered from 1, and a place that the file does not fill reads as 0.
-use mathlib.Core.Bool.{Bool}
+use mathlib.Core.Bool.{Bool, _||_}
 use Prim.Native.Nat.{ℕ, _+_, _*_}
 use lib.Dec.{eqb}
 use Rattle.laws.specs.Any.{any}
-use Rattle.rules.specs.Sizes.{positions, minorCycles, flagsACycle}
+use Rattle.rules.specs.Sizes.{mostTasks, positions, minorCycles, flagsACycle}
 
 -- "B, sender, its sub-address, receiver, its sub-address, words, period, phase"
 pub record Row : Type 0 where
@@ -57,3 +57,14 @@ minorOne minor f c = inCycle (minor c) f
 
 unfoldable pub isMinor : (ℕ → ℕ → ℕ) → ℕ → Bool
 isMinor minor f = any minorCycles (minorOne minor f)
+
+-- the flag is a task's activation flag
+abbrev pub activationOne : (ℕ → ℕ) → ℕ → ℕ → Bool
+activationOne activation f i = eqb (activation (i + 1)) f
+
+unfoldable pub isActivation : (ℕ → ℕ) → ℕ → Bool
+isActivation activation f = any mostTasks (activationOne activation f)
+
+-- "signal of an activation or minor-cycle flag" is refused: a plain flag is neither
+abbrev pub notPlain : Rig → ℕ → Bool
+notPlain r f = isMinor (r .minor) f || isActivation (r .activation) f

@@ -33,6 +33,10 @@ pub record RigOk (r : Rig) : Type 0 where
   pub line-present : (k : ℕ) → k < r .lines → r .present (placeOf (r .lineTask k) (r .linePos k)) ≡ 1
   -- "at positions 0 to 15"
   pub line-position : (k : ℕ) → k < r .lines → r .linePos k < positions
+  -- "no task or flag number is above the RIG line's": A lines
+  pub line-flag : (k : ℕ) → k < r .lines → (1 ≤ r .lineFlag k) × (r .lineFlag k ≤ r .flags)
+  -- "desired 0/1"
+  pub desired-le : (i : ℕ) → r .desired i ≤ 1
 
 -- of the rows, for what is written into lent buffers: "bus rows 0 to 64 of 1 to 32 words"
 pub record RowsOk (r : Rig) : Type 0 where

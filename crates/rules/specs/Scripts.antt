@@ -1,4 +1,5 @@
 -- SCRIPTS: small rigs written as the lines of their file, and what a script of calls shows on one. For computed cases.
+use mathlib.Core.Path.{_≡_}
 use mathlib.Core.Bool.{cond}
 use mathlib.Core.List.{List, [], _∷_, _++_}
 use Prim.Native.Nat.{ℕ}
@@ -156,6 +157,10 @@ pub record Case : Type 0 where
 
 unfoldable pub shown : Case → List ℕ
 shown c = seen (c .look) (c .on) (c .first) (c .calls)
+
+-- the case shows what it is to show
+abbrev pub Holds : Case → Type 0
+Holds c = shown c ≡ c .shows
 
 -- from the start on
 abbrev pub case : Rig → List Call → (Step → List ℕ) → List ℕ → Case

@@ -4,7 +4,7 @@ use mathlib.Core.Path.{_≡_}
 use Prim.Native.Nat.{ℕ}
 use Rattle.rules.specs.Rig.{Rig}
 use Rattle.rules.specs.State.{State}
-use Rattle.rules.specs.Calls.{Call, schedule, cancel, terminate, finish, tick, waitUntil, waitFor, latched, unlatched, signal, readFlag, readBlock, writeBlock, nextWaking, readOverruns}
+use Rattle.rules.specs.Calls.{Call, schedule, cancel, terminate, finish, tick, waitUntil, waitFor, latched, unlatched, signal, readFlag, readBlock, writeBlock, nextWaking, readOverruns, whyNot}
 use Rattle.rules.specs.Calls.{refusal}
 use Rattle.rules.specs.Family.{Under}
 
@@ -25,3 +25,4 @@ Struck r s (readBlock k area buffer) t = ⊥
 Struck r s (writeBlock k area buffer) t = ⊥
 Struck r s nextWaking t = ⊥
 Struck r s (readOverruns u) t = ⊥
+Struck r s (whyNot u d) t = ⊥

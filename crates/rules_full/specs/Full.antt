@@ -11,7 +11,7 @@ use Rattle.laws.specs.Any.{any}
 use Rattle.laws.specs.Tables.{total, over}
 use Rattle.laws.specs.Put.{put}
 use Rattle.word_parts.specs.Packed.{commandWord}
-use Rattle.rules.specs.Rig.{Rig, inCycle, isMinor}
+use Rattle.rules.specs.Rig.{Rig, inCycle, isMinor, isActivation}
 use Rattle.rules.specs.State.{State, blank}
 use Rattle.rules.specs.Conditions.{relax, met, drive, names}
 use Rattle.rules.specs.Serving.{activate, tooSoon, mostOverruns, oneMore, overrun, takes, rouse, wake, ready, offer, offers, serveFlag, serving, serve}
@@ -20,7 +20,7 @@ use Rattle.rules.specs.Family.{family, cleared, deserted, offs}
 use Rattle.rules.specs.Running.{best, chosen, dispatch}
 use Rattle.rules.specs.Bus.{written, copied, rowWords, busWords}
 use Rattle.rules.specs.Calls.{Call, schedule, finish}
-use Rattle.rules.specs.Calls.{tested, scheduled, finished, terminated, cancelled, cycleQueue, ticked, effect, ended, again, settled, decide, noSuch, isActivation, lastCount, wrongBlock, refusals, refusal, wordsAt, lent, output, accepted, after, step, run, started, start}
+use Rattle.rules.specs.Calls.{tested, scheduled, finished, terminated, cancelled, cycleQueue, ticked, effect, ended, again, settled, decide, noSuch, lastCount, wrongBlock, refusals, refusal, wordsAt, lent, output, accepted, after, step, run, started, start}
 use Rattle.rules.specs.Scripts.{B, tick₀}
 
 -- Task t has priority 10, activation flag t, controller 1 and one unlatched condition, at position 0, which desires on: for

@@ -5,7 +5,7 @@ use mathlib.Core.Bool.{_&&_, _||_}
 use Prim.Native.Nat.{ℕ, _+_, _*_, _%_, _≤_, _<_}
 use native.Mathlib.Omega.{arith}
 use native.Mathlib.Nat.{mul-add-mod-self-left}
-use borrow.Author.Tests.{ltb-true, leb-true, lt-ltb, le-leb, eq-eqb}
+use borrow.Author.Tests.{ltb-true, leb-true, lt-ltb, le-leb, eq-eqb, eqb-false}
 use lib.Dec.{eqb, leb, ltb}
 use Rattle.laws.specs.Cases.{by, and-true}
 use Rattle.rules.specs.Rig.{placeOf}
@@ -58,6 +58,14 @@ line-there k l =
       lt-ltb (16 * (k + 1) + 0) 1040 (omega arith),
     )
 
+desires : (i : ℕ) → full .desired i ≤ 1
+unfolding full
+desires i = by (eqb (i % 16) 0 && (ltb 15 i && ltb i 1040)) (λ e. rw e (omega arith)) (λ e. rw e (omega arith))
+
+line-flags : (k : ℕ) → k < 64 → (1 ≤ full .lineFlag k) × (full .lineFlag k ≤ full .flags)
+unfolding full
+line-flags k l = by (eqb k 0) (λ e. rw e (omega arith, omega arith)) (λ e. rw (e, lt-ltb k 64 l) (omega (arith, eqb-false k 0 e), omega arith))
+
 pub full-ok : RigOk full
 unfolding full
 full-ok =
@@ -79,4 +87,6 @@ full-ok =
       present-task = conditions;
       line-present = line-there;
       line-position = λ k l. omega arith;
+      line-flag = line-flags;
+      desired-le = desires;
     }

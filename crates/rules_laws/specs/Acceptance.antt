@@ -10,9 +10,9 @@ use borrow.Author.Tests.{eqb-true, eqb-false, ltb-false, not-false}
 use lib.Dec.{eqb, ltb}
 use Rattle.laws.specs.Cases.{or-false}
 use Rattle.laws.specs.Laws.Any.{any-not}
-use Rattle.rules.specs.Rig.{Rig}
+use Rattle.rules.specs.Rig.{Rig, activationOne, isActivation}
 use Rattle.rules.specs.State.{State}
-use Rattle.rules.specs.Calls.{Refusal, row, decide, nobodyRuns, noSuch, notController, activationOne, isActivation}
+use Rattle.rules.specs.Calls.{Refusal, row, decide, nobodyRuns, noSuch, notController}
 
 -- a row that is not to be given, and those behind it
 pub passed : (n : ℕ) (b : Bool) (xs : List Refusal) → decide (row (suc n) b ∷ xs) ≡ 0 → (b ≡ false) × (decide xs ≡ 0)

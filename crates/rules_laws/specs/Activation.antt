@@ -26,7 +26,7 @@ use Rattle.rules.specs.Serving.{activate, takes, wake, ready, serveFlag, servin
 use Rattle.rules.specs.Waiting.{waitOn, waitUntilCount, isDue, wakeDue}
 use Rattle.rules.specs.Family.{family, isMarked, cleared}
 use Rattle.rules.specs.Running.{dispatch}
-use Rattle.rules.specs.Calls.{Call, schedule, cancel, terminate, finish, tick, waitUntil, waitFor, latched, unlatched, signal, readFlag, readBlock, writeBlock, nextWaking, readOverruns}
+use Rattle.rules.specs.Calls.{Call, schedule, cancel, terminate, finish, tick, waitUntil, waitFor, latched, unlatched, signal, readFlag, readBlock, writeBlock, nextWaking, readOverruns, whyNot}
 use Rattle.rules.specs.Calls.{tested, scheduled, finished, terminated, cancelled, ticked, effect, refusal, refusals, notActive, ended, again, settled, accepted, Step, step}
 use Rattle.rules.specs.Proper.{Proper}
 use Rattle.rules.specs.Soundness.{Sound}
@@ -274,6 +274,7 @@ module _ (r : Rig) (s : State) (h : Sound r s) (t : ℕ) (i : active (stateOf s 
   effect-activates (writeBlock k area buffer) e = inl i
   effect-activates nextWaking e = inl i
   effect-activates (readOverruns t) e = inl i
+  effect-activates (whyNot t d) e = inl i
 
 -- ---- who is ended by a call was active before it
 
@@ -294,6 +295,7 @@ ended-active r s h (readBlock k area buffer) e n = absurd (n refl)
 ended-active r s h (writeBlock k area buffer) e n = absurd (n refl)
 ended-active r s h nextWaking e n = absurd (n refl)
 ended-active r s h (readOverruns t) e n = absurd (n refl)
+ended-active r s h (whyNot t d) e n = absurd (n refl)
 
 -- ---- THE THEOREM
 

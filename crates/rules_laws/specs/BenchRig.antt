@@ -71,6 +71,16 @@ low-position zero h = omega arith
 low-position (suc zero) h = omega arith
 low-position (suc (suc k)) h = absurd (omega arith)
 
+low-flag : (k : ℕ) → k < 2 → (1 ≤ bench .lineFlag k) × (bench .lineFlag k ≤ 4)
+unfolding bench rig ofLine numbers
+low-flag zero h = (omega arith, omega arith)
+low-flag (suc zero) h = (omega arith, omega arith)
+low-flag (suc (suc k)) h = absurd (omega arith)
+
+low-desired : (i : ℕ) → bench .desired i ≤ 1
+unfolding bench rig ofCondition
+low-desired i = by (eqb 32 i) (λ e. rw e (omega arith)) (λ e. rw e (by (eqb 48 i) (λ f. rw f (omega arith)) (λ f. rw f (omega arith))))
+
 pub bench-ok : RigOk bench
 unfolding bench rig ofTask
 bench-ok =
@@ -93,4 +103,6 @@ bench-ok =
       present-task = two-conditions;
       line-present = line-there;
       line-position = low-position;
+      line-flag = low-flag;
+      desired-le = low-desired;
     }

@@ -16,9 +16,9 @@ use Rattle.rules.specs.Waiting.{waitOn, waitUntilCount, leave, wakeDue}
 use Rattle.rules.specs.Family.{family, cleared, deserted, offs}
 use Rattle.rules.specs.Running.{best, chosen, dispatch}
 use Rattle.rules.specs.Bus.{written, copied, rowWords, busWords}
-use Rattle.rules.specs.Rig.{inCycle, isMinor}
+use Rattle.rules.specs.Rig.{inCycle, isMinor, isActivation}
 use Rattle.rules.specs.Calls.{Call, schedule, finish, waitFor}
-use Rattle.rules.specs.Calls.{tested, scheduled, finished, terminated, cancelled, cycleQueue, ticked, effect, ended, again, settled, decide, noSuch, isActivation, lastCount, wrongBlock, refusals, refusal, wordsAt, lent, output, accepted, after, step, run, started, start}
+use Rattle.rules.specs.Calls.{tested, scheduled, finished, terminated, cancelled, cycleQueue, ticked, effect, ended, again, settled, decide, noSuch, lastCount, wrongBlock, refusals, refusal, wordsAt, lent, output, accepted, after, step, run, started, start}
 use Rattle.rules.specs.Scripts.{ofTask, ofCondition, numbers, ofLine, ofCycle, rig, tick₀, bench}
 use Rattle.rules.specs.History.{begins, noted, notedIf, history, never, historyOf}
 use Rattle.rules_laws.specs.Waking.{WakesByRules, Spared}

@@ -19,7 +19,7 @@ use Rattle.rules.specs.State.{timeChain, State, Work, Done, Entry, active, valu
 use Rattle.rules.specs.Serving.{push, isInactive, inactives, activate, serve}
 use Rattle.rules.specs.Waiting.{waitOn, waitUntilCount, wakeDue, isDue}
 use Rattle.rules.specs.Family.{family, isMarked, clearOne, cleared, offOne, offs}
-use Rattle.rules.specs.Calls.{Call, schedule, cancel, terminate, finish, tick, waitUntil, waitFor, latched, unlatched, signal, readFlag, readBlock, writeBlock, nextWaking, readOverruns}
+use Rattle.rules.specs.Calls.{Call, schedule, cancel, terminate, finish, tick, waitUntil, waitFor, latched, unlatched, signal, readFlag, readBlock, writeBlock, nextWaking, readOverruns, whyNot}
 use Rattle.rules.specs.Calls.{asScheduled, scheduled, finished, terminated, cancelled, ticked, queueOne, cycleQueue, quiet, effect, refusal, accepted, after, step, started}
 use Rattle.rules_laws.specs.Serve.{load, push-length, served-le, serve-nil}
 use Rattle.rules_laws.specs.Testing.{tested-cases, settled-le}
@@ -148,6 +148,7 @@ module _ (r : Rig) (s : State) (z : length (s .states) ≡ 65) where
   effect-load (writeBlock k area buffer) = light (quiet s) zero-le z
   effect-load nextWaking = light (quiet s) zero-le z
   effect-load (readOverruns t) = light (quiet s) zero-le z
+  effect-load (whyNot t d) = light (quiet s) zero-le z
 
   -- THE BOUND: "Each call answers with the number of flags it served, which is at most 79."
   pub served-79 : (k : Call) → step r s k .answer .report .served ≤ 79

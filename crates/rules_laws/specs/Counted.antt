@@ -1,13 +1,13 @@
 -- STARTS THAT CAME TOO SOON: after any run a task's number of overruns "equals the smaller of that stop and the number counted from the
 -- history since the last schedule".
 use mathlib.Core.Path.{_≡_, refl, sym, ap, _∙_, subst}
-use mathlib.Core.Logic.{_≢_}
-use mathlib.Core.Bool.{Bool, true, false, cond, _&&_, _||_, true≢false}
+use mathlib.Core.Logic.{_≢_, ⊎-elim}
+use mathlib.Core.Bool.{Bool, true, false, cond, _&&_, true≢false}
 use mathlib.Core.List.{List, [], _∷_}
 use Prim.Native.Nat.{ℕ, zero, suc, _+_, _≤_, _<_, min}
 use native.Mathlib.Omega.{arith}
 use native.Mathlib.Numerals.{add-one}
-use borrow.Author.Tests.{ltb-true, ltb-false, le-ltb, ne-eqb}
+use borrow.Author.Tests.{ltb-true, ltb-false}
 use lib.Dec.{eqb, leb, ltb}
 use lib.ListN.{length, getD, set, length-set, length-replicate}
 use lib.Seq.{getD-set-same, getD-set-other}
@@ -20,18 +20,17 @@ use Rattle.laws.specs.Laws.Tables.{zeros}
 use Rattle.rules.specs.Rig.{Rig}
 use Rattle.rules.specs.State.{State, Entry, Work, Done, stateOf, valueOf, overrunsOf, active, blank}
 use Rattle.rules.specs.Conditions.{names}
-use Rattle.rules.specs.Serving.{activate, tooSoon, mostOverruns, oneMore, overrun, takes, wake, ready, offer, offerNext, offers, serveFlag, unserved, serving, serve}
+use Rattle.rules.specs.Serving.{activate, tooSoon, mostOverruns, oneMore, overrun, takes, wake, ready, offer, offerNext, offers, serveFlag, serving, serve}
 use Rattle.rules.specs.Waiting.{waitOn, waitUntilCount, wakeDue}
 use Rattle.rules.specs.Running.{dispatch}
-use Rattle.rules.specs.Calls.{Call, schedule, cancel, terminate, finish, tick, waitUntil, waitFor, latched, unlatched, signal, readFlag, readBlock, writeBlock, nextWaking, readOverruns}
-use Rattle.rules.specs.Calls.{asScheduled, tested, scheduled, finished, terminated, cancelled, ticked, effect, ended, again, settled, decide, noSuch, refusals, refusal, reported, valueOnly, output, accepted, after, Step, step, run, started, start}
+use Rattle.rules.specs.Calls.{Call, schedule, cancel, terminate, finish, tick, waitUntil, waitFor, latched, unlatched, signal, readFlag, readBlock, writeBlock, nextWaking, readOverruns, whyNot}
+use Rattle.rules.specs.Calls.{asScheduled, tested, scheduled, finished, terminated, cancelled, ticked, effect, ended, again, settled, decide, noSuch, refusals, refusal, valueOnly, output, accepted, after, step, run, started, start}
 use Rattle.rules.specs.Soundness.{Sound}
 use Rattle.rules.specs.Reasons.{NoSuch}
 use Rattle.rules.specs.Overruns.{InACondition, TooSoon, Event, scheduling, service, servingEvents, serveEvents, againEvents, schedulingOf, acceptedEvents, eventsIf, eventsFrom, startEvents, eventsOf, overrunsCounted}
 use Rattle.rules_laws.specs.ConditionLaws.{names-is}
-use Rattle.rules_laws.specs.Serve.{serve-nil}
 use Rattle.rules_laws.specs.Testing.{tested-keeps}
-use Rattle.rules_laws.specs.Steps.{dispatch-same}
+use Rattle.rules_laws.specs.Steps.{question-step}
 use Rattle.rules_laws.specs.RefusedExactly.{is-no-such, is-minor}
 
 -- ---- the test says what the words say
@@ -182,6 +181,7 @@ module _ (r : Rig) where
   effect-counts s (writeBlock k area buffer) h n = n
   effect-counts s nextWaking h n = n
   effect-counts s (readOverruns t) h n = n
+  effect-counts s (whyNot t d) h n = n
 
   -- ---- every step, every run
 
@@ -257,14 +257,7 @@ read-refused r s t h = if-yes _ (is-no-such (r .tasks) t .1 h) refl
 
 pub read-step : (r : Rig) (s : State) → Sound r s → (t : ℕ) → 1 ≤ t → t ≤ r .tasks
     → step r s (readOverruns t) ≡ record { next = s; answer = record { code = 0; report = valueOnly (overrunsOf s t) }; lent = [] }
-unfolding step after accepted settled ended again refusal refusals decide noSuch effect output
+unfolding ended refusal refusals decide effect output
 read-step r s h t a b =
-    ap (λ (n : ℕ). after n r s (readOverruns t)) (if-no 6 (or-not (eqb t 0) (ltb (r .tasks) t) (ne-eqb t 0 (λ q. omega (arith, q))) (le-ltb (r .tasks) t b)) refl)
-    ∙ ap (λ (d : Done). said (dispatch r (d .now)) d) (serve-nil r s)
-    ∙ ap (λ (n : State). said n (unserved s)) (dispatch-same r s h)
-  where
-    said : State → Done → Step
-    said n d = record { next = n; answer = record { code = 0; report = reported d 0 (overrunsOf n t) }; lent = [] }
-
-    or-not : (x y : Bool) → x ≡ false → y ≡ false → (x || y) ≡ false
-    or-not x y p q = rw (p, q)
+    question-step r s h (readOverruns t) refl refl
+    (if-no 6 (by (noSuch (r .tasks) t) (λ e. absurd (⊎-elim (λ q. omega (arith, q, a)) (λ q. omega (arith, q, b)) (is-no-such (r .tasks) t .0 e))) (λ e. e)) refl)

@@ -14,14 +14,14 @@ use Rattle.laws.specs.Cases.{by-bool, or-false}
 use Rattle.laws.specs.Iter.{iter}
 use Rattle.laws.specs.Laws.Iter.{iter-ind}
 use Rattle.laws.specs.Laws.Any.{any-at, any-some}
-use Rattle.rules.specs.Rig.{Rig, inCycleOne, inCycle, isMinor}
+use Rattle.rules.specs.Rig.{Rig, inCycleOne, inCycle, isMinor, isActivation, notPlain}
 use Rattle.rules.specs.RigOk.{RigOk}
 use Rattle.rules.specs.State.{chainOf, State, Entry, Work, Done, stateOf, overrunsOf, active, withValues, withOverruns, blank}
 use Rattle.rules.specs.Conditions.{drive, names}
 use Rattle.rules.specs.Serving.{push, activate, ready, tooSoon, oneMore, overrun, takes, wake, offer, offerNext, offers, serveFlag, wokenBy, activatedBy, another, serving, serve}
 use Rattle.rules.specs.Family.{family, isMarked, offOne, offs}
-use Rattle.rules.specs.Calls.{Call, schedule, cancel, terminate, finish, tick, waitUntil, waitFor, latched, unlatched, signal, readFlag, readBlock, writeBlock, nextWaking, readOverruns}
-use Rattle.rules.specs.Calls.{isTick, tested, scheduled, finished, terminated, cancelled, queueOne, cycleQueue, ticked, effect, refusals, refusal, isActivation, notPlain, ended, further, again, settled, started}
+use Rattle.rules.specs.Calls.{Call, schedule, cancel, terminate, finish, tick, waitUntil, waitFor, latched, unlatched, signal, readFlag, readBlock, writeBlock, nextWaking, readOverruns, whyNot}
+use Rattle.rules.specs.Calls.{isTick, tested, scheduled, finished, terminated, cancelled, queueOne, cycleQueue, ticked, effect, refusals, refusal, ended, further, again, settled, started}
 use Rattle.rules_laws.specs.Testing.{tested-cases}
 use Rattle.rules_laws.specs.Acceptance.{flagged-is}
 use Rattle.rules_laws.specs.RefusedExactly.{is-minor}
@@ -205,6 +205,7 @@ module _ (r : Rig) (ok : RigOk r) where
   effect-tells s (writeBlock k area buffer) e = tt
   effect-tells s nextWaking e = tt
   effect-tells s (readOverruns t) e = tt
+  effect-tells s (whyNot t d) e = tt
 
   each-map : (P Q : Entry → Type 0) → ((e : Entry) → P e → Q e) → (q : List Entry) → EachEntry P q → EachEntry Q q
   each-map P Q h [] a = tt

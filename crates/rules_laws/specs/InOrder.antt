@@ -27,7 +27,7 @@ use Rattle.rules.specs.Serving.{activate, takes, wake, serve}
 use Rattle.rules.specs.Waiting.{waitOn, waitUntilCount, leave, isDue, wakeDue}
 use Rattle.rules.specs.Family.{family, isMarked, leaveOne, deserted}
 use Rattle.rules.specs.Running.{dispatch}
-use Rattle.rules.specs.Calls.{Call, schedule, cancel, terminate, finish, tick, waitUntil, waitFor, latched, unlatched, signal, readFlag, readBlock, writeBlock, nextWaking, readOverruns}
+use Rattle.rules.specs.Calls.{Call, schedule, cancel, terminate, finish, tick, waitUntil, waitFor, latched, unlatched, signal, readFlag, readBlock, writeBlock, nextWaking, readOverruns, whyNot}
 use Rattle.rules.specs.Calls.{scheduled, finished, terminated, cancelled, ticked, effect, refusal, refusals, ended, again, settled, accepted, after, step, run, started, start}
 use Rattle.rules.specs.Proper.{ProperRun}
 use Rattle.rules.specs.Soundness.{Somewhere, Sound}
@@ -264,6 +264,7 @@ module _ (r : Rig) (ok : RigOk r) (s : State) (sound : Sound r s) (h : History) 
   effect-told (writeBlock x area buffer) e = told-later h n (s .wakes) (s .chains) k
   effect-told nextWaking e = told-later h n (s .wakes) (s .chains) k
   effect-told (readOverruns t) e = told-later h n (s .wakes) (s .chains) k
+  effect-told (whyNot t d) e = told-later h n (s .wakes) (s .chains) k
 
   -- EVERY CALL keeps the chains as the history says
   pub step-told : (x : Call) → Told (notedIf n (refusal r s x) s x h) (suc n) (step r s x .next .wakes) (step r s x .next .chains)

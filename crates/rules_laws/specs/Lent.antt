@@ -18,7 +18,7 @@ use Rattle.rules.specs.Rig.{Rig, Row}
 use Rattle.rules.specs.RigOk.{RowsOk}
 use Rattle.rules.specs.State.{State}
 use Rattle.rules.specs.Bus.{blockAt, areaWords, blockWords, written, copied, rowDue, receiveWord, transmitWord, rowWords, busOne, busWords}
-use Rattle.rules.specs.Calls.{Call, schedule, cancel, terminate, finish, tick, waitUntil, waitFor, latched, unlatched, signal, readFlag, readBlock, writeBlock, nextWaking, readOverruns}
+use Rattle.rules.specs.Calls.{Call, schedule, cancel, terminate, finish, tick, waitUntil, waitFor, latched, unlatched, signal, readFlag, readBlock, writeBlock, nextWaking, readOverruns, whyNot}
 use Rattle.rules.specs.Calls.{refusals, refusal, nobodyRuns, noSuch, lastCount, wrongBlock, wordsAt, lent, output, accepted, after, step}
 use Rattle.rules_laws.specs.Acceptance.{passed, there-is}
 
@@ -141,6 +141,7 @@ module _ (r : Rig) (ok : RowsOk r) (s : State) where
       written-length r ok k area buffer (block-is r k area buffer (b .0) (c .0)) (x .count)
   accepted-lent nextWaking e x = refl
   accepted-lent (readOverruns t) e x = refl
+  accepted-lent (whyNot t d) e x = refl
 
   -- a lent buffer keeps its length
   pub lent-length : (k : Call) → length (step r s k .lent) ≡ length (lent k)

@@ -39,3 +39,5 @@ pub mod InWords
 pub mod Heeding
 pub mod Counted
 pub mod Frame
+pub mod Starting
+pub mod WayThere

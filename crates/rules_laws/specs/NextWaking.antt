@@ -21,22 +21,21 @@ use Rattle.laws.specs.Order.{Sorted}
 use Rattle.laws.specs.Laws.Order.{in-place}
 use Rattle.rules.specs.Rig.{Rig}
 use Rattle.rules.specs.RigOk.{RigOk}
-use Rattle.rules.specs.State.{Chain, timeChain, State, Work, stateOf, valueOf, wakeOf, blank, Done}
-use Rattle.rules.specs.Serving.{activate, takes, wake, unserved, serve}
+use Rattle.rules.specs.State.{Chain, timeChain, State, Work, stateOf, valueOf, wakeOf, blank}
+use Rattle.rules.specs.Serving.{activate, takes, wake, serve}
 use Rattle.rules.specs.Waiting.{waitOn, waitUntilCount, leave, isDue, wakeDue}
 use Rattle.rules.specs.Family.{family, isMarked, leaveOne, deserted}
 use Rattle.rules.specs.Running.{dispatch}
 use Rattle.rules.specs.NextWaking.{WaitsOnTime, LowestWaking, waitsOnTime, lowerOne, lowestWaking}
-use Rattle.rules.specs.Calls.{Call, schedule, cancel, terminate, finish, tick, waitUntil, waitFor, latched, unlatched, signal, readFlag, readBlock, writeBlock, nextWaking, readOverruns}
-use Rattle.rules.specs.Calls.{scheduled, finished, terminated, cancelled, ticked, effect, refusal, refusals, lastCount, decide, reported, valueOnly, output, ended, again, settled, accepted, after, Step, step, run, started, start}
+use Rattle.rules.specs.Calls.{Call, schedule, cancel, terminate, finish, tick, waitUntil, waitFor, latched, unlatched, signal, readFlag, readBlock, writeBlock, nextWaking, readOverruns, whyNot}
+use Rattle.rules.specs.Calls.{scheduled, finished, terminated, cancelled, ticked, effect, refusal, refusals, lastCount, decide, valueOnly, output, ended, again, settled, accepted, after, step, run, started, start}
 use Rattle.rules.specs.Proper.{ProperRun}
 use Rattle.rules.specs.History.{nothing, untilCount, begins}
 use Rattle.rules.specs.Soundness.{Sound}
 use Rattle.rules_laws.specs.Acceptance.{somebody-runs}
 use Rattle.rules_laws.specs.Good.{settle-keeps}
 use Rattle.rules_laws.specs.Testing.{tested-keeps}
-use Rattle.rules_laws.specs.Serve.{serve-nil}
-use Rattle.rules_laws.specs.Steps.{step-sound, start-sound, dispatch-same}
+use Rattle.rules_laws.specs.Steps.{step-sound, start-sound, question-step}
 use Rattle.rules_laws.specs.WakingLaws.{begun-is}
 
 -- ---- the lowest
@@ -155,12 +154,8 @@ module _ (r : Rig) (s : State) (h : Sound r s) where
 -- the state is what it was, no flag is served, and the lowest waking count is told
 pub asked-step : (r : Rig) (s : State) → Sound r s
     → step r s nextWaking ≡ record { next = s; answer = record { code = 0; report = valueOnly (lowestWaking s) }; lent = [] }
-unfolding step after accepted settled ended again refusal refusals decide effect output
-asked-step r s h =
-    ap (λ (d : Done). said (dispatch r (d .now)) d) (serve-nil r s) ∙ ap (λ (n : State). said n (unserved s)) (dispatch-same r s h)
-  where
-    said : State → Done → Step
-    said n d = record { next = n; answer = record { code = 0; report = reported d 0 (lowestWaking n) }; lent = [] }
+unfolding ended refusal refusals decide effect output
+asked-step r s h = question-step r s h nextWaking refl refl refl
 
 -- ---- who comes to wait on time: the running task, by a call that begins a wait for a count, and nobody else
 
@@ -236,6 +231,7 @@ module _ (r : Rig) (s : State) (h : Sound r s) where
   effect-came (writeBlock k area buffer) e t i = inl (i, refl)
   effect-came nextWaking e t i = inl (i, refl)
   effect-came (readOverruns u) e t i = inl (i, refl)
+  effect-came (whyNot u d) e t i = inl (i, refl)
 
   -- what is said of the waking counts of those who wait on time, and of every count for which a wait begins, is kept
   pub step-counts : (P : ℕ → Type 0) (k : Call) → ((c : ℕ) → refusal r s k ≡ 0 → begins s k ≡ untilCount c → P c)

@@ -23,7 +23,7 @@ use Rattle.rules.specs.Serving.{activate, takes, wake, ready, serveFlag, servin
 use Rattle.rules.specs.Waiting.{waitOn, waitUntilCount, isDue, wakeDue}
 use Rattle.rules.specs.Family.{family, isMarked, cleared}
 use Rattle.rules.specs.Running.{dispatch}
-use Rattle.rules.specs.Calls.{Call, schedule, cancel, terminate, finish, tick, waitUntil, waitFor, latched, unlatched, signal, readFlag, readBlock, writeBlock, nextWaking, readOverruns}
+use Rattle.rules.specs.Calls.{Call, schedule, cancel, terminate, finish, tick, waitUntil, waitFor, latched, unlatched, signal, readFlag, readBlock, writeBlock, nextWaking, readOverruns, whyNot}
 use Rattle.rules.specs.Calls.{tested, scheduled, finished, terminated, cancelled, ticked, effect, ended, again, settled, refusal, accepted, after, step, run, started, start}
 use Rattle.rules.specs.Proper.{ProperRun}
 use Rattle.rules_laws.specs.ConditionLaws.{met-is, met-same, same-task, driven-not, names-is}
@@ -201,6 +201,7 @@ module _ (r : Rig) (ok : RigOk r) (s : State) (c : Calm r 0 s) where
   effect-calm (writeBlock k area buffer) = c
   effect-calm nextWaking = c
   effect-calm (readOverruns t) = c
+  effect-calm (whyNot t d) = c
 
   -- EVERY CALL, accepted or refused, leaves nobody
   step-calm : (k : Call) → Calm r 0 (step r s k .next)

@@ -8,7 +8,7 @@ use native.Mathlib.Omega.{arith}
 use Rattle.laws.specs.Cases.{dec-eq}
 use Rattle.rules.specs.Rig.{Rig}
 use Rattle.rules.specs.State.{State}
-use Rattle.rules.specs.Calls.{Call, schedule, cancel, terminate, finish, tick, waitUntil, waitFor, latched, unlatched, signal, readFlag, readBlock, writeBlock, nextWaking, readOverruns}
+use Rattle.rules.specs.Calls.{Call, schedule, cancel, terminate, finish, tick, waitUntil, waitFor, latched, unlatched, signal, readFlag, readBlock, writeBlock, nextWaking, readOverruns, whyNot}
 use Rattle.rules.specs.Calls.{Refusal, row, decide, refusals, refusal, lent, refused, accepted, after, step}
 
 -- ---- any table that rises
@@ -97,6 +97,7 @@ refusals-rising r s (readBlock k area buffer) = (omega arith, (omega arith, (ome
 refusals-rising r s (writeBlock k area buffer) = (omega arith, (omega arith, (omega arith, tt)))
 refusals-rising r s nextWaking = tt
 refusals-rising r s (readOverruns t) = (omega arith, tt)
+refusals-rising r s (whyNot t d) = (omega arith, (omega arith, (omega arith, tt)))
 
 pub refusal-smallest : (r : Rig) (s : State) (k : Call) (n : ℕ) → n ≢ 0
     → (refusal r s k ≡ n) ↔ (Given n (refusals r s k) × ((m : ℕ) → m < n → Given m (refusals r s k) → ⊥))

@@ -20,7 +20,7 @@ use Rattle路rules.specs.Serving.{activate, takes, wake, serve}
 use Rattle路rules.specs.Waiting.{waitOn, waitUntilCount, wakeDue, isDue}
 use Rattle路rules.specs.Family.{Under, itself, below, family, isMarked}
 use Rattle路rules.specs.Running.{rank, chosen, dispatch}
-use Rattle路rules.specs.Calls.{Call, schedule, cancel, terminate, finish, tick, waitUntil, waitFor, latched, unlatched, signal, readFlag, readBlock, writeBlock, nextWaking, readOverruns}
+use Rattle路rules.specs.Calls.{Call, schedule, cancel, terminate, finish, tick, waitUntil, waitFor, latched, unlatched, signal, readFlag, readBlock, writeBlock, nextWaking, readOverruns, whyNot}
 use Rattle路rules.specs.Calls.{scheduled, finished, terminated, cancelled, ticked, effect, refusals, refusal, isInvoked, isUninvoked, notActive, ended, again, settled, accepted, Step, step}
 use Rattle路rules.specs.Proper.{Proper}
 use Rattle路rules.specs.Soundness.{Sound}
@@ -119,6 +119,7 @@ module _ (r : Rig) (ok : RigOk r) (s : State) (h : Sound r s) (n : s .running 鈮
   effect-stays (writeBlock k area buffer) e = inl (refl, up)
   effect-stays nextWaking e = inl (refl, up)
   effect-stays (readOverruns t) e = inl (refl, up)
+  effect-stays (whyNot t d) e = inl (refl, up)
 
 -- ---- after an accepted call
 

@@ -10,20 +10,21 @@ use lib.Dec.{eqb, leb}
 use lib.ListN.{length-replicate}
 use Rattle.laws.specs.Cases.{by, or-false}
 use Rattle.laws.specs.Laws.Tables.{zeros}
-use Rattle.rules.specs.Rig.{Rig, isMinor}
+use Rattle.rules.specs.Rig.{Rig, isMinor, isActivation, notPlain}
 use Rattle.rules.specs.RigOk.{RigOk}
-use Rattle.rules.specs.State.{State, Work, stateOf, valueOf, active, withRunning, blank}
-use Rattle.rules.specs.Serving.{activate, serve}
+use Rattle.rules.specs.State.{State, Work, Done, stateOf, valueOf, active, withRunning, blank}
+use Rattle.rules.specs.Serving.{activate, unserved, serve}
 use Rattle.rules.specs.Waiting.{waitOn, waitUntilCount}
 use Rattle.rules.specs.Running.{dispatch}
-use Rattle.rules.specs.Calls.{Call, schedule, cancel, terminate, finish, tick, waitUntil, waitFor, latched, unlatched, signal, readFlag, readBlock, writeBlock, nextWaking, readOverruns}
-use Rattle.rules.specs.Calls.{isTick, scheduled, quiet, effect, refusals, refusal, isInvoked, notActive, isActivation, notPlain, lastCount, ended, again, settled, accepted, after, step, run, started, start}
+use Rattle.rules.specs.Calls.{Call, schedule, cancel, terminate, finish, tick, waitUntil, waitFor, latched, unlatched, signal, readFlag, readBlock, writeBlock, nextWaking, readOverruns, whyNot}
+use Rattle.rules.specs.Calls.{isTick, scheduled, quiet, effect, refusals, refusal, isInvoked, notActive, lastCount, ended, again, settled, reported, output, accepted, after, Step, step, run, started, start}
 use Rattle.rules.specs.Proper.{Proper, ProperRun}
 use Rattle.rules.specs.Soundness.{Sound}
 use Rattle.rules_laws.specs.Queued.{look}
 use Rattle.rules_laws.specs.Ranks.{chosen-runs, runs-chosen}
 use Rattle.rules_laws.specs.Acceptance.{passed, somebody-runs, named-is, flagged-is, no-activation}
 use Rattle.rules_laws.specs.Good.{Good, Ready, sound-good, settle-good, settle-count}
+use Rattle.rules_laws.specs.Serve.{serve-nil}
 use Rattle.rules_laws.specs.Testing.{tested-keeps}
 use Rattle.rules_laws.specs.Effects.{quiet-ready, scheduled-ready, finished-ready, terminated-ready, waitOn-ready, waitUntil-ready, signal-ready, ticked-ready}
 use Rattle.rules_laws.specs.Cancelling.{cancelled-ready}
@@ -51,6 +52,23 @@ pub dispatch-same : (r : Rig) (s : State) → Sound r s → dispatch r s ≡ s
 unfolding dispatch
 dispatch-same r s h =
     ap (λ (n : ℕ). withRunning s n) (runs-chosen (r .privileged) (r .priority) (s .states) (h .tasks .sized) (s .running) (h .runs))
+
+-- a question: nothing is queued and nobody ended; where it is not refused the state is what it was, no flag is served, and what it puts out is told
+pub question-step : (r : Rig) (s : State) → Sound r s → (k : Call) → effect r s k ≡ quiet s → ended s k ≡ 0 → refusal r s k ≡ 0
+    → step r s k ≡ record { next = s; answer = record { code = 0; report = reported (unserved s) (output r s k .words) (output r s k .value) }; lent = output r s k .lent }
+unfolding step after accepted settled again
+question-step r s h k quiet-so nobody fine =
+    ap (λ (n : ℕ). after n r s k) fine
+    ∙ ap (λ (w : Work). said (again r (ended s k) (serve r w))) quiet-so
+    ∙ ap (λ (t : ℕ). said (again r t (serve r (quiet s)))) nobody
+    ∙ ap said (serve-nil r s)
+    ∙ ap (λ (n : State). told n (unserved s)) (dispatch-same r s h)
+  where
+    told : State → Done → Step
+    told n d = let o = output r n k in record { next = n; answer = record { code = 0; report = reported d (o .words) (o .value) }; lent = o .lent }
+
+    said : Done → Step
+    said d = told (dispatch r (d .now)) d
 
 -- ---- what each accepted call hands to the serving
 
@@ -106,6 +124,7 @@ module _ (r : Rig) (ok : RigOk r) (s : State) (h : Sound r s) where
   effect-ready (writeBlock k area buffer) p e = quiet-ready r s good
   effect-ready nextWaking p e = quiet-ready r s good
   effect-ready (readOverruns t) p e = quiet-ready r s good
+  effect-ready (whyNot t d) p e = quiet-ready r s good
 
   -- the count rises in a tick alone, and not past the last
   pub effect-range : (k : Call) → refusal r s k ≡ 0 → effect r s k .now .count ≤ lastCount

@@ -8,7 +8,7 @@ use Rattle.rules.specs.Rig.{Rig}
 use Rattle.rules.specs.State.{State, valueOf}
 use Rattle.rules.specs.Serving.{activate}
 use Rattle.rules.specs.Waiting.{waitOn, waitUntilCount, wakeDue}
-use Rattle.rules.specs.Calls.{Call, schedule, cancel, terminate, finish, tick, waitUntil, waitFor, latched, unlatched, signal, readFlag, readBlock, writeBlock, nextWaking, readOverruns}
+use Rattle.rules.specs.Calls.{Call, schedule, cancel, terminate, finish, tick, waitUntil, waitFor, latched, unlatched, signal, readFlag, readBlock, writeBlock, nextWaking, readOverruns, whyNot}
 use Rattle.rules.specs.Calls.{isTick, scheduled, finished, terminated, cancelled, ticked, effect}
 use Rattle.rules_laws.specs.Testing.{tested-keeps}
 
@@ -29,6 +29,7 @@ is-tick (readBlock k area buffer) e = absurd (false≢true e)
 is-tick (writeBlock k area buffer) e = absurd (false≢true e)
 is-tick nextWaking e = absurd (false≢true e)
 is-tick (readOverruns t) e = absurd (false≢true e)
+is-tick (whyNot t d) e = absurd (false≢true e)
 
 module _ (r : Rig) (s : State) where
   one-of : (b : Bool) (x : State) → x .count ≡ s .count → (cond b s x) .count ≡ s .count
@@ -53,3 +54,4 @@ module _ (r : Rig) (s : State) where
   effect-count (writeBlock k area buffer) = refl
   effect-count nextWaking = refl
   effect-count (readOverruns t) = refl
+  effect-count (whyNot t d) = refl

@@ -9,7 +9,7 @@ use Rattle.rules.specs.Rig.{Rig}
 use Rattle.rules.specs.Sizes.{tickWords}
 use Rattle.rules.specs.State.{State, stateOf, waiting, dispatchable}
 use Rattle.rules.specs.Family.{Under}
-use Rattle.rules.specs.Calls.{Call, schedule, cancel, terminate, finish, tick, waitUntil, waitFor, latched, unlatched, signal, readFlag, readBlock, writeBlock, nextWaking, readOverruns, refusal, step, run}
+use Rattle.rules.specs.Calls.{Call, schedule, cancel, terminate, finish, tick, waitUntil, waitFor, latched, unlatched, signal, readFlag, readBlock, writeBlock, nextWaking, readOverruns, whyNot, refusal, step, run}
 use Rattle.rules.specs.Waking.{Struck}
 
 -- "terminated or cancelled": by an accepted call, itself or through an ancestor, and by no other call
@@ -33,6 +33,7 @@ struck-is r s k t = (there k, (λ p. back k (p .0) (p .1)))
     there (writeBlock n area buffer) h = absurd h
     there nextWaking h = absurd h
     there (readOverruns t) h = absurd h
+    there (whyNot t d) h = absurd h
 
     back : (k : Call) → refusal r s k ≡ 0 → (k ≡ terminate t) ⊎ ((u : ℕ) × (k ≡ cancel u) × Under (r .controller) u t) → Struck r s k t
     back k e (inl q) = subst (λ (c : Call). Struck r s c t) (sym q) (subst (λ (c : Call). refusal r s c ≡ 0) q e, refl)

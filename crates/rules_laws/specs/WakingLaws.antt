@@ -22,7 +22,7 @@ use Rattle.rules.specs.Serving.{activate, takes, wake, serve}
 use Rattle.rules.specs.Waiting.{waitOn, waitUntilCount, leave, isDue, wakeDue}
 use Rattle.rules.specs.Family.{Under, family, isMarked}
 use Rattle.rules.specs.Running.{dispatch}
-use Rattle.rules.specs.Calls.{Call, schedule, cancel, terminate, finish, tick, waitUntil, waitFor, latched, unlatched, signal, readFlag, readBlock, writeBlock, nextWaking, readOverruns}
+use Rattle.rules.specs.Calls.{Call, schedule, cancel, terminate, finish, tick, waitUntil, waitFor, latched, unlatched, signal, readFlag, readBlock, writeBlock, nextWaking, readOverruns, whyNot}
 use Rattle.rules.specs.Calls.{scheduled, finished, terminated, cancelled, ticked, effect, isUninvoked, lastCount, decide, refusal, refusals, ended, again, settled, accepted, after, step, run, start}
 use Rattle.rules.specs.Proper.{Proper, ProperRun}
 use Rattle.rules.specs.Soundness.{Sound}
@@ -198,6 +198,7 @@ module _ (r : Rig) (ok : RigOk r) (s : State) (sound : Sound r s) (t c : ℕ) (m
   effect-next (writeBlock k area buffer) e n = here
   effect-next nextWaking e n = here
   effect-next (readOverruns u) e n = here
+  effect-next (whyNot u d) e n = here
 
   -- THE ONE-STEP LAW
   pub step-next : (k : Call) → (Struck r s k t → ⊥) → Next t c (step r s k .next)
@@ -232,6 +233,7 @@ effect-count r s (readBlock k area buffer) = le-refl _
 effect-count r s (writeBlock k area buffer) = le-refl _
 effect-count r s nextWaking = le-refl _
 effect-count r s (readOverruns t) = le-refl _
+effect-count r s (whyNot t d) = le-refl _
 
 accepted-count : (r : Rig) (s : State) (k : Call) → accepted r s k .next .count ≡ effect r s k .now .count
 unfolding accepted settled dispatch
@@ -351,6 +353,7 @@ begun-is r s (readBlock k area buffer) c e b = absurd (nothing-begun c b)
 begun-is r s (writeBlock k area buffer) c e b = absurd (nothing-begun c b)
 begun-is r s nextWaking c e b = absurd (nothing-begun c b)
 begun-is r s (readOverruns t) c e b = absurd (nothing-begun c b)
+begun-is r s (whyNot t d) c e b = absurd (nothing-begun c b)
 
 module _ (r : Rig) (ok : RigOk r) where
   -- then the running task is in the time chain for it

@@ -20,9 +20,12 @@ use Rattle.rules.specs.Rig.{Row, placeOf}
 use Rattle.rules.specs.State.{Chain, timeChain, chainOf, State, Entry, Work, stateOf, inactive, waiting, dispatchable, on}
 use Rattle.rules.specs.Serving.{mostOverruns, made, serve}
 use Rattle.rules.specs.Soundness.{IsChain}
+use Rattle.rules.specs.Starting.{mostLinks}
 use Rattle.rules.specs.Calls.{terminate, finish, tick, signal, effect, ended, run, start}
 use Rattle.rules.specs.History.{Earlier, Sooner}
 use Rattle.rules.specs.Overruns.{overrunsCounted}
+use Rattle.rules.specs.WhyNot as W
+use Rattle.rules.specs.WhyNot.{HasCondition, CanStart, LowestBlocking, BySignal, ByTick, ByEnding}
 use Rattle.rules.specs.Bus.{rowDue, rowWords, busWords}
 use Rattle.rules.specs.Frame.{dueIn, commandsTo, commandsIn, timesAFrame, commandsAFrame}
 use Rattle.rules_laws.specs.Activation.{ByService, ByTest}
@@ -246,3 +249,22 @@ pub record SpokenTo (x : Exec) (ms : List Made) (address : ℕ) : Type 0 where
   pub cycles :
       (m : Made) → InARow ms (m ∷ []) →
       commandsTo address (handedOut m) ≡ commandsIn (x .rig .rows) (x .rig .master) (rigIn x .row) address (countMade m % minorCycles)
+
+-- ---- L13: WHY WON'T IT START? The question m about task t, within d links, is asked of the record y, which is what it was.
+
+pub record WhyTold (y : Exec) (t d : ℕ) (m : Made) : Type 0 where
+  pub same : m .step .exec ≡ y
+  -- "The answer is yes, or the lowest condition that blocks. .. It needs no running task."
+  pub told :
+      1 ≤ t → t ≤ y .rig .tasks → stateIn y t ≡ inactive → d ≤ mostLinks →
+      (codeOf (m .step) ≡ 0) × LowestBlocking (rigIn y) (view y) d t (toldBy (m .step))
+  -- "A larger d never turns a yes into a no."
+  pub larger : codeOf (m .step) ≡ 0 → toldBy (m .step) ≡ positions → (e : ℕ) → d ≤ e → CanStart (rigIn y) (view y) e t
+  -- after a yes at d = 0 there is, for each condition that does not stand, a call or tick that serves a flag which brings it there
+  pub way :
+      codeOf (m .step) ≡ 0 → toldBy (m .step) ≡ positions → d ≡ 0 → (p : ℕ) → HasCondition (rigIn y) t p → (W.Stands (rigIn y) (view y) t p → ⊥) →
+      BySignal (rigIn y) t p ⊎ (ByTick (rigIn y) t p ⊎ ByEnding (rigIn y) (view y) t p)
+  -- "Refusals: 12, then 6, then 8 if the task isn't inactive, then 11 for d above 3."
+  pub six : (t ≡ 0) ⊎ (y .rig .tasks < t) → codeOf (m .step) ≡ 6
+  pub eight : 1 ≤ t → t ≤ y .rig .tasks → stateIn y t ≢ inactive → codeOf (m .step) ≡ 8
+  pub eleven : 1 ≤ t → t ≤ y .rig .tasks → stateIn y t ≡ inactive → mostLinks < d → codeOf (m .step) ≡ 11

@@ -23,11 +23,12 @@ use Rattle.rig.specs.declared.Rig.{Rig}
 use Rattle.rules.specs.Rig as G
 use Rattle.rules.specs.RigOk.{RigOk}
 use Rattle.rules.specs.State as S
-use Rattle.rules.specs.State.{Chain, timeChain, chainOf, waiting}
+use Rattle.rules.specs.State.{Chain, timeChain, chainOf, inactive, waiting}
 use Rattle.rules.specs.Serving.{mostOverruns, made, serve}
 use Rattle.rules.specs.Soundness.{IsChain, Sound}
 use Rattle.rules.specs.Calls as R
-use Rattle.rules.specs.Calls.{isTick, tick, waitUntil, waitFor, nextWaking, readOverruns, noSuch, refusal}
+use Rattle.rules.specs.Calls.{isTick, tick, waitUntil, waitFor, nextWaking, readOverruns, whyNot, noSuch, refusal}
+use Rattle.rules.specs.Reasons.{NoSuch}
 use Rattle.rules.specs.Proper.{ProperRun}
 use Rattle.rules_laws.specs.Acceptance.{there-is}
 use Rattle.rules_laws.specs.Refusals.{code-is, refused-unchanged}
@@ -41,14 +42,18 @@ use Rattle.rules.specs.History as H
 use Rattle.rules_laws.specs.InOrder.{chains-in-order}
 use Rattle.rules.specs.Waking.{Struck}
 use Rattle.rules.specs.Overruns.{Event, eventsIf, eventsFrom, startEvents, eventsOf, overrunsCounted}
+use Rattle.rules.specs.Starting.{lowestBlocking}
+use Rattle.rules.specs.WhyNot.{LowestBlocking}
 use Rattle.rules.specs.Bus.{rowDue, rowWords, busWords}
 use Rattle.rules.specs.Frame.{dueIn, commandsTo, commandsIn}
 use Rattle.rules_laws.specs.Frame.{AllTimed, due-times, quotient, frame-round, due-next, bus-at, row-speaks, words-of-cycle, commands-times, times-is, step-count, tick-sends}
+use Rattle.rules_laws.specs.Starting.{lowest-blocking, larger}
 use Rattle.rules_laws.specs.Ticking.{is-tick}
 use Rattle.rules_laws.specs.Waking.{Spared}
 use Rattle.rules_laws.specs.Waking as W
 use Rattle.rules_laws.specs.WakingLaws as WL
 use Rattle.rules_laws.specs.NextWaking.{in-time, OnlyBegins, run-counts, waking-in-range}
+use Rattle.rules_laws.specs.WayThere.{way-there}
 use Rattle.rules_laws.specs.Activation.{BySchedule, ByService, activated-by}
 use Rattle.rules_laws.specs.AtMost.{finish-most, terminate-most}
 use Rattle.rules_laws.specs.NobodyLeft as NL
@@ -61,10 +66,10 @@ use Rattle.exec.specs.Call.{Follows, Meets, Refuses, answerOf}
 use Rattle.exec.specs.Laws.Unique.{record-same}
 use Rattle.exec.specs.Laws.Meeting.{refused-tells-nothing}
 use Rattle.exec_sound.specs.Laws.RightRig.{rig-ok}
-use Rattle.exec.specs.Laws.Promises.{twelve-exactly, Answered, asked, overruns-asked, six-exactly, six-unchanged}
+use Rattle.exec.specs.Laws.Promises.{twelve-exactly, Answered, asked, overruns-asked, six-exactly, six-unchanged, why-answered, why-refused, why-same}
 use Rattle.exec.specs.Starting.{Started, noExec, brokenRig}
 use Rattle.runs.specs.Runs.{Made, MadeOn, Ran, callsOf, codeOf, servedOf, wokenOf, activatedOf, toldBy, AcceptedStart, noting, historyIn, happening, eventsIn, SparedIn, NoneSoonerIn, isAcceptedTick, ticksIn, countMade, handedOut}
-use Rattle.runs.specs.Demands.{Stands, Chained, Activated, Bounded, Demand, Wakes, forwardIn, stateIn, wakeIn, OnTime, Told, leaves, Comes, byTestIn, Hears, Heard, NobodyLeft, AtMost, Overran, OverrunsTold, rowIn, dueAt, wordsOfRows, HandsOut, InARow, Wired, SpokenTo}
+use Rattle.runs.specs.Demands.{Stands, Chained, Activated, Bounded, Demand, Wakes, forwardIn, stateIn, wakeIn, OnTime, Told, leaves, Comes, byTestIn, Hears, Heard, NobodyLeft, AtMost, Overran, OverrunsTold, WhyTold, rowIn, dueAt, wordsOfRows, HandsOut, InARow, Wired, SpokenTo}
 use Rattle.exec.specs.declared.Exec.{Exec}
 use Rattle.exec.specs.declared.Step.{Step}
 
@@ -361,6 +366,35 @@ module _ (y : Exec) (h : SoundRecord y) (m : Made) (o : MadeOn y m) where
           refused = λ n. six-exactly y t (m .step) (m .after) meets .1 (h, n);
         }
 
+  -- ---- L13: it is asked why a task won't start
+  module _ (t d : ℕ) (asks : m .call ≡ whyNot t d) where
+    meets-why : Meets y (whyNot t d) (m .step) (m .after)
+    meets-why = subst (λ (k : R.Call). Meets y k (m .step) (m .after)) asks (o .meets)
+
+    -- what is told is what the rules compute; the task is inactive, or it would have been refused
+    why-read : codeOf (m .step) ≡ 0 → (stateIn y t ≡ inactive) × (toldBy (m .step) ≡ lowestBlocking (rigIn y) (view y) d t)
+    why-read c = (
+      why-refused y t d (m .step) (m .after) meets-why .none .0 c .2,
+      ap (λ (z : R.Answer). z .report .value) (why-answered y t d (m .step) (m .after) meets-why c .answer),
+    )
+
+    why-words : codeOf (m .step) ≡ 0 → LowestBlocking (rigIn y) (view y) d t (toldBy (m .step))
+    why-words c = let w = why-read c in subst (LowestBlocking (rigIn y) (view y) d t) (sym (w .1)) (lowest-blocking (rigIn y) (view y) d t (w .0))
+
+    sound-why-told : WhyTold y t d m
+    sound-why-told =
+        let w = why-refused y t d (m .step) (m .after) meets-why in
+        let there : 1 ≤ t → t ≤ y .rig .tasks → NoSuch (y .rig .tasks) t → ⊥ = λ a b n. ⊎-elim (λ e. omega (arith, e, a)) (λ e. omega (arith, e, b)) n in
+        record {
+          same = why-same y t d (m .step) (m .after) meets-why;
+          told = λ a b i l. let c = w .none .1 (h, there a b, i, l) in (c, why-words c);
+          larger = λ c e f g. larger (rigIn y) (view y) d f t g (why-words c .yes .0 e);
+          way = λ c e z p. way-there (rigIn y) (ok y h) t p (view y) (h .state) (larger (rigIn y) (view y) d 0 t (omega (arith, z)) (why-words c .yes .0 e));
+          six = λ n. w .six .1 (h, n);
+          eight = λ a b i. w .eight .1 (h, there a b, i);
+          eleven = λ a b i l. w .eleven .1 (h, there a b, i, l);
+        }
+
 -- ---- the waking clause of the rules, said of the record to which the calls ks led
 
 wakes-shown : (r : G.Rig) (s : S.State) (ks : List R.Call) (z : Exec) → Shows r (R.run r s ks) z → (t c : ℕ) → W.WakesByRules r t c s ks → Wakes t c z
@@ -589,6 +623,10 @@ module _ (g : Rig) (table : List (List ℕ)) (x : Exec) (s : AcceptedStart g tab
               let t = in-a-row (rigIn x) _ ms (m ∷ []) ticks w .1 .0 in
               ap (commandsTo address) (t .sent ∙ ap (busWords rows master row) (sym (t .made)) ∙ words-of-cycle rows master row timed (countMade m));
         }
+
+    -- L13: WHY WON'T IT START?
+    pub why-told : (m : Made) → MadeOn y m → (t d : ℕ) → m .call ≡ whyNot t d → WhyTold y t d m
+    why-told m o = sound-why-told y (there .sound) m o
 
     -- L2: WHOM DID IT WAKE?
     pub heard : (m : Made) → MadeOn y m → Heard y m

@@ -21,7 +21,7 @@ use Rattle.rules.specs.Family.{family, cleared, deserted, offs}
 use Rattle.rules.specs.Running.{best, chosen, dispatch}
 use Rattle.rules.specs.Bus.{written, copied, rowWords, busWords}
 use Rattle.rules.specs.NextWaking.{lowestWaking}
-use Rattle.rules.specs.Rig.{inCycle, isMinor}
+use Rattle.rules.specs.Rig.{inCycle, isMinor, isActivation}
 use Rattle.rules.specs.Calls as R
 use Rattle.rules.specs.Soundness as Rules
 use Rattle.rules_laws.specs.Steps.{start-sound, run-sound}
@@ -53,7 +53,7 @@ asked r = R.step r (before r) R.nextWaking .next
 
 -- what is computed: the answer, and the count behind the tick
 computed : (R.step bench (before bench) R.nextWaking .answer .report .value ≡ 6) × (R.step bench (asked bench) tick₀ .next .count ≡ 5)
-unfolding before asked callsBefore bench rig ofTask ofCondition numbers ofLine ofCycle tick₀ iter all any total over put commandWord blank relax met drive names activate tooSoon mostOverruns oneMore overrun takes rouse wake ready offer offers serveFlag serving serve waitOn waitUntilCount leave wakeDue family cleared deserted offs best chosen dispatch written copied rowWords busWords lowestWaking R.tested R.scheduled R.finished R.terminated R.cancelled R.cycleQueue R.ticked R.effect R.ended R.again R.settled R.decide R.noSuch inCycle isMinor R.isActivation R.lastCount R.wrongBlock R.refusals R.refusal R.wordsAt R.lent R.output R.accepted R.after R.step R.run R.started R.start
+unfolding before asked callsBefore bench rig ofTask ofCondition numbers ofLine ofCycle tick₀ iter all any total over put commandWord blank relax met drive names activate tooSoon mostOverruns oneMore overrun takes rouse wake ready offer offers serveFlag serving serve waitOn waitUntilCount leave wakeDue family cleared deserted offs best chosen dispatch written copied rowWords busWords lowestWaking R.tested R.scheduled R.finished R.terminated R.cancelled R.cycleQueue R.ticked R.effect R.ended R.again R.settled R.decide R.noSuch inCycle isMinor isActivation R.lastCount R.wrongBlock R.refusals R.refusal R.wordsAt R.lent R.output R.accepted R.after R.step R.run R.started R.start
 computed = (refl, refl)
 
 pub madeBefore : List Made

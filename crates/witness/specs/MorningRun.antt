@@ -25,7 +25,7 @@ use Rattle.rules.specs.Waiting.{waitOn, waitUntilCount, leave, wakeDue}
 use Rattle.rules.specs.Family.{family, cleared, deserted, offs}
 use Rattle.rules.specs.Running.{best, chosen, dispatch}
 use Rattle.rules.specs.Bus.{written, copied, rowWords, busWords}
-use Rattle.rules.specs.Rig.{inCycle, isMinor}
+use Rattle.rules.specs.Rig.{inCycle, isMinor, isActivation}
 use Rattle.rules.specs.Calls as R
 use Rattle.rules.specs.Proper.{ProperRun}
 use Rattle.rules.specs.Soundness as Rules
@@ -72,7 +72,7 @@ input-script = refl
 
 -- they ask for the calls of the rules' bench morning
 pub script-asks : map (λ (l : List ℕ). askedBy (saidOf false l)) morningScript ≡ map U.call morningCalls
-unfolding bytes morningScript morningCalls tick₀ askedBy saidOf C.fieldsSay C.verbOf C.alone C.withNumber C.withValue split onHead D.readByte D.readOn
+unfolding bytes morningScript morningCalls tick₀ askedBy saidOf C.fieldsSay C.verbOf C.alone C.withNumber C.withValue C.withTwo split onHead D.readByte D.readOn
 script-asks = refl
 
 -- ---- what is printed of a run
@@ -109,7 +109,7 @@ abbrev startRuled : G.Rig → List ℕ
 startRuled r = lineText startName (startColumns r)
 
 output-ruled : startRuled bench ++ ruled morningScript bench (R.start bench) morningCalls ≡ morningOutput
-unfolding bytes morningScript morningOutput bench morningCalls rig ofTask ofCondition numbers ofLine ofCycle tick₀ iter all any total over put commandWord blank relax met drive names activate tooSoon mostOverruns oneMore overrun takes rouse wake ready offer offers serveFlag made serving serve waitOn waitUntilCount leave wakeDue family cleared deserted offs best chosen dispatch written copied rowWords busWords R.tested R.scheduled R.finished R.terminated R.cancelled R.cycleQueue R.ticked R.effect R.ended R.again R.settled R.decide R.noSuch inCycle isMinor R.isActivation R.lastCount R.wrongBlock R.refusals R.refusal R.wordsAt R.lent R.output R.accepted R.after R.step R.run R.started R.start saidOf C.fieldsSay C.verbOf C.alone C.withNumber C.withValue split onHead led D.readByte D.readOn D.decBy D.dec fieldsText lineText extra numbersOf textOf
+unfolding bytes morningScript morningOutput bench morningCalls rig ofTask ofCondition numbers ofLine ofCycle tick₀ iter all any total over put commandWord blank relax met drive names activate tooSoon mostOverruns oneMore overrun takes rouse wake ready offer offers serveFlag made serving serve waitOn waitUntilCount leave wakeDue family cleared deserted offs best chosen dispatch written copied rowWords busWords R.tested R.scheduled R.finished R.terminated R.cancelled R.cycleQueue R.ticked R.effect R.ended R.again R.settled R.decide R.noSuch inCycle isMinor isActivation R.lastCount R.wrongBlock R.refusals R.refusal R.wordsAt R.lent R.output R.accepted R.after R.step R.run R.started R.start saidOf C.fieldsSay C.verbOf C.alone C.withNumber C.withValue C.withTwo split onHead led D.readByte D.readOn D.decBy D.dec fieldsText lineText extra numbersOf textOf
 output-ruled = refl
 
 -- ---- THE RUN: there is one, and it prints the paper's output

@@ -9,6 +9,7 @@ use lib.ListN.{drop}
 use Rattle.laws.specs.Iter.{iter}
 use Rattle.laws.specs.All.{all}
 use Rattle.laws.specs.Any.{any}
+use Rattle.laws.specs.Lowest.{lowest}
 use Rattle.laws.specs.Tables.{total, over}
 use Rattle.laws.specs.Put.{put}
 use Rattle.word_parts.specs.Packed.{commandWord}
@@ -23,7 +24,8 @@ use Rattle.rules.specs.Family.{family, cleared, deserted, offs}
 use Rattle.rules.specs.Running.{best, chosen, dispatch}
 use Rattle.rules.specs.Bus.{written, copied, rowWords, busWords}
 use Rattle.rules.specs.NextWaking.{lowestWaking}
-use Rattle.rules.specs.Rig.{inCycle, isMinor}
+use Rattle.rules.specs.Rig.{inCycle, isMinor, isActivation}
+use Rattle.rules.specs.Starting.{mostLinks, flagOf, comesOn, goesOff, comesTo, brought, starts, startsBelow, lowestBlocking}
 use Rattle.rules.specs.Calls as R
 use Rattle.rules.specs.Scripts.{bench, rig, ofTask, ofCondition, numbers, ofLine, ofCycle, tick₀, morningCalls}
 use Rattle.rig_build.specs.declared.Answer.{Answer}
@@ -52,7 +54,7 @@ abbrev told : Bool → G.Rig → List (List ℕ) → List ℕ
 told panel r pieces = lineText startName (startColumns r) ++ talkText panel r (R.start r) pieces
 
 computed : (panel : Bool) → told panel bench (morningScript ++ [] ∷ []) ≡ morningOutput
-unfolding bytes morningScript morningOutput bench morningCalls rig ofTask ofCondition numbers ofLine ofCycle tick₀ iter all any total over put commandWord blank relax met drive names activate tooSoon mostOverruns oneMore overrun takes rouse wake ready offer offers serveFlag made serving serve waitOn waitUntilCount leave wakeDue family cleared deserted offs best chosen dispatch written copied rowWords busWords R.tested R.scheduled R.finished R.terminated R.cancelled R.cycleQueue R.ticked R.effect R.ended R.again R.settled R.decide R.noSuch inCycle isMinor R.isActivation R.lastCount R.wrongBlock R.refusals R.refusal R.wordsAt R.lent R.output R.accepted R.after R.step R.run R.started R.start saidOf C.fieldsSay C.verbOf C.alone C.withNumber C.withValue split onHead led D.readByte D.readOn D.decBy D.dec fieldsText lineText extra numbersOf textOf talkText lastText U.turnText U.turnNext U.askedText U.askedNext askedBy
+unfolding bytes morningScript morningOutput bench morningCalls rig ofTask ofCondition numbers ofLine ofCycle tick₀ iter all any total over put commandWord blank relax met drive names activate tooSoon mostOverruns oneMore overrun takes rouse wake ready offer offers serveFlag made serving serve waitOn waitUntilCount leave wakeDue family cleared deserted offs best chosen dispatch written copied rowWords busWords R.tested R.scheduled R.finished R.terminated R.cancelled R.cycleQueue R.ticked R.effect R.ended R.again R.settled R.decide R.noSuch inCycle isMinor isActivation R.lastCount R.wrongBlock R.refusals R.refusal R.wordsAt R.lent R.output R.accepted R.after R.step R.run R.started R.start saidOf C.fieldsSay C.verbOf C.alone C.withNumber C.withValue C.withTwo split onHead led D.readByte D.readOn D.decBy D.dec fieldsText lineText extra numbersOf textOf talkText lastText U.turnText U.turnNext U.askedText U.askedNext askedBy
 computed panel = refl
 
 accepted-text : (panel : Bool) (script : List ℕ) → wholeText panel (fileAccepted morningRig (codeCycles bench)) script ≡ told panel (rigOf morningRig (codeCycles bench)) (split lf script)
@@ -74,9 +76,18 @@ unfoldable pub panelScript : List (List ℕ)
 panelScript = map bytes ("V" ∷ "U\t2" ∷ "V" ∷ "V\t1" ∷ "O\t1" ∷ "O\t4" ∷ "" ∷ [])
 
 pub panel-prints : told true bench panelScript ≡ bytes ("START\t0\t0\t1\t0\t0\n" ⧺ "V\t0\t0\t1\t0\t0\n" ⧺ "U\t0\t0\t0\t0\t0\n" ⧺ "V\t0\t0\t0\t0\t0\t2\n" ⧺ "?\n" ⧺ "O\t0\t0\t0\t0\t0\t0\n" ⧺ "O\t6\t0\t0\t0\t0\n")
-unfolding panelScript bytes lowestWaking morningScript morningOutput bench morningCalls rig ofTask ofCondition numbers ofLine ofCycle tick₀ iter all any total over put commandWord blank relax met drive names activate tooSoon mostOverruns oneMore overrun takes rouse wake ready offer offers serveFlag made serving serve waitOn waitUntilCount leave wakeDue family cleared deserted offs best chosen dispatch written copied rowWords busWords R.tested R.scheduled R.finished R.terminated R.cancelled R.cycleQueue R.ticked R.effect R.ended R.again R.settled R.decide R.noSuch inCycle isMinor R.isActivation R.lastCount R.wrongBlock R.refusals R.refusal R.wordsAt R.lent R.output R.accepted R.after R.step R.run R.started R.start saidOf C.fieldsSay C.verbOf C.alone C.withNumber C.withValue split onHead led D.readByte D.readOn D.decBy D.dec fieldsText lineText extra numbersOf textOf talkText lastText U.turnText U.turnNext U.askedText U.askedNext askedBy
+unfolding panelScript bytes lowestWaking morningScript morningOutput bench morningCalls rig ofTask ofCondition numbers ofLine ofCycle tick₀ iter all any total over put commandWord blank relax met drive names activate tooSoon mostOverruns oneMore overrun takes rouse wake ready offer offers serveFlag made serving serve waitOn waitUntilCount leave wakeDue family cleared deserted offs best chosen dispatch written copied rowWords busWords R.tested R.scheduled R.finished R.terminated R.cancelled R.cycleQueue R.ticked R.effect R.ended R.again R.settled R.decide R.noSuch inCycle isMinor isActivation R.lastCount R.wrongBlock R.refusals R.refusal R.wordsAt R.lent R.output R.accepted R.after R.step R.run R.started R.start saidOf C.fieldsSay C.verbOf C.alone C.withNumber C.withValue C.withTwo split onHead led D.readByte D.readOn D.decBy D.dec fieldsText lineText extra numbersOf textOf talkText lastText U.turnText U.turnNext U.askedText U.askedNext askedBy
 panel-prints = refl
 
 pub runner-prints : told false bench panelScript ≡ bytes ("START\t0\t0\t1\t0\t0\n" ⧺ "?\n" ⧺ "U\t0\t0\t0\t0\t0\n" ⧺ "?\n" ⧺ "?\n" ⧺ "?\n" ⧺ "?\n")
-unfolding panelScript bytes lowestWaking morningScript morningOutput bench morningCalls rig ofTask ofCondition numbers ofLine ofCycle tick₀ iter all any total over put commandWord blank relax met drive names activate tooSoon mostOverruns oneMore overrun takes rouse wake ready offer offers serveFlag made serving serve waitOn waitUntilCount leave wakeDue family cleared deserted offs best chosen dispatch written copied rowWords busWords R.tested R.scheduled R.finished R.terminated R.cancelled R.cycleQueue R.ticked R.effect R.ended R.again R.settled R.decide R.noSuch inCycle isMinor R.isActivation R.lastCount R.wrongBlock R.refusals R.refusal R.wordsAt R.lent R.output R.accepted R.after R.step R.run R.started R.start saidOf C.fieldsSay C.verbOf C.alone C.withNumber C.withValue split onHead led D.readByte D.readOn D.decBy D.dec fieldsText lineText extra numbersOf textOf talkText lastText U.turnText U.turnNext U.askedText U.askedNext askedBy
+unfolding panelScript bytes lowestWaking morningScript morningOutput bench morningCalls rig ofTask ofCondition numbers ofLine ofCycle tick₀ iter all any total over put commandWord blank relax met drive names activate tooSoon mostOverruns oneMore overrun takes rouse wake ready offer offers serveFlag made serving serve waitOn waitUntilCount leave wakeDue family cleared deserted offs best chosen dispatch written copied rowWords busWords R.tested R.scheduled R.finished R.terminated R.cancelled R.cycleQueue R.ticked R.effect R.ended R.again R.settled R.decide R.noSuch inCycle isMinor isActivation R.lastCount R.wrongBlock R.refusals R.refusal R.wordsAt R.lent R.output R.accepted R.after R.step R.run R.started R.start saidOf C.fieldsSay C.verbOf C.alone C.withNumber C.withValue C.withTwo split onHead led D.readByte D.readOn D.decBy D.dec fieldsText lineText extra numbersOf textOf talkText lastText U.turnText U.turnNext U.askedText U.askedNext askedBy
 runner-prints = refl
+
+-- "WHY WON'T IT START?" on the same rig. Task 1 is active. Task 2's condition has a minor-cycle flag: it can start. Task 3's has task 2's activation
+-- flag: within no link its condition 0 blocks, within one it can start. More than 3 links, and no task 4. No task runs by then.
+unfoldable pub whyScript : List (List ℕ)
+whyScript = map bytes ("Y\t1\t0" ∷ "S\t2" ∷ "S\t3" ∷ "U\t2" ∷ "Y\t2\t0" ∷ "Y\t3\t0" ∷ "Y\t3\t1" ∷ "Y\t3\t4" ∷ "Y\t4\t0" ∷ "" ∷ [])
+
+pub why-prints : told true bench whyScript ≡ bytes ("START\t0\t0\t1\t0\t0\n" ⧺ "Y\t8\t0\t1\t0\t0\n" ⧺ "S\t0\t0\t1\t0\t0\n" ⧺ "S\t0\t0\t1\t0\t0\n" ⧺ "U\t0\t0\t0\t0\t0\n" ⧺ "Y\t0\t0\t0\t0\t0\n" ⧺ "Y\t0\t0\t0\t0\t0\t0\n" ⧺ "Y\t0\t0\t0\t0\t0\n" ⧺ "Y\t11\t0\t0\t0\t0\n" ⧺ "Y\t6\t0\t0\t0\t0\n")
+unfolding whyScript bytes lowest lowestBlocking startsBelow starts brought comesTo comesOn goesOff flagOf mostLinks morningScript morningOutput bench morningCalls rig ofTask ofCondition numbers ofLine ofCycle tick₀ iter all any total over put commandWord blank relax met drive names activate tooSoon mostOverruns oneMore overrun takes rouse wake ready offer offers serveFlag made serving serve waitOn waitUntilCount leave wakeDue family cleared deserted offs best chosen dispatch written copied rowWords busWords R.tested R.scheduled R.finished R.terminated R.cancelled R.cycleQueue R.ticked R.effect R.ended R.again R.settled R.decide R.noSuch inCycle isMinor isActivation R.lastCount R.wrongBlock R.refusals R.refusal R.wordsAt R.lent R.output R.accepted R.after R.step R.run R.started R.start saidOf C.fieldsSay C.verbOf C.alone C.withNumber C.withValue C.withTwo split onHead led D.readByte D.readOn D.decBy D.dec fieldsText lineText extra numbersOf textOf talkText lastText U.turnText U.turnNext U.askedText U.askedNext askedBy
+why-prints = refl

@@ -17,7 +17,7 @@ use Rattle.word_parts.specs.Packed.{commandWord}
 use Rattle.rig.specs.declared.Cycle.{Cycle}
 use Rattle.rig.specs.declared.Rig.{Rig}
 use Rattle.rules.specs.Rig as G
-use Rattle.rules.specs.Rig.{inCycle, isMinor}
+use Rattle.rules.specs.Rig.{inCycle, isMinor, isActivation}
 use Rattle.rules.specs.State as S
 use Rattle.rules.specs.State.{blank}
 use Rattle.rules.specs.Conditions.{relax, met, drive, names}
@@ -88,7 +88,7 @@ ticks-ruled g cycles s (k ∷ ks) =
     one-more false m ms = refl
 
 computed : acceptedTicks bench (R.start bench) tickingCalls ≡ 130
-unfolding acceptedTicks tickingCalls rounds round ticking tick₀ isTick bench rig ofTask ofCondition numbers ofLine ofCycle iter all any total over put commandWord blank relax met drive names activate tooSoon mostOverruns oneMore overrun takes rouse wake ready offer offers serveFlag serving serve wakeDue best chosen dispatch rowWords busWords R.tested R.scheduled R.cycleQueue R.ticked R.effect R.ended R.again R.settled R.decide R.noSuch inCycle isMinor R.isActivation R.lastCount R.refusals R.refusal R.wordsAt R.lent R.output R.accepted R.after R.step R.started R.start
+unfolding acceptedTicks tickingCalls rounds round ticking tick₀ isTick bench rig ofTask ofCondition numbers ofLine ofCycle iter all any total over put commandWord blank relax met drive names activate tooSoon mostOverruns oneMore overrun takes rouse wake ready offer offers serveFlag serving serve wakeDue best chosen dispatch rowWords busWords R.tested R.scheduled R.cycleQueue R.ticked R.effect R.ended R.again R.settled R.decide R.noSuch inCycle isMinor isActivation R.lastCount R.refusals R.refusal R.wordsAt R.lent R.output R.accepted R.after R.step R.started R.start
 computed = refl
 
 -- ---- the run

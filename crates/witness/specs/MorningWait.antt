@@ -20,7 +20,7 @@ use Rattle.rules.specs.Waiting.{waitOn, waitUntilCount, leave, wakeDue}
 use Rattle.rules.specs.Family.{family, cleared, deserted, offs}
 use Rattle.rules.specs.Running.{best, chosen, dispatch}
 use Rattle.rules.specs.Bus.{written, copied, rowWords, busWords}
-use Rattle.rules.specs.Rig.{inCycle, isMinor}
+use Rattle.rules.specs.Rig.{inCycle, isMinor, isActivation}
 use Rattle.rules.specs.Calls as R
 use Rattle.rules.specs.Soundness as Rules
 use Rattle.rules_laws.specs.Steps.{start-sound, run-sound, step-sound}
@@ -59,7 +59,7 @@ due r = R.step r (begun r) tick₀ .next
 
 -- what is computed: who runs and which count it is before the wait, that the wait is accepted, and the count before the last tick
 computed : (before bench .running ≡ 3) × (before bench .count ≡ 4) × (R.step bench (before bench) (R.waitFor 2) .answer .code ≡ 0) × (due bench .count ≡ 5)
-unfolding before begun due callsBefore bench rig ofTask ofCondition numbers ofLine ofCycle tick₀ iter all any total over put commandWord blank relax met drive names activate tooSoon mostOverruns oneMore overrun takes rouse wake ready offer offers serveFlag serving serve waitOn waitUntilCount leave wakeDue family cleared deserted offs best chosen dispatch written copied rowWords busWords R.tested R.scheduled R.finished R.terminated R.cancelled R.cycleQueue R.ticked R.effect R.ended R.again R.settled R.decide R.noSuch inCycle isMinor R.isActivation R.lastCount R.wrongBlock R.refusals R.refusal R.wordsAt R.lent R.output R.accepted R.after R.step R.run R.started R.start
+unfolding before begun due callsBefore bench rig ofTask ofCondition numbers ofLine ofCycle tick₀ iter all any total over put commandWord blank relax met drive names activate tooSoon mostOverruns oneMore overrun takes rouse wake ready offer offers serveFlag serving serve waitOn waitUntilCount leave wakeDue family cleared deserted offs best chosen dispatch written copied rowWords busWords R.tested R.scheduled R.finished R.terminated R.cancelled R.cycleQueue R.ticked R.effect R.ended R.again R.settled R.decide R.noSuch inCycle isMinor isActivation R.lastCount R.wrongBlock R.refusals R.refusal R.wordsAt R.lent R.output R.accepted R.after R.step R.run R.started R.start
 computed = (refl, refl, refl, refl)
 
 -- ---- the run of the morning in these parts

@@ -12,11 +12,11 @@ use lib.Seq.{take-suc-set, length-take-le}
 use borrow.Author.Tests.{lt-ltb, le-ltb, ltb-true, ltb-false}
 use Rattle.laws.specs.Cases.{by, if-yes, if-no, and-true}
 use Rattle.decimal.specs.Decimal.{cap, number, dec}
-use Rattle.decimal.specs.Laws.{dec-number, dec-small}
+use Rattle.decimal.specs.Laws.{dec-number}
 use Rattle.text.specs.Split.{split, join, led}
 use Rattle.text.specs.Laws.Split.{join-split}
 use Rattle.bench_script.specs.Letters.{tab}
-use Rattle.bench_script.specs.Script.{verbOf, alone, withNumber, withValue, fieldsSay, saidOf}
+use Rattle.bench_script.specs.Script.{verbOf, alone, withNumber, withValue, withTwo, fieldsSay, saidOf}
 use Rattle.bench_script.specs.Laws.Written.{dec-length}
 use Rattle.bench_script.specs.declared.Said.the-variants.{Wrong}
 use Rattle.bench_input.specs.Line.{lineRoom, withMore, Holds}
@@ -46,19 +46,14 @@ module _ (line : List ℕ) (held b : ℕ) (n : length line ≡ lineRoom) where
         size = refl;
       }
 
--- ---- no line of more than 14 bytes says anything
+-- ---- no line of more than 23 bytes says anything: a verb and two numbers
 
 abbrev pub longest : ℕ
-longest = 14
+longest = 23
 
--- a number that is read has at most ten digits, and one below 2 has one
+-- a number that is read has at most ten digits
 digits : (l : List ℕ) → number l < cap → length l ≤ 10
 digits l h = let e : l ≡ dec (number l) = dec-number l (number l) h refl in let k = dec-length (number l) in omega (arith, ap length e)
-
-one-digit : (l : List ℕ) → number l < 2 → length l ≤ 1
-one-digit l h =
-    let e : l ≡ dec (number l) = dec-number l (number l) (omega arith) refl in
-    omega (arith, ap length e, ap length (dec-small (number l) (omega arith)))
 
 -- a verb of more than one letter is none
 no-verb : (v : List ℕ) → 1 < length v → verbOf v ≡ 0
@@ -67,8 +62,13 @@ no-verb [] h = refl
 no-verb (x ∷ []) h = absurd (let z : ⊥ = omega arith in z)
 no-verb (x ∷ y ∷ v) h = refl
 
+-- and with two numbers behind it nothing is said
+nothing-said : (panel : Bool) (v n m : ℕ) → v ≡ 0 → withTwo panel v n m ≡ Wrong
+unfolding withTwo withValue
+nothing-said panel v n m e = rw e (by (ltb m 2) (λ t. rw t) (λ t. rw t))
+
 fields-long : (panel : Bool) (ps : List (List ℕ)) → longest < length (join tab ps) → fieldsSay panel ps ≡ Wrong
-unfolding fieldsSay join led alone withNumber withValue
+unfolding fieldsSay join led alone withNumber
 fields-long panel [] h = refl
 fields-long panel (v ∷ []) h =
     let e = length-append v [] in
@@ -80,17 +80,17 @@ fields-long panel (v ∷ n ∷ []) h =
     let f = length-append n [] in
     rw (t, no-verb v (omega (arith, e, f))))
     (λ t. rw t)
-fields-long panel (v ∷ f ∷ b ∷ []) h =
-    by (ltb (number f) cap && ltb (number b) 2)
-    (λ t. let w = and-true (ltb (number f) cap) (ltb (number b) 2) t in
-    let d = digits f (ltb-true (number f) cap (w .0)) in
-    let o = one-digit b (ltb-true (number b) 2 (w .1)) in
-    let e = length-append v (tab ∷ (f ++ (tab ∷ (b ++ [])))) in
-    let g = length-append f (tab ∷ (b ++ [])) in
-    let k = length-append b [] in
-    rw (t, no-verb v (omega (arith, e, g, k))))
+fields-long panel (v ∷ n ∷ m ∷ []) h =
+    by (ltb (number n) cap && ltb (number m) cap)
+    (λ t. let w = and-true (ltb (number n) cap) (ltb (number m) cap) t in
+    let d = digits n (ltb-true (number n) cap (w .0)) in
+    let o = digits m (ltb-true (number m) cap (w .1)) in
+    let e = length-append v (tab ∷ (n ++ (tab ∷ (m ++ [])))) in
+    let g = length-append n (tab ∷ (m ++ [])) in
+    let k = length-append m [] in
+    rw t (nothing-said panel (verbOf v) (number n) (number m) (no-verb v (omega (arith, e, g, k)))))
     (λ t. rw t)
-fields-long panel (v ∷ f ∷ b ∷ x ∷ xs) h = refl
+fields-long panel (v ∷ n ∷ m ∷ x ∷ xs) h = refl
 
 pub too-long : (panel : Bool) (line : List ℕ) → longest < length line → saidOf panel line ≡ Wrong
 unfolding saidOf

@@ -9,7 +9,7 @@ use Rattle.rules.specs.State as S
 use Rattle.rig_build.specs.declared.Answer.{Answer}
 use Rattle.rig_meaning.specs.Laws.Read.{read-empty}
 use Rattle.bench_script.specs.Letters.{lf, question}
-use Rattle.bench_script.specs.Script.{verbOf, alone, withNumber, withValue, fieldsSay, saidOf}
+use Rattle.bench_script.specs.Script.{verbOf, alone, withNumber, withValue, withTwo, fieldsSay, saidOf}
 use Rattle.bench_script.specs.Output.{fieldsText, lineText}
 use Rattle.bench_script.specs.Input.{isRun, beforeRun, rigEnd}
 use Rattle.bench_input.specs.Line.{lastText}
@@ -18,27 +18,37 @@ use Rattle.bench_morning.specs.Morning.{startText, talkText, wholeText, 
 
 -- "K " and LF, an empty line, and x with no LF: each "prints ? alone"
 pub wrong-lines : (panel : Bool) (r : G.Rig) (s : S.State) → talkText panel r s (split lf (75 ∷ 32 ∷ 10 ∷ 10 ∷ 120 ∷ [])) ≡ question ∷ lf ∷ question ∷ lf ∷ question ∷ lf ∷ []
-unfolding talkText split onHead turnText turnNext askedText askedNext askedBy saidOf fieldsSay verbOf alone withNumber withValue lastText readByte readOn
+unfolding talkText split onHead turnText turnNext askedText askedNext askedBy saidOf fieldsSay verbOf alone withNumber withValue withTwo lastText readByte readOn
 wrong-lines panel r s = refl
 
--- with the panel's verbs off V and O "print ? alone"
-pub off-lines : (r : G.Rig) (s : S.State) → talkText false r s (split lf (86 ∷ 10 ∷ 79 ∷ 9 ∷ 49 ∷ 10 ∷ [])) ≡ question ∷ lf ∷ question ∷ lf ∷ []
-unfolding talkText split onHead turnText turnNext askedText askedNext askedBy saidOf fieldsSay verbOf alone withNumber withValue lastText readByte readOn
+-- with the panel's verbs off V, O and Y "print ? alone"
+pub off-lines : (r : G.Rig) (s : S.State) → talkText false r s (split lf (86 ∷ 10 ∷ 79 ∷ 9 ∷ 49 ∷ 10 ∷ 89 ∷ 9 ∷ 49 ∷ 9 ∷ 50 ∷ 10 ∷ [])) ≡ question ∷ lf ∷ question ∷ lf ∷ question ∷ lf ∷ []
+unfolding talkText split onHead turnText turnNext askedText askedNext askedBy saidOf fieldsSay verbOf alone withNumber withValue withTwo lastText readByte readOn
 off-lines r s = refl
 
 -- on or off, V with a number behind it does, and so does the small letter
 pub v-stands-alone : (panel : Bool) (r : G.Rig) (s : S.State) → talkText panel r s (split lf (86 ∷ 9 ∷ 49 ∷ 10 ∷ 118 ∷ 10 ∷ [])) ≡ question ∷ lf ∷ question ∷ lf ∷ []
-unfolding talkText split onHead turnText turnNext askedText askedNext askedBy saidOf fieldsSay verbOf alone withNumber withValue lastText readByte readOn
+unfolding talkText split onHead turnText turnNext askedText askedNext askedBy saidOf fieldsSay verbOf alone withNumber withValue withTwo lastText readByte readOn
 v-stands-alone panel r s = refl
 
 -- and so does O with no number behind it
 pub o-names-a-task : (panel : Bool) (r : G.Rig) (s : S.State) → talkText panel r s (split lf (79 ∷ 10 ∷ [])) ≡ question ∷ lf ∷ []
-unfolding talkText split onHead turnText turnNext askedText askedNext askedBy saidOf fieldsSay verbOf alone withNumber withValue lastText readByte readOn
+unfolding talkText split onHead turnText turnNext askedText askedNext askedBy saidOf fieldsSay verbOf alone withNumber withValue withTwo lastText readByte readOn
 o-names-a-task panel r s = refl
+
+-- and Y with one number
+pub y-takes-two : (panel : Bool) (r : G.Rig) (s : S.State) → talkText panel r s (split lf (89 ∷ 9 ∷ 49 ∷ 10 ∷ [])) ≡ question ∷ lf ∷ []
+unfolding talkText split onHead turnText turnNext askedText askedNext askedBy saidOf fieldsSay verbOf alone withNumber withValue withTwo lastText readByte readOn
+y-takes-two panel r s = refl
+
+-- a value is 0 or 1: L with 2 behind its flag does, on or off
+pub values-are-two : (panel : Bool) (r : G.Rig) (s : S.State) → talkText panel r s (split lf (76 ∷ 9 ∷ 49 ∷ 9 ∷ 50 ∷ 10 ∷ [])) ≡ question ∷ lf ∷ []
+unfolding talkText split onHead turnText turnNext askedText askedNext askedBy saidOf fieldsSay verbOf alone withNumber withValue withTwo lastText readByte readOn
+values-are-two panel r s = refl
 
 -- a script that ends with its last line's LF, and one with no line at all
 pub ended-lines : (panel : Bool) (r : G.Rig) (s : S.State) → talkText panel r s (split lf (82 ∷ 85 ∷ 78 ∷ 10 ∷ [])) ≡ question ∷ lf ∷ []
-unfolding talkText split onHead turnText turnNext askedText askedNext askedBy saidOf fieldsSay verbOf alone withNumber withValue lastText readByte readOn
+unfolding talkText split onHead turnText turnNext askedText askedNext askedBy saidOf fieldsSay verbOf alone withNumber withValue withTwo lastText readByte readOn
 ended-lines panel r s = refl
 
 pub no-lines : (panel : Bool) (r : G.Rig) (s : S.State) → talkText panel r s (split lf []) ≡ []

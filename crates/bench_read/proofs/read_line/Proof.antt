@@ -5,7 +5,7 @@ use native.Mathlib.Nat.{le-antisymm}
 use Rattle.text.specs.Split.{part}
 use Rattle.decimal.specs.Decimal.{cap}
 use Rattle.bench_script.specs.Script.{alone}
-use Rattle.bench_script.specs.Laws.Fields.{one-field, bad-number, two-fields, more-fields, bad-value, three-fields, short-of, number-same, value-same}
+use Rattle.bench_script.specs.Laws.Fields.{one-field, bad-number, two-fields, more-fields, bad-second, three-fields, short-of, number-same, two-same}
 use borrow.Author.Needs.{needs}
 use Rattle.bench_read.proofs.read_line.Statement.{statement}
 use Rattle.bench_read.proofs.read_line.Tie as tie
@@ -113,17 +113,20 @@ returns-5 c =
     let p = c .before .before .before .before .before .before .before .before .before .before .before .before .before .find in
     let q = c .before .before .before .before .before .before .before .before .before .find2 in
     let t = c .before .before .before .before .find3 in
-    sym (bad-value _ s (p .result) (p .ensures) (short-of s 0 9 (p .result) (p .ensures) (c .before .before .before .before .before .before .before .before .before .before .if1 .left)) (q .result) (q .ensures)
+    sym (bad-second _ s (p .result) (p .ensures) (short-of s 0 9 (p .result) (p .ensures) (c .before .before .before .before .before .before .before .before .before .before .if1 .left)) (q .result) (q .ensures)
     (short-of s (p .result + 1) 9 (q .result) (q .ensures) (c .before .before .before .before .before .if3 .left)) (t .result) (t .ensures)
     (subst (λ (x : ℕ). x < cap) (c .before .before .before .before .before .before .before .number-in .ensures) (c .before .before .before .before .before .before .if2 .left))
     (le-antisymm (t .ensures .high) (c .before .before .before .if4 .left))
-    (subst (λ (x : ℕ). 1 < x) (c .before .number-in2 .ensures) (omega (arith, c .if5 .taken))))
+    (subst (λ (x : ℕ). cap ≤ x) (c .before .number-in2 .ensures) (omega (arith, c .if5 .taken))))
 
-cast-with-value : tie.Need-cast-with-value
-cast-with-value c = search needs
+cast-with-two : tie.Need-cast-with-two
+cast-with-two c = search needs
 
-with-value-requires : tie.Need-with-value-requires
-with-value-requires c κs = search needs
+cast-with-two-2 : tie.Need-cast-with-two-2
+cast-with-two-2 c = search needs
+
+with-two-requires : tie.Need-with-two-requires
+with-two-requires c κs = search needs
 
 returns-6 : tie.Need-returns-6
 unfolding part
@@ -134,13 +137,13 @@ returns-6 c =
     let t = c .before .before .before .before .before .find3 in
     let n = c .before .before .before .before .before .before .before .before .number-in in
     let m = c .before .before .number-in2 in
-    c .with-value .ensures
-    ∙ value-same (c .before .before .before .before .before .before .before .before .before .before .before .before .verb-of .ensures) (n .ensures) (m .ensures)
+    c .with-two .ensures
+    ∙ two-same _ (c .before .before .before .before .before .before .before .before .before .before .before .before .verb-of .ensures) (n .ensures) (m .ensures)
     ∙ sym (three-fields _ s (p .result) (p .ensures) (short-of s 0 9 (p .result) (p .ensures) (c .before .before .before .before .before .before .before .before .before .before .before .if1 .left)) (q .result) (q .ensures)
     (short-of s (p .result + 1) 9 (q .result) (q .ensures) (c .before .before .before .before .before .before .if3 .left)) (t .result) (t .ensures)
     (subst (λ (x : ℕ). x < cap) (n .ensures) (c .before .before .before .before .before .before .before .if2 .left))
     (le-antisymm (t .ensures .high) (c .before .before .before .before .if4 .left))
-    (subst (λ (x : ℕ). x ≤ 1) (m .ensures) (c .before .if5 .left)))
+    (subst (λ (x : ℕ). x < cap) (m .ensures) (c .before .if5 .left)))
 
 pub read-line-spec : {M : Type 1} → statement M
 read-line-spec =
@@ -171,6 +174,7 @@ read-line-spec =
     part-number-in-end-2
     number-in-requires-2
     returns-5
-    cast-with-value
-    with-value-requires
+    cast-with-two
+    cast-with-two-2
+    with-two-requires
     returns-6)

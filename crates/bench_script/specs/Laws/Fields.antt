@@ -4,7 +4,6 @@ use mathlib.Core.Path.{_≡_, refl, sym, ap, _∙_}
 use mathlib.Core.Bool.{Bool}
 use mathlib.Core.List.{List, [], _∷_}
 use native.Mathlib.Omega.{arith}
-use lib.Dec.{eqb}
 use lib.ListN.{length, getD}
 use borrow.Author.Tests.{lt-ltb, le-ltb}
 use Rattle.laws.specs.Cases.{if-yes}
@@ -12,7 +11,7 @@ use Rattle.decimal.specs.Decimal.{cap, number}
 use Rattle.text.specs.Split.{split, part, rest}
 use Rattle.text.specs.Laws.Split.{split-cons}
 use Rattle.text.specs.Laws.Parts.{Found, part-all, piece, rest-none, rest-next}
-use Rattle.bench_script.specs.Script.{verbOf, alone, withNumber, withValue, fieldsSay, saidOf}
+use Rattle.bench_script.specs.Script.{verbOf, alone, withNumber, withTwo, fieldsSay, saidOf}
 use Rattle.bench_script.specs.declared.Said.the-variants.{Wrong}
 
 -- a number too large, or no decimal, is of wrong shape whatever follows it
@@ -39,8 +38,8 @@ verb-none (v ∷ w ∷ ws) h = refl
 pub number-same : (panel : Bool) {v w n m : ℕ} → v ≡ w → n ≡ m → withNumber panel v n ≡ withNumber panel w m
 number-same panel e f = rw (e, f)
 
-pub value-same : {v w n m a b : ℕ} → v ≡ w → n ≡ m → a ≡ b → withValue v n (eqb a 1) ≡ withValue w m (eqb b 1)
-value-same e f g = rw (e, f, g)
+pub two-same : (panel : Bool) {v w n m a b : ℕ} → v ≡ w → n ≡ m → a ≡ b → withTwo panel v n a ≡ withTwo panel w m b
+two-same panel e f g = rw (e, f, g)
 
 -- a search that did not end at the end found something
 pub short-of : (s : List ℕ) (a c b : ℕ) → Found s a (length s) c b → (b ≡ length s → ⊥) → b < length s
@@ -96,11 +95,11 @@ module _ (panel : Bool) (s : List ℕ) (p : ℕ) (fp : Found s 0 (length s) 9 p)
             let z : rest 9 (part t (length s) s) ≡ [] = rw e (rest-none 9 (length s) s) in
             ap (fieldsSay panel) (three-pieces ∙ ap (λ (l : List (List ℕ)). part 0 p s ∷ part (p + 1) q s ∷ part (q + 1) t s ∷ l) z)
 
-        pub bad-value : 1 < number (part (q + 1) t s) → saidOf panel s ≡ Wrong
+        pub bad-second : cap ≤ number (part (q + 1) t s) → saidOf panel s ≡ Wrong
         unfolding fieldsSay
-        bad-value b = three ∙ rw (lt-ltb (number (part (p + 1) q s)) cap n, le-ltb (number (part (q + 1) t s)) 2 (omega arith))
+        bad-second b = three ∙ rw (lt-ltb (number (part (p + 1) q s)) cap n, le-ltb (number (part (q + 1) t s)) cap b)
 
-        pub three-fields : number (part (q + 1) t s) ≤ 1
-            → saidOf panel s ≡ withValue (verbOf (part 0 p s)) (number (part (p + 1) q s)) (eqb (number (part (q + 1) t s)) 1)
+        pub three-fields : number (part (q + 1) t s) < cap
+            → saidOf panel s ≡ withTwo panel (verbOf (part 0 p s)) (number (part (p + 1) q s)) (number (part (q + 1) t s))
         unfolding fieldsSay
-        three-fields b = three ∙ rw (lt-ltb (number (part (p + 1) q s)) cap n, lt-ltb (number (part (q + 1) t s)) 2 (omega arith))
+        three-fields b = three ∙ rw (lt-ltb (number (part (p + 1) q s)) cap n, lt-ltb (number (part (q + 1) t s)) cap b)

@@ -43,12 +43,12 @@ unfolding fieldsText led
 fields-none = refl
 
 -- a number of which 0 says that there is none
-pub any-none : (n : ℕ) (l : List ℕ) (at : ℕ) → n ≡ 0 → Wrote l at (fieldsText (ifAny n)) l at
-any-none n l at e =
-    wrote-as l l [] (fieldsText (ifAny n)) at at (sym (ap fieldsText (if-yes (n ∷ []) (eq-eqb n 0 e) refl) ∙ fields-none)) (wrote-none l at)
+pub any-none : (none n : ℕ) (l : List ℕ) (at : ℕ) → n ≡ none → Wrote l at (fieldsText (ifAny none n)) l at
+any-none none n l at e =
+    wrote-as l l [] (fieldsText (ifAny none n)) at at (sym (ap fieldsText (if-yes (n ∷ []) (eq-eqb n none e) refl) ∙ fields-none)) (wrote-none l at)
 
-pub any-one : (n : ℕ) (l m : List ℕ) (at p : ℕ) → n ≢ 0 → Wrote l at (fieldsText (n ∷ [])) m p → Wrote l at (fieldsText (ifAny n)) m p
-any-one n l m at p e w = wrote-as l m (fieldsText (n ∷ [])) (fieldsText (ifAny n)) at p (sym (ap fieldsText (if-no [] (ne-eqb n 0 e) refl))) w
+pub any-one : (none n : ℕ) (l m : List ℕ) (at p : ℕ) → n ≢ none → Wrote l at (fieldsText (n ∷ [])) m p → Wrote l at (fieldsText (ifAny none n)) m p
+any-one none n l m at p e w = wrote-as l m (fieldsText (n ∷ [])) (fieldsText (ifAny none n)) at p (sym (ap fieldsText (if-no [] (ne-eqb n none e) refl))) w
 
 pub fields-one : (n : ℕ) → fieldsText (n ∷ []) ≡ 9 ∷ dec n
 unfolding fieldsText led

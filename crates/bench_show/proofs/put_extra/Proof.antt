@@ -1,7 +1,7 @@
 use native.Mathlib.Omega.{arith}
 use lib.ListN.{length-take}
 use Rattle.exec.specs.Call.{reportOf}
-use Rattle.bench_show.specs.Laws.Shown.{extra-words, extra-value, extra-any, extra-overruns, extra-nothing}
+use Rattle.bench_show.specs.Laws.Shown.{extra-words, extra-value, extra-any, extra-overruns, extra-why, extra-nothing}
 use borrow.Author.Needs.{needs}
 use Rattle.bench_show.proofs.put_extra.Statement.{statement}
 use Rattle.bench_show.proofs.put_extra.Tie as tie
@@ -68,10 +68,22 @@ returns-4 c =
     let w = c .before .before .put-field2 in
     extra-overruns (s .args .verb) (reportOf (s .args .report)) (s .args .words .now) (s .args .out .now) (w .last .0) (s .args .at) (w .result) (c .before .before .before .before .before .before .before .if1 .left) (c .before .before .before .before .before .before .if2 .left) (c .before .before .before .before .before .if3 .left) (c .before .before .before .before .if4 .taken) (w .ensures)
 
+put-if-any-requires-2 : tie.Need-put-if-any-requires-2
+put-if-any-requires-2 c κs = search needs
+
+same-length-5 : tie.Need-same-length-5
+same-length-5 c = search needs
+
 returns-5 : tie.Need-returns-5
 returns-5 c =
-    let s = c .before .before .before .before .before .before in
-    extra-nothing (s .args .verb) (reportOf (s .args .report)) (s .args .words .now) (s .args .out .now) (s .args .at) (c .before .before .before .if1 .left) (c .before .before .if2 .left) (c .before .if3 .left) (c .if4 .left)
+    let s = c .before .before .before .before .before .before .before .before .before .before .before in
+    let w = c .before .before .put-if-any2 in
+    extra-why (s .args .verb) (reportOf (s .args .report)) (s .args .words .now) (s .args .out .now) (w .last .0) (s .args .at) (w .result) (c .before .before .before .before .before .before .before .before .if1 .left) (c .before .before .before .before .before .before .before .if2 .left) (c .before .before .before .before .before .before .if3 .left) (c .before .before .before .before .before .if4 .left) (c .before .before .before .before .if5 .taken) (w .ensures)
+
+returns-6 : tie.Need-returns-6
+returns-6 c =
+    let s = c .before .before .before .before .before .before .before in
+    extra-nothing (s .args .verb) (reportOf (s .args .report)) (s .args .words .now) (s .args .out .now) (s .args .at) (c .before .before .before .before .if1 .left) (c .before .before .before .if2 .left) (c .before .before .if3 .left) (c .before .if4 .left) (c .if5 .left)
 
 pub put-extra-spec : {M : Type 1} → statement M
 put-extra-spec =
@@ -91,4 +103,7 @@ put-extra-spec =
     put-field-requires-2
     same-length-4
     returns-4
-    returns-5)
+    put-if-any-requires-2
+    same-length-5
+    returns-5
+    returns-6)

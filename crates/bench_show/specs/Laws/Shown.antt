@@ -14,12 +14,13 @@ use Rattle.exec.specs.Call.{reportOf, answerOf, ProperAnswer}
 use Rattle.exec.specs.declared.Report.{Report}
 use Rattle.exec.specs.declared.Answer.{Answer}
 use Rattle.exec.specs.declared.Answer.the-variants.{Accepted, Refused}
-use Rattle.bench_script.specs.Letters.{lf, tickVerb, askVerb, nextWakingVerb, overrunsVerb}
+use Rattle.bench_script.specs.Letters.{lf, tickVerb, askVerb, nextWakingVerb, overrunsVerb, whyVerb}
 use Rattle.bench_script.specs.Output.{fieldsText, ifAny, lineText, turnRoom}
 use Rattle.put_text.specs.Wrote.{Wrote}
 use Rattle.put_text.specs.Laws.Wrote.{wrote-then, wrote-as, wrote-none, byte-wrote}
 use Rattle.bench_script.specs.Laws.Written.{fields-none, fields-append, fields-length}
 use Rattle.bench_show.specs.Shown.{wordsLent, extraRoom, extra, columns, numbersOf, textOf}
+use Rattle.rules.specs.Sizes.{positions}
 use Rattle.rules.specs.Calls as R
 
 -- no other verb prints words
@@ -64,11 +65,11 @@ module _ (verb : ℕ) (report : R.Report) (ws l m : List ℕ) (at p : ℕ) where
       (ap fieldsText (sym (if-no _ (ne-eqb verb tickVerb n) (if-yes _ (eq-eqb verb askVerb e) refl)))) w
 
   -- the lowest waking count, if there is one
-  pub extra-any : verb ≢ tickVerb → verb ≢ askVerb → verb ≡ nextWakingVerb → Wrote l at (fieldsText (ifAny (report .value))) m p
+  pub extra-any : verb ≢ tickVerb → verb ≢ askVerb → verb ≡ nextWakingVerb → Wrote l at (fieldsText (ifAny 0 (report .value))) m p
       → Wrote l at (fieldsText (extra verb report ws)) m p
   unfolding extra
   extra-any n k e w =
-      wrote-as l m (fieldsText (ifAny (report .value))) (fieldsText (extra verb report ws)) at p
+      wrote-as l m (fieldsText (ifAny 0 (report .value))) (fieldsText (extra verb report ws)) at p
       (ap fieldsText (sym (if-no _ (ne-eqb verb tickVerb n) (if-no _ (ne-eqb verb askVerb k) (if-yes _ (eq-eqb verb nextWakingVerb e) refl))))) w
 
   -- a task's number of overruns
@@ -81,20 +82,31 @@ module _ (verb : ℕ) (report : R.Report) (ws l m : List ℕ) (at p : ℕ) where
       (sym (if-no _ (ne-eqb verb tickVerb n)
       (if-no _ (ne-eqb verb askVerb k) (if-no _ (ne-eqb verb nextWakingVerb v) (if-yes _ (eq-eqb verb overrunsVerb e) refl)))))) w
 
+  -- the condition that blocks, if one does
+  pub extra-why : verb ≢ tickVerb → verb ≢ askVerb → verb ≢ nextWakingVerb → verb ≢ overrunsVerb → verb ≡ whyVerb
+      → Wrote l at (fieldsText (ifAny positions (report .value))) m p → Wrote l at (fieldsText (extra verb report ws)) m p
+  unfolding extra
+  extra-why n k v o e w =
+      wrote-as l m (fieldsText (ifAny positions (report .value))) (fieldsText (extra verb report ws)) at p
+      (ap fieldsText
+      (sym (if-no _ (ne-eqb verb tickVerb n)
+      (if-no _ (ne-eqb verb askVerb k)
+      (if-no _ (ne-eqb verb nextWakingVerb v) (if-no _ (ne-eqb verb overrunsVerb o) (if-yes _ (eq-eqb verb whyVerb e) refl))))))) w
+
 -- nothing of any other call
 pub extra-nothing : (verb : ℕ) (report : R.Report) (ws l : List ℕ) (at : ℕ) → verb ≢ tickVerb → verb ≢ askVerb → verb ≢ nextWakingVerb → verb ≢ overrunsVerb
-    → Wrote l at (fieldsText (extra verb report ws)) l at
+    → verb ≢ whyVerb → Wrote l at (fieldsText (extra verb report ws)) l at
 unfolding extra
-extra-nothing verb report ws l at n e v o =
+extra-nothing verb report ws l at n e v o y =
     wrote-as l l [] (fieldsText (extra verb report ws)) at at
     (sym (ap fieldsText
     (if-no _ (ne-eqb verb tickVerb n)
-    (if-no _ (ne-eqb verb askVerb e) (if-no _ (ne-eqb verb nextWakingVerb v) (if-no _ (ne-eqb verb overrunsVerb o) refl)))) ∙ fields-none))
+    (if-no _ (ne-eqb verb askVerb e) (if-no _ (ne-eqb verb nextWakingVerb v) (if-no _ (ne-eqb verb overrunsVerb o) (if-no _ (ne-eqb verb whyVerb y) refl))))) ∙ fields-none))
     (wrote-none l at)
 
 -- how long an extra is: a field of it is at most one
-any-length : (n : ℕ) → length (ifAny n) ≤ 1
-any-length n = by (eqb n 0) (λ e. rw e (omega arith)) (λ e. rw e (omega arith))
+any-length : (none n : ℕ) → length (ifAny none n) ≤ 1
+any-length none n = by (eqb n none) (λ e. rw e (omega arith)) (λ e. rw e (omega arith))
 
 few-length : (numbers : List ℕ) → length numbers ≤ 1 → length (fieldsText numbers) ≤ extraRoom
 few-length numbers h = let f = fields-length numbers in omega arith
@@ -104,11 +116,12 @@ unfolding extra
 extra-length verb report ws h =
     by (eqb verb tickVerb)
     (λ e. rw e (let f = fields-length (take (report .words) ws) in let g = length-take (report .words) ws in omega arith))
-    (λ e. rw e (few-length (cond (eqb verb askVerb) (report .value ∷ []) (cond (eqb verb nextWakingVerb) (ifAny (report .value)) (cond (eqb verb overrunsVerb) (report .value ∷ []) [])))
+    (λ e. rw e (few-length (cond (eqb verb askVerb) (report .value ∷ []) (cond (eqb verb nextWakingVerb) (ifAny 0 (report .value)) (cond (eqb verb overrunsVerb) (report .value ∷ []) (cond (eqb verb whyVerb) (ifAny positions (report .value)) []))))
     (by (eqb verb askVerb)
     (λ d. rw d (omega arith))
-    (λ d. rw d (by (eqb verb nextWakingVerb) (λ v. rw v (any-length (report .value)))
-    (λ v. rw v (by (eqb verb overrunsVerb) (λ o. rw o (omega arith)) (λ o. rw o (omega arith)))))))))
+    (λ d. rw d (by (eqb verb nextWakingVerb) (λ v. rw v (any-length 0 (report .value)))
+    (λ v. rw v (by (eqb verb overrunsVerb) (λ o. rw o (omega arith))
+    (λ o. rw o (by (eqb verb whyVerb) (λ y. rw y (any-length positions (report .value))) (λ y. rw y (omega arith)))))))))))
 
 -- the number of a refused answer is not that of an accepted one
 refused-code : (a : Answer) (k : ℕ) → a ≡ Refused k → ProperAnswer a → answerOf a .code ≢ 0

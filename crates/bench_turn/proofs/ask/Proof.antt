@@ -84,6 +84,12 @@ enum-known-said-10 c = search needs
 overruns-requires : tie.Need-overruns-requires
 overruns-requires c κs = search needs
 
+enum-known-said-11 : tie.Need-enum-known-said-11
+enum-known-said-11 c = search needs
+
+why-not-requires : tie.Need-why-not-requires
+why-not-requires c κs = search needs
+
 enum-told-4 : tie.Need-enum-told-4
 enum-told-4 c = search needs
 
@@ -130,7 +136,10 @@ returns-13 : tie.Need-returns-13
 returns-13 c = subst (λ (x : Said). Made (c .before .before .before .before .before .args .e) x (c .before .before .before .before .before .args .words .now) (c .overruns .result) (c .before .before .before .before .before .args .words .now)) (sym (c .before .before .said10 .given .1)) (c .overruns .ensures)
 
 returns-14 : tie.Need-returns-14
-returns-14 c = subst (λ (x : Said). Made (c .before .before .before .args .e) x (c .before .before .before .args .words .now) (record { exec = c .before .before .before .args .e; answer = Refused wrongShape }) (c .before .before .before .args .words .now)) (sym (c .enum-told4 .given .1)) refl
+returns-14 c = subst (λ (x : Said). Made (c .before .before .before .before .before .args .e) x (c .before .before .before .before .before .args .words .now) (c .why-not .result) (c .before .before .before .before .before .args .words .now)) (sym (c .before .before .said11 .given .1)) (c .why-not .ensures)
+
+returns-15 : tie.Need-returns-15
+returns-15 c = subst (λ (x : Said). Made (c .before .before .before .args .e) x (c .before .before .before .args .words .now) (record { exec = c .before .before .before .args .e; answer = Refused wrongShape }) (c .before .before .before .args .words .now)) (sym (c .enum-told4 .given .1)) refl
 
 pub ask-spec : {M : Type 1} → statement M
 ask-spec =
@@ -162,6 +171,8 @@ ask-spec =
     next-waking-requires
     enum-known-said-10
     overruns-requires
+    enum-known-said-11
+    why-not-requires
     enum-told-4
     returns
     returns-2
@@ -177,4 +188,5 @@ ask-spec =
     returns-11
     returns-12
     returns-13
-    returns-14)
+    returns-14
+    returns-15)

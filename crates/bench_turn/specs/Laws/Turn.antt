@@ -19,7 +19,7 @@ use Rattle.put_text.specs.Laws.Wrote.{wrote-as}
 use Rattle.bench_show.specs.Shown.{wordsLent}
 use Rattle.bench_show.specs.Laws.Shown.{text-other}
 use Rattle.bench_script.specs.declared.Said.{Said}
-use Rattle.bench_script.specs.declared.Said.the-variants.{Schedule, Cancel, Terminate, Finish, Tick, Until, Cycles, Latched, Unlatched, Signal, Ask, NextWaking, Overruns, Wrong}
+use Rattle.bench_script.specs.declared.Said.the-variants.{Schedule, Cancel, Terminate, Finish, Tick, Until, Cycles, Latched, Unlatched, Signal, Ask, NextWaking, Overruns, WhyNot, Wrong}
 use Rattle.bench_turn.specs.Turn.{letterOf, askedBy, answerText, Answered, Takes}
 use Rattle.rules.specs.Calls as R
 
@@ -42,6 +42,7 @@ Made e (Signal f v) before s after = Meets e (R.signal f (bit v)) s []
 Made e (Ask f) before s after = Meets e (R.readFlag f) s []
 Made e NextWaking before s after = Meets e R.nextWaking s []
 Made e (Overruns t) before s after = Meets e (R.readOverruns t) s []
+Made e (WhyNot t d) before s after = Meets e (R.whyNot t d) s []
 Made e Wrong before s after = s ≡ refuse e wrongShape
 
 -- no call changes the rig or its cycles
@@ -83,6 +84,7 @@ module _ (e : Exec) (s : Step) (ws out : List ℕ) (at p : ℕ) (after : List �
   answered (Ask f) n m w = lending-none 81 (R.readFlag f) (λ q. omega arith) m w
   answered NextWaking n m w = lending-none 86 R.nextWaking (λ q. omega arith) m w
   answered (Overruns t) n m w = lending-none 79 (R.readOverruns t) (λ q. omega arith) m w
+  answered (WhyNot t d) n m w = lending-none 89 (R.whyNot t d) (λ q. omega arith) m w
   answered Wrong n m w = absurd (n refl)
 
 -- the line that is none
@@ -102,6 +104,7 @@ unasked e (Signal f v) out at p after q w = absurd (omega (arith, q))
 unasked e (Ask f) out at p after q w = absurd (omega (arith, q))
 unasked e NextWaking out at p after q w = absurd (omega (arith, q))
 unasked e (Overruns t) out at p after q w = absurd (omega (arith, q))
+unasked e (WhyNot t d) out at p after q w = absurd (omega (arith, q))
 unasked e Wrong out at p after q w = record { state = refl; wrote = w }
 
 -- an answer of a refusal's number is proper
@@ -131,4 +134,5 @@ made-proper e (Signal f v) ws s vs m = meets-proper e (R.signal f (bit v)) s [] 
 made-proper e (Ask f) ws s vs m = meets-proper e (R.readFlag f) s [] m
 made-proper e NextWaking ws s vs m = meets-proper e R.nextWaking s [] m
 made-proper e (Overruns t) ws s vs m = meets-proper e (R.readOverruns t) s [] m
+made-proper e (WhyNot t d) ws s vs m = meets-proper e (R.whyNot t d) s [] m
 made-proper e Wrong ws s vs m = subst (λ (x : Step). ProperAnswer (x .answer)) (sym m) (λ q. omega (arith, q))

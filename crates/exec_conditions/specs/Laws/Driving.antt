@@ -10,12 +10,12 @@ use lib.Dec.{eqb}
 use lib.ListN.{getD, set, replicate, length-replicate}
 use borrow.Author.Tests.{eq-eqb, ne-eqb, eqb-true}
 use Rattle.laws.specs.Any.{any}
-use Rattle.laws.specs.Cases.{by-bool, and-true, and-go, if-yes, if-no}
+use Rattle.laws.specs.Cases.{by-bool, and-true, and-go}
 use Rattle.laws.specs.Iter.{iter}
 use Rattle.laws.specs.Stores.{storeOne}
 use Rattle.laws.specs.Laws.Any.{any-not, any-some}
-use Rattle.laws.specs.Laws.Iter.{iter-step, iter-plus}
-use Rattle.laws.specs.Laws.Stores.{stores-keep, stores-hit, stores-miss}
+use Rattle.laws.specs.Laws.Iter.{iter-plus}
+use Rattle.laws.specs.Laws.Stores.{stores-keep, stores-hit, stores-miss, stored-yes, stored-no}
 use Rattle.laws.specs.Laws.Tables.{zeros-at}
 use Rattle.rules.specs.Conditions.{names, namesOne}
 use Rattle.exec_conditions.specs.Lines.{Lines, marked}
@@ -44,14 +44,11 @@ module _ (lineFlag : ℕ → ℕ) (f : ℕ) (place value : ℕ → ℕ) (k d : �
 
 -- a turn: line k is of the flag, or not
 module _ (lineFlag : ℕ → ℕ) (f : ℕ) (place value : ℕ → ℕ) (k : ℕ) (l₀ l : List ℕ) (h : l ≡ stored lineFlag f place value k l₀) where
-  next : storeOne (λ (i : ℕ). eqb (lineFlag i) f) place value k l ≡ stored lineFlag f place value (k + 1) l₀
-  next = iter-step k _ l₀ l h
-
   pub stored-line : lineFlag k ≡ f → set l (place k) (value k) ≡ stored lineFlag f place value (k + 1) l₀
-  stored-line e = sym (if-yes _ (eq-eqb _ _ e) refl) ∙ next
+  stored-line e = stored-yes (λ i. eqb (lineFlag i) f) place value k l₀ l h (eq-eqb _ _ e)
 
   pub stored-other : lineFlag k ≢ f → l ≡ stored lineFlag f place value (k + 1) l₀
-  stored-other e = sym (if-no _ (ne-eqb _ _ e) refl) ∙ next
+  stored-other e = stored-no (λ i. eqb (lineFlag i) f) place value k l₀ l h (ne-eqb _ _ e)
 
 -- in a table that was blank, those are marked who have the flag in a condition
 pub marked-names : (n : ℕ) (lineTask lineFlag : ℕ → ℕ) (f t : ℕ) → t ≤ 64

@@ -2,6 +2,7 @@ use mathlib.Core.Path.{_≡_, sym, _∙_}
 use mathlib.Core.List.{[]}
 use native.Mathlib.Omega.{arith}
 use borrow.Author.Needs.{needs}
+use Rattle.rules.specs.Rig.{notPlain}
 use Rattle.rules.specs.Calls as R
 use Rattle.exec_state.specs.View.{rigOf, viewOf, workOf}
 use Rattle.exec_sound.specs.Sound.{SoundParts}
@@ -52,7 +53,7 @@ empty-requires : tie.Need-empty-requires
 empty-requires c κs = search needs
 
 cast-push : tie.Need-cast-push
-cast-push c = omega (arith, flagged-is (rigOf (c .before .before .before .before .before .before .args .t1) (c .before .before .before .before .before .before .args .cycles)) (viewOf (c .before .before .before .before .before .before .args .st)) (c .before .before .before .before .before .before .args .flag) (R.notPlain (rigOf (c .before .before .before .before .before .before .args .t1) (c .before .before .before .before .before .before .args .cycles)) (c .before .before .before .before .before .before .args .flag)) (sym (quiet (c .before))) .flag .1)
+cast-push c = omega (arith, flagged-is (rigOf (c .before .before .before .before .before .before .args .t1) (c .before .before .before .before .before .before .args .cycles)) (viewOf (c .before .before .before .before .before .before .args .st)) (c .before .before .before .before .before .before .args .flag) (notPlain (rigOf (c .before .before .before .before .before .before .args .t1) (c .before .before .before .before .before .before .args .cycles)) (c .before .before .before .before .before .before .args .flag)) (sym (quiet (c .before))) .flag .1)
 
 bit-of-requires : tie.Need-bit-of-requires
 bit-of-requires c κs = search needs

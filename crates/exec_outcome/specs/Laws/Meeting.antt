@@ -143,6 +143,7 @@ Silent (R.readBlock k area buffer) = ⊥
 Silent (R.writeBlock k area buffer) = ⊥
 Silent R.nextWaking = ⊥
 Silent (R.readOverruns t) = ⊥
+Silent (R.whyNot t d) = ⊥
 
 pub silent-ticks : (k : R.Call) → Silent k → isTick k ≡ false
 unfolding isTick
@@ -161,6 +162,7 @@ silent-ticks (R.readBlock k area buffer) h = absurd h
 silent-ticks (R.writeBlock k area buffer) h = absurd h
 silent-ticks R.nextWaking h = absurd h
 silent-ticks (R.readOverruns t) h = absurd h
+silent-ticks (R.whyNot t d) h = absurd h
 
 pub silent-lent : (k : R.Call) → Silent k → [] ≡ R.lent k
 unfolding R.lent
@@ -179,6 +181,7 @@ silent-lent (R.readBlock k area buffer) h = absurd h
 silent-lent (R.writeBlock k area buffer) h = absurd h
 silent-lent R.nextWaking h = absurd h
 silent-lent (R.readOverruns t) h = absurd h
+silent-lent (R.whyNot t d) h = absurd h
 
 pub silent-output : (r : G.Rig) (s : S.State) (k : R.Call) → Silent k → R.output r s k ≡ R.silent
 unfolding R.output
@@ -197,3 +200,4 @@ silent-output r s (R.readBlock k area buffer) h = absurd h
 silent-output r s (R.writeBlock k area buffer) h = absurd h
 silent-output r s R.nextWaking h = absurd h
 silent-output r s (R.readOverruns t) h = absurd h
+silent-output r s (R.whyNot t d) h = absurd h

@@ -125,6 +125,7 @@ effect-low r s h (R.readBlock k area buffer) = h
 effect-low r s h (R.writeBlock k area buffer) = h
 effect-low r s h R.nextWaking = h
 effect-low r s h (R.readOverruns t) = h
+effect-low r s h (R.whyNot t d) = h
 
 -- no flag is on the empty list
 nothing-there : at (emptyCycle .flags) ≡ (λ j. 0)

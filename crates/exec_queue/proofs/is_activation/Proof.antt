@@ -7,7 +7,7 @@ use borrow.Author.Tests.{eq-eqb, ne-eqb}
 use Rattle.laws.specs.Any.{any}
 use Rattle.laws.specs.Laws.Any.{any-zero, any-next, any-at}
 use Rattle.chains.specs.Held.{at}
-use Rattle.rules.specs.Calls.{isActivation, activationOne}
+use Rattle.rules.specs.Rig.{isActivation, activationOne}
 use Rattle.exec_queue.proofs.is_activation.Statement.{statement}
 use Rattle.exec_queue.proofs.is_activation.Tie as tie
 

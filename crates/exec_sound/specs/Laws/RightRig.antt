@@ -100,4 +100,6 @@ module _ (g : Rig) (cycles : List Cycle) (h : Right g cycles) where
             (k .0, omega (arith, k .1));
         line-present = h .line-has-condition;
         line-position = λ k l. omega (arith, h .lines k l .position);
+        line-flag = λ k l. h .lines k l .flag;
+        desired-le = bounded (g .desired) 1040 1 (h .shaped .desired) (λ i b. omega (arith, h .conditions i b .desired, h .conditions i b .present));
       }

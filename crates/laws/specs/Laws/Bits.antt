@@ -1,6 +1,6 @@
 -- Laws of the definitions of Bits.antt.
 use mathlib.Core.Path.{_≡_, refl}
-use mathlib.Core.Bool.{Bool, true, false}
+use mathlib.Core.Bool.{Bool, true, false, cond, _||_}
 use Prim.Native.Nat.{ℕ, zero, suc, _≤_, _<_}
 use native.Mathlib.Omega.{arith}
 use Rattle.laws.specs.Bits.{bit, isOne}
@@ -21,3 +21,10 @@ pub bit-isOne : (n : ℕ) → n < 2 → bit (isOne n) ≡ n
 bit-isOne zero h = refl
 bit-isOne (suc zero) h = refl
 bit-isOne (suc (suc n)) h = absurd (omega arith)
+
+-- marks over a bit
+pub mark-bit : (a b : Bool) → cond a 1 (bit b) ≡ bit (b || a)
+mark-bit true true = refl
+mark-bit true false = refl
+mark-bit false true = refl
+mark-bit false false = refl

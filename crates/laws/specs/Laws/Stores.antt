@@ -1,16 +1,23 @@
 -- Laws of the definitions of Stores.antt.
 use mathlib.Core.Path.{_≡_, refl, sym, ap, _∙_, subst}
 use mathlib.Core.Logic.{_≢_}
-use mathlib.Core.Bool.{Bool, true, false, cond, true≢false}
+use mathlib.Core.Bool.{Bool, true, false, cond, _&&_, true≢false}
 use mathlib.Core.List.{List}
-use Prim.Native.Nat.{ℕ, zero, suc, _≤_, _<_}
+use Prim.Native.Nat.{ℕ, zero, suc, _+_, _≤_, _<_}
 use native.Mathlib.Omega.{arith}
 use native.Mathlib.Nat.{le-refl}
-use lib.ListN.{length, getD, set, length-set}
+use lib.Dec.{eqb}
+use lib.ListN.{length, getD, set, replicate, length-set, length-replicate}
 use lib.Seq.{getD-set-same, getD-set-other}
-use Rattle.laws.specs.Cases.{dec-eq}
+use borrow.Author.Tests.{eqb-true, eq-eqb}
+use Rattle.laws.specs.Any.{any}
+use Rattle.laws.specs.Bits.{bit}
+use Rattle.laws.specs.Cases.{by-bool, and-true, and-go, if-yes, if-no, dec-eq}
 use Rattle.laws.specs.Iter.{iter}
-use Rattle.laws.specs.Laws.Iter.{iter-ind}
+use Rattle.laws.specs.Laws.Any.{any-some, any-not, any-one}
+use Rattle.laws.specs.Laws.Bits.{mark-bit}
+use Rattle.laws.specs.Laws.Iter.{iter-ind, iter-step}
+use Rattle.laws.specs.Laws.Tables.{zeros-at}
 use Rattle.laws.specs.Stores.{storeOne}
 
 module _ (test : ℕ → Bool) (at value : ℕ → ℕ) where
@@ -56,3 +63,44 @@ module _ (test : ℕ → Bool) (at value : ℕ → ℕ) where
           subst (λ (i : ℕ). getD (set m (at n) (value n)) i 0 ≡ value k) (sym q) (here (subst (λ (i : ℕ). i < length l) q b) ∙ f n (omega arith) y (sym q))
       go (no p) (no q) true y ih = getD-set-other m (at n) (at k) (value n) 0 q ∙ ih (omega arith)
       go (no p) q false y ih = ih (omega arith)
+
+-- a store of 1 at each turn whose test says so: a place is 1 if a turn is its own, and else as it was
+pub stores-mark : (test : ℕ → Bool) (at : ℕ → ℕ) (n : ℕ) (l : List ℕ) (i : ℕ) → i < length l
+    → getD (iter n (storeOne test at (λ k. 1)) l) i 0 ≡ cond (any n (λ k. test k && eqb (at k) i)) 1 (getD l i 0)
+stores-mark test at n l i h =
+    by-bool (any n (λ k. test k && eqb (at k) i)) (λ b. getD (iter n (storeOne test at (λ k. 1)) l) i 0 ≡ cond b 1 (getD l i 0))
+    (λ e.
+    let w = any-some n (λ k. test k && eqb (at k) i) e in
+    let both = and-true (test (w .0)) (eqb (at (w .0)) i) (w .2) in
+    let here = eqb-true (at (w .0)) i (both .1) in
+    subst (λ (j : ℕ). getD (iter n (storeOne test at (λ k. 1)) l) j 0 ≡ 1) here
+    (stores-hit test at (λ k. 1) n l (w .0) (w .1) (both .0) (subst (λ (j : ℕ). j < length l) (sym here) h) (λ j a b c. refl)))
+    (λ e. stores-miss test at (λ k. 1) n l i (λ k a b c.
+    true≢false (sym (and-go b (eq-eqb (at k) i (sym c))) ∙ any-not n (λ k. test k && eqb (at k) i) e k a)))
+
+-- each of n places is given its own bit
+pub each-bit : (n : ℕ) (test : ℕ → Bool) (i : ℕ) → i < n
+    → getD (iter n (storeOne (λ k. true) (λ k. k) (λ k. bit (test k))) (replicate n 0)) i 0 ≡ bit (test i)
+each-bit n test i h =
+    stores-hit (λ k. true) (λ k. k) (λ k. bit (test k)) n (replicate n 0) i h refl (omega (arith, length-replicate {A = ℕ} n 0, h))
+    (λ j a b c. ap (λ (x : ℕ). bit (test x)) c)
+
+-- each of n places that passes is marked
+pub each-mark : (n : ℕ) (test : ℕ → Bool) (i : ℕ) → i < n
+    → getD (iter n (storeOne test (λ k. k) (λ k. 1)) (replicate n 0)) i 0 ≡ bit (test i)
+each-mark n test i h =
+    stores-mark test (λ k. k) n (replicate n 0) i (omega (arith, length-replicate {A = ℕ} n 0, h))
+    ∙ ap (λ (x : ℕ). cond (any n (λ k. test k && eqb k i)) 1 x) (zeros-at n i)
+    ∙ mark-bit (any n (λ k. test k && eqb k i)) false
+    ∙ ap bit (any-one n test i h)
+
+-- a turn of such a loop: its store is made, or not
+module _ (test : ℕ → Bool) (at value : ℕ → ℕ) (k : ℕ) (l₀ l : List ℕ) (h : l ≡ iter k (storeOne test at value) l₀) where
+  pub stored-next : storeOne test at value k l ≡ iter (k + 1) (storeOne test at value) l₀
+  stored-next = iter-step k (storeOne test at value) l₀ l h
+
+  pub stored-yes : test k ≡ true → set l (at k) (value k) ≡ iter (k + 1) (storeOne test at value) l₀
+  stored-yes e = sym (if-yes _ e refl) ∙ stored-next
+
+  pub stored-no : test k ≡ false → l ≡ iter (k + 1) (storeOne test at value) l₀
+  stored-no e = sym (if-no _ e refl) ∙ stored-next

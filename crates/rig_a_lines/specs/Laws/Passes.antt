@@ -1,13 +1,13 @@
 -- The tests of A lines table by table, as the loops that do not leave early compute them, and the fault of a line.
-use mathlib.Core.Path.{_≡_, refl, _∙_, ap}
-use mathlib.Core.Bool.{Bool, true, false, not, cond, _&&_, _||_}
+use mathlib.Core.Path.{_≡_, _∙_, ap}
+use mathlib.Core.Bool.{Bool, not, cond, _&&_, _||_}
 use mathlib.Core.List.{List}
 use Prim.Native.Nat.{ℕ}
 use native.Mathlib.Omega.{arith}
 use lib.Bits.{bitOr, bitAnd, bitXor}
 use lib.Dec.{eqb, ltb, leb·zero}
 use borrow.Author.Tests.{eqb-true, eqb-false, ltb-true, ltb-false, lt-ltb, le-ltb}
-use Rattle.laws.specs.Cases.{by}
+use Rattle.laws.specs.Cases.{by, or-no}
 use Rattle.laws.specs.All.{all}
 use Rattle.laws.specs.Laws.All.{all-same, all-three}
 use Rattle.laws.specs.Bits.{bit}
@@ -28,10 +28,6 @@ lines-each n tasks flags lineTask linePos lineFlag =
 
 -- ---- lines one after the other
 
-or-none : (a : Bool) → (a || false) ≡ a
-or-none true = refl
-or-none false = refl
-
 -- a number that does not stand behind another, or is the same while what comes after fails: the later number decides, then the rest
 later : (a b : ℕ) (rest : Bool) → (ltb b a || (eqb a b && not rest)) ≡ not (cond (eqb a b) rest (ltb a b))
 later a b rest =
@@ -39,7 +35,7 @@ later a b rest =
     (λ e.
     let n = eqb-false a b e in
     rw e
-    (or-none (ltb b a)
+    (or-no (ltb b a)
     ∙ by (ltb a b) (λ l. rw (l, le-ltb b a (omega (arith, ltb-true a b l)))) (λ l. rw (l, lt-ltb b a (omega (arith, ltb-false a b l, n))))))
 
 -- the fault of a line, as the code puts it together

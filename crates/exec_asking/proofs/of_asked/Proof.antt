@@ -1,9 +1,9 @@
 use mathlib.Core.Path.{sym, _∙_}
 use borrow.Author.Needs.{needs}
 use Rattle.exec_refusals.specs.Numbers.{noneSuch, notSound}
 use Rattle.exec_refusals.specs.Rows.{none, here, past}
-use Rattle.exec_refusals.proofs.of_asked.Statement.{statement}
-use Rattle.exec_refusals.proofs.of_asked.Tie as tie
+use Rattle.exec_asking.proofs.of_asked.Statement.{statement}
+use Rattle.exec_asking.proofs.of_asked.Tie as tie
 
 returns : tie.Need-returns
 returns c = here notSound _ _ (c .if1 .taken)
