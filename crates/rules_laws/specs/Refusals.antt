@@ -79,7 +79,7 @@ decide-next n b xs e = rw e
 
 -- ---- the tables of the calls
 
--- 5 to 10, in the table's order
+-- 5 to 11, in the table's order
 pub refusals-rising : (r : Rig) (s : State) (k : Call) → Rising 0 (refusals r s k)
 unfolding refusals
 refusals-rising r s (schedule t) = (omega arith, (omega arith, (omega arith, (omega arith, tt))))
