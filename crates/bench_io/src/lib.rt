@@ -1,71 +1,87 @@
 // Standard input and output that may fail, be interrupted or have to wait.
-ghost use Rattle.std.specs.Prelude.{◌≤◌, length};
-ghost use Rattle.bench_io.specs.Brought.{Brings};
+#![tactic(auto)]
 
-use libc::{EAGAIN, EINTR};
+ghost use Rattle.std.specs.Prelude.{◌≡◌, ◌≤◌, length, take, IfNone};
+ghost use Rattle.std.specs.Io.KnownBytes.{Appends};
+ghost use Rattle.bench_io.specs.Brought.{Brings, Takes};
 
-// What a read brought: so many bytes, the end of the input, or a failure, which errno names.
+use std::io::{Error, ErrorKind, Read, Write};
+use std::thread;
+
+// What a read brought: so many bytes, the end of the input, or a failure.
 #[derive(Drop)]
 pub enum Input {
     Bytes(usize),
     End,
-    Failed,
+    Failed(Error),
+}
+
+// What became of a write: how many of the bytes went out, and why not all.
+#[derive(Drop)]
+pub struct Output {
+    pub count: usize,
+    pub failure: Option<Error>,
 }
 
 // Whether a call that failed may be made again: it was interrupted, or it would have to wait. Then others may run first.
-fn again() -> bool {
-    let e = os::errno();
-    if e == EINTR {
-        return true;
+fn again(e: &Error) -> bool {
+    match e.kind() {
+        ErrorKind::Interrupted => true,
+        ErrorKind::WouldBlock => {
+            thread::yield_now();
+            true
+        }
+        _ => false,
     }
-    if e == EAGAIN {
-        libc::sched_yield();
-        return true;
-    }
-    false
 }
 
-// One read: whatever is there, as soon as there is anything.
-pub fn read_in(fd: i32, input: &mut [u8]) -> Input
-    ensures { Brings (length input.new) result }
+// One read: whatever is there, as soon as there is anything. Nothing that the reader had is lost.
+pub fn read_in<R: Read>(from: &mut R, input: &mut [u8]) -> Input
+    ensures brings { Brings (length input.new) result }
+    ensures bytes { Takes (R.remaining from.old) (R.remaining from.new) input.new result }
 {
-    let mut turns = u64::MAX;
-    while 0 < turns {
-        turns -= 1;
-        let got = libc::read(fd, &mut *input);
-        if got == 0 {
-            return Input::End;
-        }
-        let n = io::count(got, &*input);
-        if 0 < n {
-            return Input::Bytes(n);
-        }
-        if !again() {
-            return Input::Failed;
-        }
-    }
-    Input::Failed
-}
-
-// How many of the bytes went out, from the first on, each once. They are fewer than all only where a write failed, which errno names.
-pub fn write_out(fd: i32, out: &[u8]) -> usize
-    ensures { result ≤ length out.now }
-{
-    let mut turns = u64::MAX;
-    let mut done: usize = 0;
-    while done < out.len() {
-        if turns == 0 {
-            return done;
-        }
-        turns -= 1;
-        let rest = &out[done..];
-        let put = libc::write(fd, rest);
-        if put < 0 {
-            if !again() {
-                return done;
+    for _ in 0..u64::MAX {
+        match from.read(&mut *input) {
+            Ok(0) => return Input::End,
+            Ok(n) => return Input::Bytes(n),
+            Err(e) => {
+                if !again(&e) {
+                    return Input::Failed(e);
+                }
             }
         }
-        done += io::count(put, rest);
     }
-    done
+    Input::Failed(Error::from(ErrorKind::WouldBlock))
+}
+
+// How many of the bytes went out, from the first on, each once. They are fewer than all only where a write failed.
+pub fn write_out<W: Write>(to: &mut W, out: &[u8]) -> Output
+    ensures bound { result.count ≤ length out.now }
+    ensures all { IfNone result.failure (result.count ≡ length out.now) }
+    ensures bytes { Appends (W.contents to.old) (W.contents to.new) (take result.count out.now) }
+{
+    let mut done: usize = 0;
+    for _ in 0..u64::MAX {
+        if done == out.len() {
+            return Output {
+                count: done,
+                failure: None,
+            };
+        }
+        match to.write(&out[done..]) {
+            Ok(n) => done += n,
+            Err(e) => {
+                if !again(&e) {
+                    return Output {
+                        count: done,
+                        failure: Some(e),
+                    };
+                }
+            }
+        }
+    }
+    Output {
+        count: done,
+        failure: Some(Error::from(ErrorKind::WouldBlock)),
+    }
 }

@@ -1,4 +1,6 @@
 // The panel: the bench runner with more verbs.
-fn main() {
-    bench_run::run(true, b"panel: standard input", b"panel: standard output");
+#![tactic(auto)]
+
+fn main(rt: HostRuntime) {
+    bench_run::run(&rt, true, "panel: standard input", "panel: standard output");
 }

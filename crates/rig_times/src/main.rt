@@ -1,5 +1,6 @@
 // Reads a rig file from standard input, then reads and writes it again many times over, to measure both; it says how often
 // the rig was accepted and how often the bytes came back the same.
+#![tactic(auto)]
 
 // Whether the file is accepted.
 fn reads(s: &[u8]) -> bool {

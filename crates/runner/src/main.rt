@@ -1,4 +1,11 @@
 // The bench runner: the build paper's verbs, and no other.
-fn main() {
-    bench_run::run(false, b"runner: standard input", b"runner: standard output");
+#![tactic(auto)]
+
+fn main(rt: HostRuntime) {
+    bench_run::run(
+        &rt,
+        false,
+        "runner: standard input",
+        "runner: standard output",
+    );
 }

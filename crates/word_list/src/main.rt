@@ -7,20 +7,24 @@
 //     bits       word                                    address error status failure
 //     parity     word                                    parity
 //     judge      image address                           number verdict
+#![tactic(auto)]
+
 use command_words::Command;
-use libc::STDOUT_FILENO;
 use status_words::Status;
 use word_answers::Encoded;
 use word_judging::{Judged, Verdict, parity};
 
+// Standard output.
+const STDOUT: i32 = 1;
+
 fn text(t: &[u8]) {
-    io::write_all(STDOUT_FILENO, t);
+    io::write_all(STDOUT, t);
 }
 
 // A tab and a number.
 fn field(n: u32) {
     text(b"\t");
-    io::print_decimal(STDOUT_FILENO, n as u64);
+    io::print_decimal(STDOUT, n as u64);
 }
 
 fn flag(on: bool) {

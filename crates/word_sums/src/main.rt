@@ -17,10 +17,14 @@
 //     bits ADDRESS SUM        for each status 0 to 519, error 0 then 1, failure 0 then 1: the answer
 //     judge ADDRESS SUM REFUSED ERROR EXCEPTION CLEAN
 //                             for each image 0 to 131075: 11 refused, 2 error, 1 exception, 0 clean; then how many of each
+#![tactic(auto)]
+
 use command_words::Command;
-use libc::STDOUT_FILENO;
 use status_words::Status;
 use word_answers::Encoded;
+
+// Standard output.
+const STDOUT: i32 = 1;
 
 fn mixed(sum: u32, value: u32) -> u32 {
     (((sum as u64) * 31 + (value as u64)) % 65521) as u32
@@ -59,7 +63,7 @@ fn mixed_status(sum: u32, word: u16) -> u32 {
 }
 
 // The sums of the words of a block as commands and as statuses.
-#[derive(Drop)]
+#[derive(Clone, Copy)]
 struct Sums {
     command: u32,
     status: u32,
@@ -134,7 +138,7 @@ fn all_bits(address: u32) -> u32 {
 }
 
 // How many images were judged how, and the sum over them.
-#[derive(Drop)]
+#[derive(Clone, Copy)]
 struct Tally {
     sum: u32,
     refused: u32,
@@ -178,13 +182,13 @@ fn all_images(address: u32) -> Tally {
 }
 
 fn text(t: &[u8]) {
-    io::write_all(STDOUT_FILENO, t);
+    io::write_all(STDOUT, t);
 }
 
 // A tab and a number.
 fn field(n: u32) {
     text(b"\t");
-    io::print_decimal(STDOUT_FILENO, n as u64);
+    io::print_decimal(STDOUT, n as u64);
 }
 
 // The verb, the block or address, and its sum.
