@@ -1,4 +1,6 @@
 // The runner's input as it comes, byte by byte: the rig's text up to the line RUN, and the script line that is not ended yet.
+#![tactic(auto)]
+
 ghost use Rattle.std.specs.Prelude.{◌≡◌, ◌≤◌, ◌<◌, length, take};
 ghost use Rattle.put_text.specs.Wrote.{Wrote};
 ghost use Rattle.bench_input.specs.Opening.{full, run_ends_at, line_start, Scans};
@@ -17,7 +19,7 @@ const LINES: usize = 65536;
 
 // The bytes that are kept, where their last line starts, how many of the piece were taken, and whether the rig's text is
 // whole: then it ends at `from`.
-#[derive(Drop)]
+#[derive(Clone, Copy)]
 pub struct Kept {
     pub at: usize,
     pub from: usize,

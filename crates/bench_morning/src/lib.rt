@@ -1,4 +1,6 @@
 // A bench morning: the stream's state, and its opening, the rig's text up to the line START.
+#![tactic(auto)]
+
 ghost use Rattle.std.specs.Prelude.{◌≡◌, [], ◌∷◌, ◌≤◌, length};
 ghost use Rattle.bench_script.specs.Letters.{start_name};
 ghost use Rattle.bench_script.specs.Output.{start_room, line_text, turn_room};
@@ -14,7 +16,7 @@ use exec::{Answer, Exec};
 const BROKEN_RULE: u32 = 4;
 
 // Where a stream stands: in the rig's text; in the script; or behind a refused rig, where nothing more is said.
-#[derive(Drop)]
+#[derive(Clone, Copy)]
 pub enum Phase {
     Opening,
     Talking,
@@ -23,7 +25,7 @@ pub enum Phase {
 
 // A stream between two pieces of its input, with the panel's verbs on or off. In the rig's text: the bytes that are kept in the lent buffer, and where their last
 // line starts. In the script: the record, and the bytes of a line that is not ended yet.
-#[derive(Drop)]
+#[derive(Clone, Copy)]
 pub struct Stream {
     pub panel: bool,
     pub phase: Phase,
@@ -35,7 +37,7 @@ pub struct Stream {
 }
 
 // The stream to go on with, how many bytes of the piece were taken and how many stand at the front of the output.
-#[derive(Drop)]
+#[derive(Clone, Copy)]
 pub struct Fed {
     pub stream: Stream,
     pub took: usize,
@@ -57,7 +59,7 @@ pub fn over() -> Stream
 }
 
 // A stream behind the line START, and how many bytes that line has.
-#[derive(Drop)]
+#[derive(Clone, Copy)]
 pub struct Started {
     pub stream: Stream,
     pub wrote: usize,

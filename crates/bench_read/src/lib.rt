@@ -1,4 +1,6 @@
 // The bench runner's input read: what a script line says, and where the rig ends.
+#![tactic(auto)]
+
 ghost use Rattle.std.specs.Prelude.{◌≡◌};
 ghost use Rattle.bench_script.specs.Script.{verb_of, of_panel, alone, with_number, with_value, with_two, said_of};
 ghost use Rattle.bench_script.specs.Input.{is_run, rig_end};

@@ -1,4 +1,6 @@
 // Script lines and output lines of the bench runner: what they say, and the output written. The reading of script lines is in bench_read.
+#![tactic(auto)]
+
 ghost use Rattle.std.specs.Prelude.{◌≡◌, [], ◌∷◌, ◌+◌, ◌*◌, ◌≤◌, leb, length};
 ghost use Rattle.bench_script.specs.Output.{fields_text, if_any, wrong_text, room_of_field, turn_room};
 ghost use Rattle.bench_script.specs.Letters.{start_name};
@@ -20,7 +22,7 @@ pub const START_ROOM: usize = 64;
 pub const TURN_ROOM: usize = 2048;
 
 // What a script line says: a call with its numbers, a question of the panel, or nothing that a script line may say.
-#[derive(Drop)]
+#[derive(Clone, Copy)]
 pub enum Said {
     Schedule(u32),
     Cancel(u32),

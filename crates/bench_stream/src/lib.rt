@@ -1,4 +1,6 @@
 // A bench morning as a stream: fed with any pieces of the input, it hands back what is to be written and the state to go on with.
+#![tactic(auto)]
+
 ghost use Rattle.std.specs.Prelude.{◌≡◌, ◌↔◌, true};
 ghost use Rattle.bench_stream.specs.Feeding.{Ready, Feeds, Ends};
 

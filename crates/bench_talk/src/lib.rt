@@ -1,4 +1,6 @@
 // The script of a bench morning, line after line.
+#![tactic(auto)]
+
 ghost use Rattle.std.specs.Prelude.{◌≤◌, length};
 ghost use Rattle.exec.specs.Sound.{SoundRecord};
 ghost use Rattle.bench_input.specs.Line.{line_room};

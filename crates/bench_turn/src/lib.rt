@@ -1,4 +1,6 @@
 // A turn of the bench: a script line is read, its call is made, and its output line is written.
+#![tactic(auto)]
+
 ghost use Rattle.std.specs.Prelude.{◌≡◌};
 ghost use Rattle.bench_turn.specs.Turn.{letter_of, Turns};
 ghost use Rattle.bench_turn.specs.Laws.Turn.{Made};
@@ -15,7 +17,7 @@ const TICK_WORDS: usize = 128;
 
 // The state after a turn, and the place after what the turn wrote. Rig and cycles stay as they are: the caller has them, and
 // handed back they would be copied for each line.
-#[derive(Drop)]
+#[derive(Clone, Copy)]
 pub struct Turn {
     pub st: State,
     pub at: usize,

@@ -1,4 +1,6 @@
 // Single tests of links: a step of a ring, a task, the order of a chain.
+#![tactic(auto)]
+
 ghost use Rattle.std.specs.Prelude.{◌≡◌, not, cond, ◌&&◌, ◌<◌, eqb};
 ghost use Rattle.chains.specs.Held.{at};
 ghost use Rattle.chains.specs.Ops.{walk};

@@ -1,4 +1,6 @@
 // Wait chains: doubly linked rings over 64 tasks, each round an anchor. Node numbers: tasks 1 to 64, anchors 65 to 321.
+#![tactic(auto)]
+
 ghost use Rattle.std.specs.Prelude.{◌≡◌, ◌≤◌, ◌<◌};
 ghost use Rattle.chains.specs.Held.{at, HoldsChains, Leaves, Joins, Inserts, Places, Puts, Empty};
 
@@ -10,7 +12,7 @@ pub const FIRST_ANCHOR: usize = 65;
 pub const NODES: usize = 322;
 
 #[repr(C)]
-#[derive(Drop)]
+#[derive(Clone, Copy)]
 pub struct Links {
     pub next: [u16; NODES],
     pub prev: [u16; NODES],

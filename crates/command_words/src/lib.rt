@@ -1,4 +1,6 @@
 // Command words: fields to the word, and any word to its fields.
+#![tactic(auto)]
+
 ghost use Rattle.std.specs.Prelude.{◌≡◌};
 ghost use Rattle.word_answers.specs.Answers.{encoded_report};
 ghost use Rattle.command_words.specs.Command.{command_report, command_in_size, command_fields, last_in_size, last_of};
@@ -20,7 +22,7 @@ const PAST_TEN: u32 = 1024;
 const PAST_FIVE: u32 = 32;
 
 // A command by its fields. `last` is the number of words or, at sub-address 0, the number of the mode command.
-#[derive(Drop)]
+#[derive(Clone, Copy)]
 pub struct Command {
     pub address: u32,
     pub transmit: bool,

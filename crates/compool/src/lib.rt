@@ -1,4 +1,6 @@
 // Compool blocks in the lent area, and the bus words of a count in the lent buffer.
+#![tactic(auto)]
+
 ghost use Rattle.std.specs.Prelude.{◌≡◌, ◌+◌, ◌-◌, ◌*◌, ◌<◌, ◌≤◌, length, take, drop};
 ghost use Rattle.laws.specs.Put.{put};
 ghost use Rattle.rules.specs.Bus.{block_at, copied, written, row_due, receive_word, transmit_word, row_words, bus_words};

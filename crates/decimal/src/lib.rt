@@ -1,4 +1,6 @@
 // Decimal numbers without spare zeros: a field is read, a number is written.
+#![tactic(auto)]
+
 ghost use Rattle.std.specs.Prelude.{◌≡◌, ◌+◌, ◌≤◌, ◌<◌, length};
 ghost use Rattle.decimal.specs.Decimal.{cap, read_byte, number, dec};
 ghost use Rattle.put_text.specs.Wrote.{Wrote};
@@ -13,6 +15,7 @@ const START: u64 = 4294967298;
 const DIGIT: u64 = 48;
 
 // One byte more of a number: the next value, CAP where that is larger, BAD where the byte does not belong there.
+#[tactic(auto, unfolding(crate::specs::Decimal::read_byte))]
 fn step_on(m: u64, b: u8) -> u64
     ensures { result ≡ read_byte m b }
 {

@@ -1,5 +1,7 @@
 // The executive: the record, and every call on it by value. What a call does to the record's parts stands in crates of its
 // own (exec_tasks, exec_waits, exec_flags, exec_bus, exec_questions, exec_why); here it becomes the next record and the answer.
+#![tactic(auto)]
+
 use chains::NODES;
 use rig_tables::{CONDITIONS, CYCLE_FLAGS, CYCLES, FLAG_PLACES, TASK_PLACES};
 
@@ -16,7 +18,7 @@ use rig::{Cycle, Rig};
 // The rig and its cycles stay as they are from the start on; calls change the state. Numbers only: a record may stand in
 // memory of any bytes, and each is answered.
 #[repr(C)]
-#[derive(Drop)]
+#[derive(Clone, Copy)]
 pub struct Exec {
     pub rig: Rig,
     pub cycles: [Cycle; CYCLES],
@@ -25,7 +27,7 @@ pub struct Exec {
 
 // What an accepted call tells: the flags it served, how many waiting tasks that made dispatchable and how many it activated, the bus
 // words it wrote, the value of the flag it read or a question's answer.
-#[derive(Drop)]
+#[derive(Clone, Copy)]
 pub struct Report {
     pub served: u32,
     pub woken: u32,
@@ -34,13 +36,13 @@ pub struct Report {
     pub value: u32,
 }
 
-#[derive(Drop)]
+#[derive(Clone, Copy)]
 pub enum Answer {
     Accepted(Report),
     Refused(u8),
 }
 
-#[derive(Drop)]
+#[derive(Clone, Copy)]
 pub struct Step {
     pub exec: Exec,
     pub answer: Answer,
@@ -71,6 +73,7 @@ pub fn none() -> Exec
 }
 
 // "Start: count 0, flags and conditions off, all tasks uninvoked; then task 1 is scheduled."
+#[inline(never)]
 pub fn start(rig: Rig, cycles: [[u8; CYCLE_FLAGS]; CYCLES]) -> Step
     ensures { Starts rig cycles result }
 {

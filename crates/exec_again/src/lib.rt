@@ -1,4 +1,6 @@
 // What a call comes to that ends a task.
+#![tactic(auto)]
+
 ghost use Rattle.exec_outcome.specs.Laws.Settling.{empty_cycle, Settled};
 ghost use Rattle.exec_again.specs.Laws.Again.{SettlesAgain};
 

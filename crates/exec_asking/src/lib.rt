@@ -1,4 +1,6 @@
 // The refusals of questions on a task: "12 comes first, then the smallest number"; 0 for none. No running task is needed.
+#![tactic(auto)]
+
 ghost use Rattle.std.specs.Prelude.{◌≡◌};
 ghost use Rattle.exec_refusals.specs.Rows.{judge, asked_rows, why_rows};
 

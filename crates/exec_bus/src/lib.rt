@@ -1,4 +1,6 @@
 // The tick with its bus words, and compool blocks in the lent area.
+#![tactic(auto)]
+
 ghost use Rattle.rules.specs.Calls.{tick, read_block, write_block};
 ghost use Rattle.exec_outcome.specs.Outcome.{Tells};
 

@@ -1,5 +1,7 @@
 // Conditions: what they take when their task is relaxed or a flag is served, and whether a task is ready. Each loop has the rule that
 // it computes as its contract.
+#![tactic(auto)]
+
 ghost use Rattle.std.specs.Prelude.{◌≡◌, cond, not, ◌&&◌, ◌||◌, ◌+◌, ◌-◌, ◌≤◌, eqb};
 ghost use Rattle.rig_tables.specs.Tests.{at};
 ghost use Rattle.laws.specs.Any.{any};

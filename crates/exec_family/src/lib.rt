@@ -1,4 +1,6 @@
 // A task with its descendants: who they are, and that they become uninvoked and leave their chains.
+#![tactic(auto)]
+
 ghost use Rattle.std.specs.Prelude.{◌≡◌, cond, ◌||◌, ◌<◌, ◌≤◌, eqb};
 ghost use Rattle.chains.specs.Held.{at, HoldsChains};
 ghost use Rattle.rules.specs.Family.{family, cleared};

@@ -1,4 +1,6 @@
 // Signal and reading of a flag.
+#![tactic(auto)]
+
 ghost use Rattle.std.specs.Prelude.{[]};
 ghost use Rattle.rules.specs.Calls.{signal, read_flag};
 ghost use Rattle.laws.specs.Bits.{bit};

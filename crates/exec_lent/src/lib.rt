@@ -1,5 +1,7 @@
 // "The bench host also keeps one record and lends it to be changed where it stands; those few entries do the same." Each
 // calls the method by value of its name, stores the record that it hands back over the lent one, and answers its answer.
+#![tactic(auto)]
+
 ghost use Rattle.std.specs.Prelude.{[]};
 ghost use Rattle.rules.specs.Calls as Call;
 ghost use Rattle.exec.specs.Call.{Meets};

@@ -1,4 +1,6 @@
 // The tick, flags and compool blocks on a record that is lent to be changed where it stands, in the form of crate exec_lent.
+#![tactic(auto)]
+
 ghost use Rattle.std.specs.Prelude.{[]};
 ghost use Rattle.rules.specs.Calls as Call;
 ghost use Rattle.exec.specs.Call.{bit, Meets};

@@ -1,5 +1,7 @@
 // The waits of the running task, and the questions (when the next wait for a count ends, how many of a task's starts came too soon, why a task
 // won't start), on a record that is lent to be changed where it stands, in the form of crate exec_lent.
+#![tactic(auto)]
+
 ghost use Rattle.std.specs.Prelude.{[]};
 ghost use Rattle.rules.specs.Calls as Call;
 ghost use Rattle.exec.specs.Call.{bit, Meets};

@@ -1,4 +1,6 @@
 // A served flag is offered to the tasks.
+#![tactic(auto)]
+
 ghost use Rattle.std.specs.Prelude.{◌≤◌};
 ghost use Rattle.exec_offers.specs.Post.{Heeds, Room};
 ghost use Rattle.exec_offers.specs.Set.{with_tables};
@@ -8,7 +10,7 @@ use exec_state::{DISPATCHABLE, ON};
 use rig_tables::{CONDITIONS, LINES, TASK_PLACES, TASKS};
 
 // What is queued once a flag was offered, and how many tasks it activated.
-#[derive(Drop)]
+#[derive(Clone, Copy)]
 pub struct Heeded {
     pub queue: Queue,
     pub activated: u32,

@@ -1,4 +1,6 @@
 // What a call comes to: the state after it, its refusal's number, and what it tells.
+#![tactic(auto)]
+
 ghost use Rattle.std.specs.Prelude.{◌≡◌};
 ghost use Rattle.exec_outcome.specs.Outcome.{refused_by, kept_with};
 ghost use Rattle.exec_outcome.specs.Laws.Settling.{Settles, empty_cycle, Settled};
@@ -9,7 +11,7 @@ use rig_tables::CYCLE_FLAGS;
 
 // The refusal's number is 0 for an accepted call. Told are the flags served, how many waiting tasks that made dispatchable and how
 // many it activated, the bus words and a value. What a refused call tells is 0, and its state is as it was.
-#[derive(Drop)]
+#[derive(Clone, Copy)]
 pub struct Outcome {
     pub st: State,
     pub refusal: u8,

@@ -1,4 +1,6 @@
 // The numbers of overruns: those who are named by a minor-cycle flag and already active have one more.
+#![tactic(auto)]
+
 ghost use Rattle.std.specs.Prelude.{◌≡◌, cond};
 ghost use Rattle.rules.specs.Serving.{more_by_one};
 ghost use Rattle.exec_overruns.specs.Post.{Counted};

@@ -1,4 +1,6 @@
 // Questions on a record. They need no running task, and the record is what it was.
+#![tactic(auto)]
+
 ghost use Rattle.std.specs.Prelude.{[]};
 ghost use Rattle.rules.specs.Calls.{next_waking, read_overruns};
 ghost use Rattle.exec_outcome.specs.Outcome.{Tells};

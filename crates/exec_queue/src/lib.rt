@@ -1,4 +1,6 @@
 // Flags: which are activation or minor-cycle flags, and the queue of those to be served.
+#![tactic(auto)]
+
 ghost use Rattle.std.specs.Prelude.{◌≡◌, ◌&&◌, [], ◌<◌, eqb};
 ghost use Rattle.chains.specs.Held.{at};
 ghost use Rattle.rules.specs.Rig.{in_cycle, is_minor, is_activation};
@@ -61,7 +63,7 @@ pub fn is_minor(cycles: [Cycle; CYCLES], f: u8) -> bool
 }
 
 // What is queued: entries 0 to n - 1; the last is taken off first.
-#[derive(Drop)]
+#[derive(Clone, Copy)]
 pub struct Queue {
     pub n: usize,
     pub flag: [u8; QUEUED],

@@ -1,5 +1,7 @@
 // The refusals of a call: "12 comes first, then the smallest number"; 0 for none. Each table is judged in one function, over
 // the numbers and tables that it looks at, and with the answer of the soundness check.
+#![tactic(auto)]
+
 ghost use Rattle.std.specs.Prelude.{◌≡◌, ◌-◌, ◌<◌, get_or};
 ghost use Rattle.compool.specs.View.{rows_of};
 ghost use Rattle.laws.specs.Bits.{bit};

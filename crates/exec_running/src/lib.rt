@@ -1,4 +1,6 @@
 // Who runs: the best by rank, and whether the task that ran goes on.
+#![tactic(auto)]
+
 ghost use Rattle.std.specs.Prelude.{◌≡◌, not, ◌&&◌, ◌||◌, ◌+◌, ◌*◌, ◌≤◌, eqb, ltb, leb};
 ghost use Rattle.rig_tables.specs.Tests.{at};
 ghost use Rattle.rules.specs.Running.{best, chosen};

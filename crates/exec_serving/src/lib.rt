@@ -1,4 +1,6 @@
 // What is queued is served to its end.
+#![tactic(auto)]
+
 ghost use Rattle.std.specs.Prelude.{◌≡◌, not, ◌<◌, eqb, get_or};
 ghost use Rattle.exec_offers.specs.Set.{with_tables};
 ghost use Rattle.exec_serving.specs.Post.{Begins, CountsSoon, Emptied};
@@ -11,7 +13,7 @@ use rig::{Cycle, Rig};
 use rig_tables::{CONDITIONS, LINES, TASK_PLACES};
 
 // A state, how many flags were served on the way to it, how many waiting tasks that made dispatchable, and how many it activated.
-#[derive(Drop)]
+#[derive(Clone, Copy)]
 pub struct Done {
     pub st: State,
     pub served: u32,

@@ -1,4 +1,6 @@
 // The soundness check of a record, in time linear in its size.
+#![tactic(auto)]
+
 ghost use Rattle.std.specs.Prelude.{◌≡◌, true, ◌↔◌, ◌≤◌};
 ghost use Rattle.laws.specs.All.{all_of};
 ghost use Rattle.chains.specs.Held.{Sized};

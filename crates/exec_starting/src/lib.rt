@@ -1,4 +1,6 @@
 // Why won't it start? "Tasks ask about conditions and conditions about tasks, and each link lowers d."
+#![tactic(auto)]
+
 ghost use Rattle.std.specs.Prelude.{◌≡◌, ◌≤◌};
 ghost use Rattle.start_tests.specs.Tables.{Linked};
 ghost use Rattle.start_levels.specs.Levels.{conditions_at, tasks_at, Sized, ReadOff};

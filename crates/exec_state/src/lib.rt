@@ -1,4 +1,6 @@
 // The state of the executive, and what the calls do to it: each method with its rule as contract.
+#![tactic(auto)]
+
 ghost use Rattle.std.specs.Prelude.{◌<◌, ◌≤◌};
 ghost use Rattle.chains.specs.Held.{HoldsChains};
 ghost use Rattle.exec_state.specs.Post.{CancelOk, Dispatched, Finished, Terminated, Cancelled, Blank};
@@ -26,7 +28,7 @@ pub const FLAG_CHAINS: usize = 64;
 
 // Tables by number, place 0 unused; a condition at 16 * task + position.
 #[repr(C)]
-#[derive(Drop)]
+#[derive(Clone, Copy)]
 pub struct State {
     pub count: u32,
     pub value: [u8; FLAG_PLACES],
@@ -39,7 +41,7 @@ pub struct State {
 }
 
 // A state and what is queued.
-#[derive(Drop)]
+#[derive(Clone, Copy)]
 pub struct Work {
     pub st: State,
     pub queue: Queue,

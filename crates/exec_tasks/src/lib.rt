@@ -1,4 +1,6 @@
 // Schedule, cancel, terminate, finish, and the start: what they do to the parts of a record.
+#![tactic(auto)]
+
 ghost use Rattle.std.specs.Prelude.{[]};
 ghost use Rattle.rules.specs.Calls.{schedule, cancel, terminate, finish};
 ghost use Rattle.exec_outcome.specs.Outcome.{Tells};

@@ -1,4 +1,6 @@
 // A task is tested whether it is to be activated; a schedule ends with that test.
+#![tactic(auto)]
+
 ghost use Rattle.std.specs.Prelude.{◌≤◌};
 ghost use Rattle.exec_state.specs.Post.{Tested, Scheduled};
 

@@ -1,4 +1,6 @@
 // The running task begins to wait.
+#![tactic(auto)]
+
 ghost use Rattle.exec_state.specs.Post.{FlagOk};
 ghost use Rattle.exec_waiting.specs.Post.{MayWait, WaitsOn, WaitsUntil};
 

@@ -1,4 +1,6 @@
 // Waits of the running task: until a count, for a number of cycles, for a flag's value.
+#![tactic(auto)]
+
 ghost use Rattle.std.specs.Prelude.{◌≡◌, ◌&&◌, [], eqb};
 ghost use Rattle.rules.specs.Calls.{wait_until, wait_for};
 ghost use Rattle.laws.specs.Bits.{bit};

@@ -1,4 +1,6 @@
 // Who waits becomes dispatchable: those in a flag's chain when it is served, and those due at the tick's count.
+#![tactic(auto)]
+
 ghost use Rattle.std.specs.Prelude.{◌≡◌, ◌<◌, ◌%◌, get_or};
 ghost use Rattle.chains.specs.Held.{HoldsChains};
 ghost use Rattle.rig.specs.Rules.{no_cycle};
@@ -14,7 +16,7 @@ use rig_tables::TASK_PLACES;
 const CYCLES: u32 = 64;
 
 // The links that a waking leaves, and how many it woke.
-#[derive(Drop)]
+#[derive(Clone, Copy)]
 pub struct Roused {
     pub links: Links,
     pub woken: u32,

@@ -1,4 +1,6 @@
 // Why won't it start? The question on a record. It needs no running task, and the record is what it was.
+#![tactic(auto)]
+
 ghost use Rattle.std.specs.Prelude.{[]};
 ghost use Rattle.rules.specs.Calls.{why_not};
 ghost use Rattle.exec_outcome.specs.Outcome.{Tells};

@@ -1,5 +1,7 @@
 // What a host in C calls. It keeps one record in its own memory and lends it to each entry, "to be changed where it stands".
 // Each entry calls the method by value of its name, has its step told in numbers, stores the record over the lent one, and replies.
+#![tactic(auto)]
+
 ghost use Rattle.std.specs.Prelude.{◌≡◌, []};
 ghost use Rattle.command_words.specs.Command.{command_fields};
 ghost use Rattle.status_words.specs.Status.{status_fields};

@@ -1,4 +1,6 @@
 // The library's own numbers, which its header states too: the version, and the layout of a record.
+#![tactic(auto)]
+
 ghost use Rattle.std.specs.Prelude.{◌≡◌};
 ghost use Rattle.host_layout.specs.Library.{record_size, record_align, version};
 

@@ -1,5 +1,7 @@
 // What a host in C is told of each call: the record after it, and its answer put into the numbers that C reads. Crate host has the entries that
 // C sees; each makes its call and has the step told here.
+#![tactic(auto)]
+
 mod calls;
 mod starting;
 
@@ -11,7 +13,7 @@ pub use starting::start;
 // flag's value, the count and the running task of the record after the call, and how many waiting tasks the services made
 // dispatchable and how many they activated.
 #[repr(C)]
-#[derive(Drop)]
+#[derive(Clone, Copy)]
 pub struct Reply {
     pub refusal: u32,
     pub line: u32,
@@ -25,7 +27,7 @@ pub struct Reply {
 }
 
 // The record after a call, and the reply.
-#[derive(Drop)]
+#[derive(Clone, Copy)]
 pub struct Coded {
     pub exec: Exec,
     pub reply: Reply,

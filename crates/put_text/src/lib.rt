@@ -1,4 +1,6 @@
 // A text is copied into a lent buffer.
+#![tactic(auto)]
+
 ghost use Rattle.std.specs.Prelude.{◌+◌, ◌≤◌, length};
 ghost use Rattle.put_text.specs.Wrote.{Wrote};
 

@@ -1,4 +1,6 @@
 // The refusals' texts, for a caller that has a buffer: the build paper's words for each number.
+#![tactic(auto)]
+
 ghost use Rattle.std.specs.Prelude.{get_or};
 ghost use Rattle.refusal_texts.specs.Texts.{texts, no_refusal, refusal_text, Given};
 

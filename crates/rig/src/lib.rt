@@ -1,4 +1,6 @@
 // The rig by value: what a rig file says, by number. Entries beyond its counts are 0.
+#![tactic(auto)]
+
 ghost use Rattle.std.specs.Prelude.{◌≡◌};
 ghost use Rattle.rig.specs.Forms.{cycles_of, table_of, no_rig, no_cycles};
 
@@ -6,7 +8,7 @@ use rig_tables::{CONDITIONS, CYCLE_FLAGS, CYCLES, LINES, ROWS, TASK_PLACES};
 
 // A B line: sender and receiver with their sub-addresses, words, period and phase.
 #[repr(C)]
-#[derive(Drop)]
+#[derive(Clone, Copy)]
 pub struct Row {
     pub sender: u8,
     pub sender_sub: u8,
@@ -19,7 +21,7 @@ pub struct Row {
 
 // The flags of one minor cycle in file order, and 0 behind the last.
 #[repr(C)]
-#[derive(Drop)]
+#[derive(Clone, Copy)]
 pub struct Cycle {
     pub flags: [u8; CYCLE_FLAGS],
 }
@@ -27,7 +29,7 @@ pub struct Cycle {
 // Tasks and flags stand at their number, place 0 unused; a condition at 16 * task + position, present 1 where it has a
 // C line; A lines and rows in file order. The cycles stand beside the rig.
 #[repr(C)]
-#[derive(Drop)]
+#[derive(Clone, Copy)]
 pub struct Rig {
     pub tasks: u8,
     pub flags: u8,

@@ -1,4 +1,6 @@
 // The tests of a rig's A lines: their numbers, and that they rise.
+#![tactic(auto)]
+
 ghost use Rattle.std.specs.Prelude.{◌≡◌, not, ◌≤◌, ◌<◌};
 ghost use Rattle.laws.specs.All.{all};
 ghost use Rattle.laws.specs.Bits.{bit};

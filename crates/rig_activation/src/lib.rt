@@ -1,5 +1,7 @@
 // The tests of a rig's activation flags: each serves one task and is no minor-cycle flag. What would compare every task with every
 // other goes by a table of owners.
+#![tactic(auto)]
+
 ghost use Rattle.std.specs.Prelude.{◌≡◌, ◌||◌, ℕ, ◌+◌, ◌≤◌, ◌<◌, eqb};
 ghost use Rattle.laws.specs.Owners.{owners};
 ghost use Rattle.rig_tables.specs.Tests.{at, not_minor_b, marked};

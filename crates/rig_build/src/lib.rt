@@ -1,4 +1,6 @@
 // What is answered for a whole rig file.
+#![tactic(auto)]
+
 ghost use Rattle.std.specs.Prelude.{◌≡◌, ℕ, ◌≤◌, get_or};
 ghost use Rattle.rig_lines.specs.Kinds.{kind_rig};
 ghost use Rattle.rig_held.specs.Held.{held};
@@ -8,7 +10,7 @@ use rig_tables::CYCLES;
 
 // What reading a file answers: the refusal number and its line; the whole-file rule that is broken, 0 for none; the rig and
 // its cycles.
-#[derive(Drop)]
+#[derive(Clone, Copy)]
 pub struct Answer {
     pub no: u8,
     pub line: usize,

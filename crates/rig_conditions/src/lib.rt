@@ -1,5 +1,7 @@
 // The tests of a rig's conditions: their values, and that A lines and conditions name each other. What would look for a line of every
 // condition goes by a table of marks.
+#![tactic(auto)]
+
 ghost use Rattle.std.specs.Prelude.{◌≡◌, ◌≤◌};
 ghost use Rattle.laws.specs.All.{all};
 ghost use Rattle.rig_tables.specs.Tests.{named_b, small_one, conditions_b};

@@ -1,4 +1,6 @@
 // The test of a rig's controllers.
+#![tactic(auto)]
+
 ghost use Rattle.std.specs.Prelude.{◌≡◌, ◌&&◌, not, ◌+◌, ◌-◌, ◌≤◌, ◌<◌, eqb};
 ghost use Rattle.rig_tables.specs.Tests.{at, climb, controllers_b};
 ghost use Rattle.rig_controllers.specs.Laws.Climb.{Low};

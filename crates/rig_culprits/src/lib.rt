@@ -1,4 +1,6 @@
 // Which line or task breaks a rule over the whole file.
+#![tactic(auto)]
+
 ghost use Rattle.std.specs.Prelude.{◌≡◌, ◌≤◌, ◌<◌, length};
 ghost use Rattle.rig_culprits.specs.Culprits.{guilty, culprit_line, found_as, culprit_of};
 
@@ -35,7 +37,7 @@ pub const LINE: u8 = 1;
 pub const TASK: u8 = 2;
 
 // A line, counted from 1, or a task; nothing where none is found.
-#[derive(Drop)]
+#[derive(Clone, Copy)]
 pub struct Culprit {
     pub what: u8,
     pub number: usize,

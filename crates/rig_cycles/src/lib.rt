@@ -1,4 +1,6 @@
 // The tests of minor cycles: the flags of each rise and are small enough, and the marks of minor-cycle flags.
+#![tactic(auto)]
+
 ghost use Rattle.std.specs.Prelude.{◌≡◌, true, not, ℕ, ◌≤◌, ◌<◌, length};
 ghost use Rattle.laws.specs.Bits.{bit};
 ghost use Rattle.laws.specs.Owners.{marks};

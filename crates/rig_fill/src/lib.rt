@@ -1,5 +1,7 @@
 // Tables filled from the lines that are held, one pass for each kind of line: the conditions, the A lines and the cycles' flags. The other kinds, and the
 // rig of them all, are in rig_filled.
+#![tactic(auto)]
+
 ghost use Rattle.std.specs.Prelude.{◌≡◌, ◌≤◌, length};
 ghost use Rattle.rig_lines.specs.Kinds.{kind_c, kind_a};
 ghost use Rattle.rig_lines.specs.Whole.{number_of, is_kind};

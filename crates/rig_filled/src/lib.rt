@@ -1,4 +1,6 @@
 // The rig of the lines that are held: the tasks, the rows, and the whole with the tables of rig_fill.
+#![tactic(auto)]
+
 ghost use Rattle.std.specs.Prelude.{◌≡◌, ◌≤◌, length, get_or};
 ghost use Rattle.rig_lines.specs.Kinds.{kind_rig, kind_t, kind_b};
 ghost use Rattle.rig_lines.specs.Whole.{number_of, is_kind, how_many};

@@ -1,4 +1,6 @@
 // The lines of a rig file as they are held while it is read, ten bytes a line: its kind, then its numbers, 0 behind the last.
+#![tactic(auto)]
+
 ghost use Rattle.std.specs.Prelude.{◌≡◌, ◌∷◌, ◌*◌, ◌≤◌, ◌<◌, length};
 ghost use Rattle.laws.specs.Put.{put};
 ghost use Rattle.rig_lines.specs.Whole.{is_kind, how_many};

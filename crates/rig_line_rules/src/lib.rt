@@ -1,4 +1,6 @@
 // The rules over the whole file that only the lines show, asked of lines that are held.
+#![tactic(auto)]
+
 ghost use Rattle.std.specs.Prelude.{◌≡◌, ◌≤◌, get_or};
 ghost use Rattle.laws.specs.First.{first_false};
 ghost use Rattle.rig_lines.specs.Kinds.{kind_rig};

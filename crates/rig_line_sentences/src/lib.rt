@@ -1,4 +1,6 @@
 // The sentence that is said of a refused line: by the reason of its wrong shape, or by the refusal.
+#![tactic(auto)]
+
 ghost use Rattle.std.specs.Prelude.{◌+◌, ◌≤◌, length};
 ghost use Rattle.put_text.specs.Wrote.{Wrote};
 ghost use Rattle.rig_line_sentences.specs.Sentences.{shape_sentence, line_sentence};

@@ -1,4 +1,6 @@
 // A line judged by what its kind has, one judge for all kinds: its numbers within their sizes, and its place in the order.
+#![tactic(auto)]
+
 ghost use Rattle.std.specs.Prelude.{◌≡◌, ◌&&◌, ℕ, ◌≤◌, ◌<◌, get_or, take};
 ghost use Rattle.decimal.specs.Decimal.{cap};
 ghost use Rattle.rig_lines.specs.Kinds.{keys_of, low_of, high_of, timed, period_listed, keyed, place_in_order, follows};

@@ -1,4 +1,6 @@
 // The kinds of a rig file's lines by number, and what a line of each kind has.
+#![tactic(auto)]
+
 ghost use Rattle.std.specs.Prelude.{◌≡◌, ℕ, ◌≤◌, ◌<◌, get_or};
 ghost use Rattle.rig_lines.specs.Kinds.{kind_of, count_of, sort_of, kind_of_letter};
 

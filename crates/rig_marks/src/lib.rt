@@ -1,5 +1,7 @@
 // What the rules over a whole file ask of the lines that are held: that no number is above the RIG line's, a mark for each task that has a T line,
 // and how many M lines each cycle has.
+#![tactic(auto)]
+
 ghost use Rattle.std.specs.Prelude.{◌≡◌, ℕ, ◌≤◌, ◌<◌, eqb, ltb, get_or};
 ghost use Rattle.laws.specs.All.{all};
 ghost use Rattle.rig_lines.specs.Whole.{is_task_line, is_flag_line, how_many, every, line_under};

@@ -1,4 +1,6 @@
 // The test of conditions with a minor-cycle flag. What would compare every A line with every other goes by neighbours.
+#![tactic(auto)]
+
 ghost use Rattle.std.specs.Prelude.{◌≡◌, ◌&&◌, ℕ, ◌+◌, ◌≤◌, ◌<◌, eqb};
 ghost use Rattle.laws.specs.All.{all};
 ghost use Rattle.rig_tables.specs.Tests.{at, place_of, minor_condition_one, marked, minor_conditions_b};

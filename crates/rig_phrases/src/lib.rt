@@ -1,4 +1,6 @@
 // What stands around the sentences that are said of a rig file: phrases, numbers and counts, written one behind the other.
+#![tactic(auto)]
+
 mod counts;
 mod phrases;
 mod writing;

@@ -1,4 +1,6 @@
 // A line of a rig file as text, put into a buffer.
+#![tactic(auto)]
+
 ghost use Rattle.std.specs.Prelude.{◌≡◌, ◌∷◌, [], ◌+◌, ◌≤◌, ◌<◌, length};
 ghost use Rattle.put_text.specs.Wrote.{Wrote};
 ghost use Rattle.rig_lines.specs.Kinds.{name_of};

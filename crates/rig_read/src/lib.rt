@@ -1,7 +1,9 @@
 // The rig file's reader: nested loops over lines and fields, left from inside the line that is faulty.
+#![tactic(auto)]
+
 ghost use Rattle.std.specs.Prelude.{◌≡◌, ◌≤◌, length};
 ghost use Rattle.rig_build.specs.Read.{by_lines};
-ghost use Rattle.rig_meaning.specs.Reading.{read_of};
+ghost use Rattle.rig_meaning.proofs.Reading.{read_of};
 
 // The refusals of a file by one of its lines, and the most bytes that a file has.
 const WRONG_SHAPE: u8 = 1;
@@ -77,6 +79,7 @@ fn read_lines(s: &[u8]) -> rig_build::Answer
 }
 
 // Reads a rig file. A file that is too long is refused before anything else is looked at.
+#[inline(never)]
 pub fn read(s: &[u8]) -> rig_build::Answer
     ensures { result ≡ read_of s.now }
 {

@@ -1,1 +1,2 @@
 // Round trips of rig files: laws alone, no code.
+#![tactic(auto)]

@@ -1,4 +1,6 @@
 // The tests of a rig's rows: their sizes, that sender and receiver differ, and that rows beyond the count are 0.
+#![tactic(auto)]
+
 ghost use Rattle.laws.specs.All.{all_of};
 ghost use Rattle.std.specs.Prelude.{◌≡◌, ◌≤◌};
 ghost use Rattle.rig_rows.specs.Tests.{listed_b, row_tests, rows_b, differ_b, row_zero, row_zeros_b};

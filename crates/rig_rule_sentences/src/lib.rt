@@ -1,4 +1,6 @@
 // The sentence that is said of a rig file that breaks a rule over the whole file, by the rule.
+#![tactic(auto)]
+
 ghost use Rattle.std.specs.Prelude.{◌+◌, ◌≤◌, length};
 ghost use Rattle.put_text.specs.Wrote.{Wrote};
 ghost use Rattle.rig_rule_sentences.specs.Sentences.{rule_sentence};

@@ -1,4 +1,6 @@
 // What is said of a rig file: how much it holds, or why it is refused.
+#![tactic(auto)]
+
 mod counts;
 
 ghost use Rattle.std.specs.Prelude.{◌+◌, ◌≤◌, length};

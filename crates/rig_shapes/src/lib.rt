@@ -1,4 +1,6 @@
 // A line of a rig file taken apart; and why a line has the wrong shape.
+#![tactic(auto)]
+
 mod fields;
 mod reasons;
 

@@ -1,4 +1,6 @@
 // Lines looked for in a file, and what makes a line, or a task, the one that breaks a rule.
+#![tactic(auto)]
+
 ghost use Rattle.std.specs.Prelude.{◌≡◌, ◌≤◌, length};
 ghost use Rattle.rig_tables.specs.Tests.{climb};
 ghost use Rattle.rig_lines.specs.Line.{line_of};
@@ -18,7 +20,7 @@ const A_LINE: usize = 4;
 const MOST_TASKS: usize = 64;
 
 // What a line must be to be the one that is looked for: of this kind, with number `i` equal to x and number `j` equal to y.
-#[derive(Drop)]
+#[derive(Clone, Copy)]
 pub struct Key {
     pub kind: usize,
     pub i: usize,

@@ -1,6 +1,8 @@
 // A rig's tables of numbers: where a condition stands, and whether numbers are in their sizes. The definitions say what the
 // rules ask of the tables, as tests; the crates rig_conditions, rig_a_lines, rig_zeros, rig_cycles, rig_controllers and
 // rig_activation compute them, each by loops over lent arrays in time linear in the tables.
+#![tactic(auto)]
+
 ghost use Rattle.std.specs.Prelude.{◌≡◌, eqb, ltb};
 ghost use Rattle.laws.specs.Bits.{bit};
 ghost use Rattle.rig_tables.specs.Tests.{place, within, small_b};

@@ -1,4 +1,6 @@
 // Whether a whole rig obeys the rules, and if not, which rule it breaks first.
+#![tactic(auto)]
+
 ghost use Rattle.std.specs.Prelude.{ℕ, ◌≤◌, ◌<◌, ◌≡◌, true, ◌↔◌};
 ghost use Rattle.laws.specs.All.{all_of};
 ghost use Rattle.laws.specs.First.{first_false};

@@ -1,4 +1,6 @@
 // The rig file's writer: lines of a rig, one kind after the other.
+#![tactic(auto)]
+
 ghost use Rattle.std.specs.Prelude.{◌≡◌, ◌+◌, ◌≤◌, ◌<◌, length};
 ghost use Rattle.put_text.specs.Wrote.{Wrote};
 ghost use Rattle.rig_lines.specs.Text.{text};
@@ -194,7 +196,7 @@ const WRONG_LENGTH: u8 = 10;
 const LONGEST: usize = 40960;
 
 // What writing answers: the file's length, or the refusal number.
-#[derive(Drop)]
+#[derive(Clone, Copy)]
 pub enum Written {
     Done(usize),
     Refused(u8),

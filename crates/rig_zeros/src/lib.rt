@@ -1,4 +1,6 @@
 // The tests that a rig's entries beyond its counts are 0.
+#![tactic(auto)]
+
 ghost use Rattle.std.specs.Prelude.{◌≡◌, ◌&&◌, ◌≤◌, eqb, length};
 ghost use Rattle.laws.specs.All.{all};
 ghost use Rattle.rig_tables.specs.Tests.{condition_tasks_b, task_zeros_b, line_zeros_b};

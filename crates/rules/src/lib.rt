@@ -1,1 +1,2 @@
 // The rules of the executive are definitions and theorems in specs/; no code.
+#![tactic(auto)]

@@ -1,4 +1,6 @@
 // The check of arbitrary links: do they hold chains?
+#![tactic(auto)]
+
 ghost use Rattle.std.specs.Prelude.{◌≡◌, ◌↔◌, true, ◌+◌, ◌≤◌, ◌<◌, length};
 ghost use Rattle.chains.specs.Held.{at, HoldsChains};
 ghost use Rattle.laws.specs.All.{all};
@@ -10,7 +12,7 @@ use chains::{FIRST_ANCHOR, NODES, PLACES};
 // Anchors are looked at in blocks of sixteen.
 const BLOCK: usize = 16;
 
-#[derive(Drop)]
+#[derive(Clone, Copy)]
 pub struct Ring {
     pub ok: bool,
     pub seen: [u8; PLACES],

@@ -1,4 +1,6 @@
 // The loops of the soundness check over entries: each over single tables, with the test that it computes as its contract.
+#![tactic(auto)]
+
 ghost use Rattle.std.specs.Prelude.{◌≡◌, cond, ◌≤◌, eqb, length};
 ghost use Rattle.laws.specs.All.{all, since};
 ghost use Rattle.rules.specs.Calls.{no_such_one};

@@ -1,5 +1,7 @@
 // The loops of the soundness check over tasks, their controllers, chains and activation flags: each over single tables, with the test that it computes
 // as its contract.
+#![tactic(auto)]
+
 ghost use Rattle.std.specs.Prelude.{◌≡◌, not, ◌||◌, ℕ, ◌<◌, ◌≤◌, eqb, get_or};
 ghost use Rattle.laws.specs.Bits.{bit};
 ghost use Rattle.rules.specs.State.{active};

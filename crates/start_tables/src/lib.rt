@@ -1,5 +1,7 @@
 // Loops over the tables of who can start: which conditions stand as desired or can be brought there, which tasks that lets start. Each has
 // its table as its contract.
+#![tactic(auto)]
+
 ghost use Rattle.std.specs.Prelude.{◌≡◌};
 ghost use Rattle.start_tests.specs.Tables.{Fits, standing_of, brought_in, place_at, link_one, link_task, Kept, Linked, opened_in, able_in};
 
@@ -29,7 +31,7 @@ pub fn standing<'a>(
 }
 
 // Links that were kept, the first n: the task whose activation flag it is, and the place of the condition that it may bring there.
-#[derive(Drop)]
+#[derive(Clone, Copy)]
 pub struct KeptLinks {
     pub n: usize,
     pub task: [u8; LINES],

@@ -1,5 +1,7 @@
 // Tests of who can start: what a flag does for a condition, by its owner; whether a task's conditions are all 1, and which is the lowest
 // that is not; whether nobody can start.
+#![tactic(auto)]
+
 ghost use Rattle.std.specs.Prelude.{◌≡◌, ◌≤◌};
 ghost use Rattle.start_tests.specs.Tables.{helps, is_link, nobody, clear, lowest_in};
 

@@ -1,4 +1,6 @@
 // Status words: fields to the word, and any word to its fields.
+#![tactic(auto)]
+
 ghost use Rattle.std.specs.Prelude.{◌≡◌};
 ghost use Rattle.word_answers.specs.Answers.{encoded_report};
 ghost use Rattle.status_words.specs.Status.{status_report, status_in_size, status_fields};
@@ -21,7 +23,7 @@ const PAST_ONE: u32 = 2;
 const PAST_NINE: u32 = 512;
 
 // A status word by its fields: message error, the nine status bits, terminal failure.
-#[derive(Drop)]
+#[derive(Clone, Copy)]
 pub struct Status {
     pub address: u32,
     pub error: bool,
@@ -41,6 +43,7 @@ pub fn word(s: Status) -> Encoded
 }
 
 // The fields of any word.
+#[tactic(auto, unfolding(crate::specs::Status::status_fields))]
 pub fn fields(word: u16) -> Status
     ensures { result ≡ status_fields word }
 {

@@ -1,4 +1,6 @@
 // What a terminal board in C calls: the sending side. Nothing that it is built on has a table.
+#![tactic(auto)]
+
 ghost use Rattle.std.specs.Prelude.{◌≡◌};
 ghost use Rattle.word_parts.specs.Parity.{image_of};
 ghost use Rattle.word_numbers.specs.Numbers.{command_answer, status_answer, made_of};

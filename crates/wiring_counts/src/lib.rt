@@ -1,5 +1,7 @@
 // What each of the 64 minor cycles of a major frame has: whether a row is due in it, how many commands go to a terminal; and what
 // the frame has of them.
+#![tactic(auto)]
+
 ghost use Rattle.std.specs.Prelude.{◌≡◌, ◌/◌, ◌<◌, ◌≤◌, eqb, length};
 ghost use Rattle.laws.specs.Bits as bits;
 ghost use Rattle.laws.specs.Tables.{at};

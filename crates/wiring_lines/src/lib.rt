@@ -1,5 +1,7 @@
 // A line of the wiring sheet as text: a name, a number, how often in a frame, and what more there is to say or, in a table, a column for each minor
 // cycle of the frame.
+#![tactic(auto)]
+
 ghost use Rattle.std.specs.Prelude.{[], ◌∷◌, ◌++◌, true, cond, ◌+◌, ◌≤◌, length};
 ghost use Rattle.laws.specs.Tables as tables;
 ghost use Rattle.put_text.specs.Wrote.{Wrote};

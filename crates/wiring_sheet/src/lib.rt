@@ -1,4 +1,6 @@
 // What the program `wiring` tells of a rig.
+#![tactic(auto)]
+
 ghost use Rattle.std.specs.Prelude.{◌≤◌, length};
 ghost use Rattle.put_text.specs.Wrote.{Wrote};
 ghost use Rattle.wiring_text.specs.Sheet.{sheet_room};

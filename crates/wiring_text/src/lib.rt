@@ -1,5 +1,7 @@
 // The wiring sheet as text: a line for each row and for each terminal that is spoken to; or the same as a table, with a column for each
 // minor cycle of a frame.
+#![tactic(auto)]
+
 ghost use Rattle.std.specs.Prelude.{◌+◌, ◌*◌, ◌<◌, ◌≤◌, length};
 ghost use Rattle.laws.specs.Tables as tables;
 ghost use Rattle.rules.specs.Frame.{a_frame};

@@ -1,4 +1,6 @@
 // What the word entries answer when they make a word of fields, and a field of one bit.
+#![tactic(auto)]
+
 ghost use Rattle.std.specs.Prelude.{◌≡◌};
 ghost use Rattle.laws.specs.Bits.{bit};
 ghost use Rattle.word_answers.specs.Answers.{encoded_report};
@@ -7,7 +9,7 @@ ghost use Rattle.word_answers.specs.Answers.{encoded_report};
 pub const OUTSIDE_SIZE: u32 = 11;
 
 // The answer of an entry that makes a word of fields: the word, or that a field is outside its size (refusal 11).
-#[derive(Drop)]
+#[derive(Clone, Copy)]
 pub enum Encoded {
     Word(u16),
     OutsideSize,

@@ -1,4 +1,6 @@
 // The monitor's side: an image with parity, judged against the address that is expected. Its parity is looked up in a table (parity).
+#![tactic(auto)]
+
 ghost use Rattle.std.specs.Prelude.{◌≡◌, ◌<◌};
 ghost use Rattle.word_judging.specs.Answers.{judged_report, number_told};
 ghost use Rattle.word_judging.specs.Judging.{judged_as, is_exception, verdict_of};
@@ -16,7 +18,7 @@ const LAST_OF_SEVENTEEN: u32 = 131071;
 // what the word was multiplied by that stands above the parity bit
 const PAST_ONE: u32 = 2;
 
-#[derive(Drop)]
+#[derive(Clone, Copy)]
 pub enum Verdict {
     Error,
     Exception,
@@ -24,7 +26,7 @@ pub enum Verdict {
 }
 
 // The answer to an image: the verdict, or that the image or the expected address is outside its size (refusal 11).
-#[derive(Drop)]
+#[derive(Clone, Copy)]
 pub enum Judged {
     As(Verdict),
     OutsideSize,

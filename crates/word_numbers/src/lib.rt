@@ -1,4 +1,6 @@
 // Words and their fields for C, where every field is a number: fields of one bit too, which then can be outside their size.
+#![tactic(auto)]
+
 ghost use Rattle.std.specs.Prelude.{◌≡◌};
 ghost use Rattle.word_answers.specs.Answers.{encoded_report};
 ghost use Rattle.command_words.specs.Command.{command_fields};
@@ -14,7 +16,7 @@ const LAST_OF_ONE: u32 = 1;
 
 // What is answered to fields: the refusal's number, 0 for none, and the word, 0 after a refusal.
 #[repr(C)]
-#[derive(Drop)]
+#[derive(Clone, Copy)]
 pub struct Made {
     pub refusal: u32,
     pub word: u16,
@@ -22,7 +24,7 @@ pub struct Made {
 
 // A command word's fields.
 #[repr(C)]
-#[derive(Drop)]
+#[derive(Clone, Copy)]
 pub struct CommandNumbers {
     pub address: u32,
     pub transmit: u32,
@@ -32,7 +34,7 @@ pub struct CommandNumbers {
 
 // A status word's fields.
 #[repr(C)]
-#[derive(Drop)]
+#[derive(Clone, Copy)]
 pub struct StatusNumbers {
     pub address: u32,
     pub error: u32,

@@ -12,6 +12,7 @@ const PAST_FIVE: u32 = 32;
 const PAST_ONE: u32 = 2;
 
 // The command word; of `last` the five low bits.
+#[tactic(auto, unfolding(crate::specs::Packed::command_word))]
 pub fn command(address: u32, transmit: u32, sub: u32, last: u32) -> u16
     requires { (address < 32) × (transmit < 2) × (sub < 32) }
     ensures { result ≡ command_word address transmit sub last }
@@ -20,6 +21,7 @@ pub fn command(address: u32, transmit: u32, sub: u32, last: u32) -> u16
 }
 
 // The status word.
+#[tactic(auto, unfolding(crate::specs::Packed::status_word))]
 pub fn status(address: u32, error: u32, status: u32, failure: u32) -> u16
     requires { (address < 32) × (error < 2) × (status < 512) × (failure < 2) }
     ensures { result ≡ status_word address error status failure }

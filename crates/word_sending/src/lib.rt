@@ -1,5 +1,7 @@
 // The sending side: a word's parity "by counting the word's ones with the machine's own operation", and its image. Nothing here, and
 // nothing that it is built on, has a table: a terminal board has no flash to spare.
+#![tactic(auto)]
+
 ghost use Rattle.std.specs.Prelude.{◌≡◌};
 ghost use Rattle.word_parts.specs.Parity.{parity_bit, image_of};
 
