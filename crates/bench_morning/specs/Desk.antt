@@ -4,7 +4,7 @@ use Rattle.rules.specs.Rig as G
 use Rattle.rules.specs.State as S
 use Rattle.rules.specs.Calls as R
 use Rattle.rig_build.specs.declared.Answer.{Answer}
-use Rattle.rig_meaning.specs.Reading.{read_of}
+use Rattle.rig_meaning.proofs.Reading.{read_of}
 use Rattle.bench_script.specs.Letters.{lf}
 use Rattle.bench_input.specs.Opening.{Opening, still, whole, with_byte}
 use Rattle.bench_input.specs.Line.{with_more, last_text}

@@ -7,7 +7,7 @@ use Rattle.rules.specs.State as S
 use Rattle.rules.specs.Calls as R
 use Rattle.exec_state.specs.View.{rig_of}
 use Rattle.rig_build.specs.declared.Answer.{Answer}
-use Rattle.rig_meaning.specs.Reading.{read_of}
+use Rattle.rig_meaning.proofs.Reading.{read_of}
 use Rattle.bench_script.specs.Letters.{lf, start_name}
 use Rattle.bench_script.specs.Output.{line_text}
 use Rattle.bench_script.specs.Input.{rig_end}

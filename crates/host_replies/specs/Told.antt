@@ -3,7 +3,7 @@ use Rattle.std.specs.Prelude.{◌≡◌, ◌≢◌, ◌⊎◌, List, ℕ}
 use Rattle.rig.specs.declared.Cycle.{Cycle}
 use Rattle.rig.specs.declared.Rig.{Rig}
 use Rattle.rules.specs.Calls as R
-use Rattle.rig_meaning.specs.Reading.{read_of}
+use Rattle.rig_meaning.proofs.Reading.{read_of}
 use Rattle.exec.specs.Call.{answer_of, Meets}
 use Rattle.exec.specs.Starting.{no_exec, Started}
 use Rattle.exec.specs.declared.Exec.{Exec}

@@ -6,8 +6,8 @@ use Prim.Native.Nat.{ℕ}
 use mathlib.Core.List.{[], ◌∷◌, List}
 use lib.ListN.{length}
 use seplogic.Ra.Ura.{Ura}
-use seplogic.Ra.TreeShare.{full_share}
-use mir.Syntax.{Name, Fn, seq, assign, call, return, local, value_local, named, mut, imm, ty_int, ty_ref, w8, place, deref, field, copy, rv_opd}
+use base.Fraction.{full_share}
+use mir.Syntax.{Callee as Name, Fn, seq, assign, call, return, local, value_local, named, mut, imm, ty_int, ty_ref, w8, place, deref, field, copy, rv_opd}
 use mir.Val.{Val, vptr}
 use base.Logic.{SProp, ent, sep, emp, via, fst∗, id⊢}
 use base.Fml.{GName, Lft, Share, ftrue, fat, flft, fobs, fbor}
@@ -23,8 +23,9 @@ use denote.RattleType.{owns}
 use denote.Laws.{Is, shows}
 use denote.Memory.{mem}
 use denote.Builtin.{u8, RefMutOf, SliceRefOf}
-use denote.Ref.{MutBor, MutRef, shr_vals, mut_Tells}
-use denote.Slice.{slice_ty, slice_val, shr_slice_vals, Room, ShrSlice, shr_slice_Tells}
+use denote.Bor.{Bor}
+use denote.Ref.{MutBor, MutRef, mut_Tells, mut_vals}
+use denote.Slice.{slice_ty, slice_val, Room, ShrSlice, shr_slice_Tells, shr_slice_vals}
 use denote.Signature.{plain, shr_slice_of}
 use denote.Steps.{only, opens, closes, owned, peeks, heard, nothing}
 use denote.Struct.Steps.{spelt}
@@ -43,6 +44,8 @@ module _ (T : Types) (L : Laws T) (callee : Name) (K : List ℕ → T.Step → T
   function = record {
     lifetimes = 2;
     outlives = [];
+    ty_params = [];
+    givens = 0;
     params = 2;
     locals = local T.answer.ty value_local ∷ local (ty_ref (named 0) mut T.exec.written.ty) value_local ∷ local (slice_ty (ty_ref (named 1) imm (ty_int w8))) value_local ∷ local (step_type T) value_local ∷ [];
     body = seq (call callee (copy (place 2 []) ∷ []) (place 3 [])) (seq (assign (place 1 (deref T.exec.ty ∷ [])) (rv_opd (copy (place 3 (field 0 ∷ []))))) (seq (assign (place 0 []) (rv_opd (copy (place 3 (field 1 ∷ []))))) return));
@@ -65,7 +68,7 @@ module _ (T : Types) (L : Laws T) (callee : Name) (K : List ℕ → T.Step → T
   }
 
   abbrev pub self_clauses : {M : Type 1} (𝓤 : Ura M) → Clauses 𝓤 self
-  self_clauses 𝓤 κs a = record { ghost = Unit {0}; requires = λ _. emp 𝓤; ensures = λ _ r end. fact 𝓤 (K a.1.0.now (L.step_of_lem end.0.now r)) }
+  self_clauses 𝓤 κs a = record { ghost = Unit {0}; requires = λ _. emp 𝓤; ensures = λ _ r end. fact 𝓤 (K a.1.0.now (L.step_of end.0.now r)) }
 
   -- what is had of each parameter at exit: the record is still lent, a `&mut [T]` was given to the callee, and nothing is needed of
   -- the others
@@ -75,14 +78,14 @@ module _ (T : Types) (L : Laws T) (callee : Name) (K : List ℕ → T.Step → T
   abbrev pub Callee : {M : Type 1} {𝓤 : Ura M} (𝓛 : Logic 𝓤) → Contract 𝓤
   Callee {𝓤 = 𝓤} 𝓛 = triple_of 𝓛 called.signature (closing 𝓛 called (called_clauses 𝓤))
 
-  module _ {M : Type 1} {𝓤 : Ura M} (𝓛 : Logic 𝓤) (κ : Lft) (q : Share) (b o : ℕ) (γ : GName) (h : T.exec.Value) (κ1 : Lft) (q1 : Share) (b1 o1 : ℕ) (γ1 : GName) (v1 : List ℕ) (room1 : Room u8 (length v1)) where
+  module _ {M : Type 1} {𝓤 : Ura M} (𝓛 : Logic 𝓤) (κ : Lft) (q : Share) (b o : ℕ) (γ : GName) (h : T.exec.Value) (κ1 : Lft) (q1 : Share) (b1 o1 : ℕ) (v1 : List ℕ) (room1 : Room u8 (length v1)) where
     open 𝓛 use {H, A}
 
     abbrev Arg : Type 0
-    Arg = MutBor T.exec.Value × (MutBor (List ℕ) × Unit {0})
+    Arg = MutBor T.exec.Value × (Bor (List ℕ) × Unit {0})
 
     abbrev x : Arg
-    x = (record { ref_ptr = (b, o); ghost_name = γ; now = h }, (record { ref_ptr = (b1, o1); ghost_name = γ1; now = v1 }, tt))
+    x = (record { ref_ptr = (b, o); ghost_name = γ; now = h }, (record { ref_ptr = (b1, o1); now = v1 }, tt))
 
     abbrev Vals : Type 0
     Vals = List Val × (List Val × Unit {0})
@@ -110,7 +113,7 @@ module _ (T : Types) (L : Laws T) (callee : Name) (K : List ℕ → T.Step → T
 
     -- what the callee's triple binds outside, and its `pre`: the others' tokens and what the others own go to it as they stand
     abbrev to : (Callee 𝓛).Ghost
-    to = (((κ1, tt), (q1, tt), tt, (record { ref_ptr = (b1, o1); ghost_name = γ1; now = v1 }, tt), (slice_val (b1, o1) (length v1) ∷ [], tt)), tt)
+    to = (((κ1, tt), (q1, tt), tt, (record { ref_ptr = (b1, o1); now = v1 }, tt), (slice_val (b1, o1) (length v1) ∷ [], tt)), tt)
 
     goes_in : ent 𝓤 (sep 𝓤 (sem 𝓛 (owns (ShrSlice (named 1) κ1 u8 ∷ []) x.1 at.1)) (sep 𝓤 (A.lft κ1 q1) (sem 𝓛 ftrue))) ((Callee 𝓛).pre to)
     goes_in = qed 𝓛 (‵ (owns (ShrSlice (named 1) κ1 u8 ∷ []) x.1 at.1) ∷ (‵ (flft κ1 q1) ⊛ ‵ ftrue) ∷ []) ∵ move ! (1 ∷ 0 ∷ []) $ join ! $ frame ! $ done !
@@ -128,8 +131,8 @@ module _ (T : Types) (L : Laws T) (callee : Name) (K : List ℕ → T.Step → T
           -- [the record's cell; what it owns; the open borrow; obs; auth; the locals, the last first; what the others own; their tokens]
           move ! (13 ∷ 14 ∷ []) $ use2 𝓛 (raw ((Callee 𝓛).pre to)) (goes_in) $
           calls_at ! fm (Callee 𝓛) known to (and_then ! (load ! (from ! (stop !)) (look ! 8 refl)) (no_more !)) (λ w.
-          use1 𝓛 (later (some (λ (r : T.Step). ((‵ (flft κ1 q1) ⊛ ‵ ftrue) ⊛ ‵ ((S T).own r (w ∷ []))) ⊛ raw (ensured 𝓛 called (called_clauses 𝓤) (κ1, tt) (record { ref_ptr = (b1, o1); ghost_name = γ1; now = v1 }, tt) tt r)))) (id⊢ 𝓤 _) $ await ! tt $ pick ! (λ r.
-          split ! $ move ! (1 ∷ []) $ use1 𝓛 (some (λ (zs : Last). ‵ (lasts called (κ1, tt) (record { ref_ptr = (b1, o1); ghost_name = γ1; now = v1 }, tt) zs) ⊛ raw (fact 𝓤 (Known r zs)))) (id⊢ 𝓤 _) $ pick ! (λ zs. split ! $ move ! (1 ∷ []) $ heard ! (Known r zs) (λ e.
+          use1 𝓛 (later (some (λ (r : T.Step). ((‵ (flft κ1 q1) ⊛ ‵ ftrue) ⊛ ‵ ((S T).own_val r (w ∷ []))) ⊛ raw (ensured 𝓛 called (called_clauses 𝓤) (κ1, tt) (record { ref_ptr = (b1, o1); now = v1 }, tt) tt r)))) (id⊢ 𝓤 _) $ await ! tt $ pick ! (λ r.
+          split ! $ move ! (1 ∷ []) $ use1 𝓛 (some (λ (zs : Last). ‵ (lasts called (κ1, tt) (record { ref_ptr = (b1, o1); now = v1 }, tt) zs) ⊛ raw (fact 𝓤 (Known r zs)))) (id⊢ 𝓤 _) $ pick ! (λ zs. split ! $ move ! (1 ∷ []) $ heard ! (Known r zs) (λ e.
           -- each parameter's last value is taken off
           fsplit ! $ drop ! $ drop ! $ move ! (0 ∷ []) $ split ! $ move ! (1 ∷ []) $
           peeks ! (S T) (Is (S T)) (shows 𝓛 (S T)) r (w ∷ []) (λ is.
@@ -147,9 +150,9 @@ module _ (T : Types) (L : Laws T) (callee : Name) (K : List ℕ → T.Step → T
     open 𝓛 use {H}
 
     walks : (C : Calls 𝓤 H) (Λ : Loops 𝓤 H) → FmC 𝓤 H 𝓛.laws C → Triple 𝓤 (C callee) (Callee 𝓛) → Walks 𝓛 self stayed (WpFn 𝓤 H C Λ function) (self_clauses 𝓤)
-    walks C Λ fm known = walked 𝓛 self stayed (self_clauses 𝓤) (WpFn 𝓤 H C Λ function) (λ κs. (shr_vals, (shr_slice_vals, tt)))
+    walks C Λ fm known = walked 𝓛 self stayed (self_clauses 𝓤) (WpFn 𝓤 H C Λ function) (λ κs. (mut_vals, (shr_slice_vals, tt)))
         (λ κs. (mut_Tells (named 0) κs.0 (X T), (shr_slice_Tells (named 1) κs.1.0 u8, tt)))
-        (λ κs qs bounds a g are. via 𝓤 _ (fst∗ 𝓤 _ (emp 𝓤)) (walk 𝓛 κs.0 qs.0 a.0.ref_ptr.0 a.0.ref_ptr.1 a.0.ghost_name a.0.now κs.1.0 qs.1.0 a.1.0.ref_ptr.0 a.1.0.ref_ptr.1 a.1.0.ghost_name a.1.0.now are.1.0.0.1 C Λ fm known))
+        (λ κs qs bounds a g are. via 𝓤 _ (fst∗ 𝓤 _ (emp 𝓤)) (walk 𝓛 κs.0 qs.0 a.0.ref_ptr.0 a.0.ref_ptr.1 a.0.ghost_name a.0.now κs.1.0 qs.1.0 a.1.0.ref_ptr.0 a.1.0.ref_ptr.1 a.1.0.now are.1.0.0.1 C Λ fm known))
 
     goes : AllGo 𝓛 2 self.signature.params self.kept stayed
     goes = (Goes-ref 𝓛 2 0 tt (plain (λ _. X T)), (Goes-dropped 𝓛 2 (shr_slice_of (1 ∷ []) tt (plain (λ _. u8))) yes (λ κs x f. refl), tt))

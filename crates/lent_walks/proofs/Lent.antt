@@ -5,7 +5,8 @@ use mathlib.Core.List.{[], ◌∷◌, List}
 use seplogic.Ra.Ura.{Ura}
 use mir.Syntax.{Sym, Ty, ty_int, ty_bool, ty_struct, tnil, tcons, Written, w32}
 use mir.Val.{Val, vint, vbool, vstruct, vnil, vcons}
-use base.Fml.{Fml}
+use Prim.Native.Nat.{ℕ}
+use base.Fml.{Fml, Lft}
 use base.Stored.{Coded}
 use types.Logic.{Logic}
 use denote.RattleType.{RattleType}
@@ -20,15 +21,17 @@ pub record One : Type 2 where
   pub ty : Ty
   pub written : Written
   pub reaches : List (Written × List Ty)
+  pub lives : Lft
   pub own : Value → List Val → Fml
   pub coded : Coded Value
+  pub shr_at : Value → ℕ → ℕ → Lft → Fml
 
 abbrev pub row : One → RattleType
-row o = record { Denot = o.Value; mir = o.ty ∷ []; written = o.written; reaches = o.reaches; own_val = o.own; exit = λ k. unchanged; coded = o.coded }
+row o = record { Denot = o.Value; mir = o.ty ∷ []; written = o.written; reaches = o.reaches; lives = o.lives; own_val = o.own; exit = λ k. unchanged; coded = o.coded; shr_at = o.shr_at }
 
 -- a declared type's row by its parts: `row (one R τ)` is R itself where R has the one machine type τ
 abbrev pub one : RattleType → Ty → One
-one R τ = record { Value = R.Denot; ty = τ; written = R.written; reaches = R.reaches; own = R.own; coded = R.coded }
+one R τ = record { Value = R.Denot; ty = τ; written = R.written; reaches = R.reaches; lives = R.lives; own = R.own_val; coded = R.coded; shr_at = R.shr_at }
 
 -- what a walk knows of a parameter by value
 pub record Plain (P : One) : Type 2 where
@@ -56,8 +59,10 @@ pub record Types : Type 2 where
   pub Step : Type 0
   pub written : Written
   pub reaches : List (Written × List Ty)
+  pub lives : Lft
   pub own : Step → List Val → Fml
   pub coded : Coded Step
+  pub shr_at : Step → ℕ → ℕ → Lft → Fml
 
 abbrev pub X : Types → RattleType
 X T = row T.exec
@@ -69,7 +74,7 @@ abbrev pub step_type : Types → Ty
 step_type T = ty_struct T.sym (tcons T.exec.ty (tcons T.answer.ty tnil))
 
 abbrev pub S : Types → RattleType
-S T = row (record { Value = T.Step; ty = step_type T; written = T.written; reaches = T.reaches; own = T.own; coded = T.coded })
+S T = row (record { Value = T.Step; ty = step_type T; written = T.written; reaches = T.reaches; lives = T.lives; own = T.own; coded = T.coded; shr_at = T.shr_at })
 
 pub record Laws (T : Types) : Type 2 where
   pub xval : T.exec.Value → Val

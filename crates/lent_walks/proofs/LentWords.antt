@@ -6,25 +6,26 @@ use Prim.Native.Nat.{ℕ}
 use mathlib.Core.List.{[], ◌∷◌, List}
 use lib.ListN.{length}
 use seplogic.Ra.Ura.{Ura}
-use seplogic.Ra.TreeShare.{full_share}
-use mir.Syntax.{Name, Fn, seq, assign, call, return, local, value_local, named, erased, mut, ty_int, ty_ref, w16, place, deref, field, copy, rv_opd, addr_of, aggregate}
+use base.Fraction.{full_share}
+use mir.Syntax.{Callee as Name, Fn, seq, assign, call, return, local, value_local, named, erased, mut, ty_int, ty_ref, w16, place, deref, field, copy, rv_opd, addr_of, aggregate}
 use mir.Val.{Val, vptr}
 use base.Logic.{SProp, ent, sep, emp, via, fst∗, id⊢}
-use base.Fml.{GName, Lft, Share, ftrue, fat, flft, fobs, fbor}
+use base.Fml.{GName, Lft, Share, ftrue, fat, flft, fobs, fbor, fsep}
 use prog.Wp.{Calls, Loops, WpFn, Tables}
 use types.Logic.{Logic, sem}
 use contract.Monad.{fact}
 use types.Kit.{‵, raw, some, later, ◌⊛◌, ⋆, ◌$◌, ◌∵◌, !, qed, by, move, keep, drop, use1, use2, split, join, pick, rewrite, fsplit, fsplit3, fjoin, fjoin3, feq_l, feq_i, suffices, frame, await, done}
 use types.Run.{look, look_raw, init, store_raw, forget, stop, hop, fld, from, load, addr, of_opd, and_then, no_more, assigns, land, returns, enter, alloc1, alloc0, params1, pass1, pass0, free1, free0}
 use types.Part.{agg, whole, sub, look_in}
-use types.SemTy.{Body as LentBody}
+use types.SemTy.{Body as LentBody, Arr}
+use types.Hole.{Holey}
 use sound.WpLaws.{FmC, fm_of, WpFn-mono}
 use denote.RattleType.{owns}
 use denote.Laws.{Is, shows}
 use denote.Memory.{mem}
 use denote.Builtin.{u16, RefMutOf, SliceRefMutOf}
-use denote.Ref.{MutBor, MutRef, mut_vals, mut_Tells}
-use denote.Slice.{slice_ty, slice_val, mut_slice_vals, Room, MutSlice, finally, mut_slice_Tells}
+use denote.Ref.{MutBor, MutRef, mut_Tells, mut_vals}
+use denote.Slice.{slice_ty, slice_val, Room, MutSlice, finally, mut_slice_Tells, mut_slice_vals}
 use denote.Signature.{plain}
 use denote.Steps.{only, opens, closes, owned, peeks, heard, nothing}
 use denote.Struct.Steps.{spelt}
@@ -43,6 +44,8 @@ module _ (T : Types) (L : Laws T) (callee : Name) (K : T.exec.Value → List ℕ
   function = record {
     lifetimes = 2;
     outlives = [];
+    ty_params = [];
+    givens = 0;
     params = 2;
     locals = local T.answer.ty value_local ∷ local (ty_ref (named 0) mut T.exec.written.ty) value_local ∷ local (slice_ty (ty_ref (named 1) mut (ty_int w16))) value_local ∷ local (step_type T) value_local ∷ local T.exec.ty value_local ∷ local (ty_ref erased mut (ty_int w16)) value_local ∷ local (slice_ty (ty_ref erased mut (ty_int w16))) value_local ∷ [];
     body = seq (assign (place 4 []) (rv_opd (copy (place 1 (deref T.exec.ty ∷ []))))) (seq (assign (place 5 []) (addr_of (place 2 (field 0 ∷ deref (ty_int w16) ∷ [])))) (seq (assign (place 6 []) (aggregate (copy (place 5 []) ∷ copy (place 2 (field 1 ∷ [])) ∷ []))) (seq (call callee (copy (place 4 []) ∷ copy (place 6 []) ∷ []) (place 3 [])) (seq (assign (place 1 (deref T.exec.ty ∷ [])) (rv_opd (copy (place 3 (field 0 ∷ []))))) (seq (assign (place 0 []) (rv_opd (copy (place 3 (field 1 ∷ []))))) return)))));
@@ -65,7 +68,7 @@ module _ (T : Types) (L : Laws T) (callee : Name) (K : T.exec.Value → List ℕ
   }
 
   abbrev pub self_clauses : {M : Type 1} (𝓤 : Ura M) → Clauses 𝓤 self
-  self_clauses 𝓤 κs a = record { ghost = Unit {0}; requires = λ _. emp 𝓤; ensures = λ _ r end. fact 𝓤 (K a.0.now a.1.0.now (L.step_of_lem end.0.now r) end.1.0.now) }
+  self_clauses 𝓤 κs a = record { ghost = Unit {0}; requires = λ _. emp 𝓤; ensures = λ _ r end. fact 𝓤 (K a.0.now a.1.0.now (L.step_of end.0.now r) end.1.0.now) }
 
   -- what is had of each parameter at exit: the record is still lent, a `&mut [T]` was given to the callee, and nothing is needed of
   -- the others
@@ -100,9 +103,9 @@ module _ (T : Types) (L : Laws T) (callee : Name) (K : T.exec.Value → List ℕ
     abbrev Known : T.Step → Last → Type 0
     Known r zs = K (h) (v1) r zs.1.0
 
-    exits : (r : T.Step) (zs : Last) → Is (N T) (L.answer_of_step r) (L.nval (L.answer_of_step r) ∷ []) → Known r zs → (same1 : length zs.1.0 ≡ length v1) → ent 𝓤 (⋆ 𝓛 (‵ (fobs γ ((X T).coded.code (L.exec_of r))) ∷ ‵ (fbor κ (LentBody (mem (X T)) b o γ)) ∷ ‵ (flft κ q) ∷ (‵ (flft κ1 q1) ⊛ ‵ ftrue) ∷ ‵ (finally u16 γ1 zs.1.0) ∷ [])) (Post (L.nval (L.answer_of_step r)))
+    exits : (r : T.Step) (zs : Last) → Is (N T) (L.answer_of_step r) (L.nval (L.answer_of_step r) ∷ []) → Known r zs → (same1 : length zs.1.0 ≡ length v1) → ent 𝓤 (⋆ 𝓛 (‵ (fobs γ ((X T).coded.code (L.exec_of r))) ∷ ‵ (fbor κ (LentBody (mem (X T)) b o γ)) ∷ ‵ (flft κ q) ∷ (‵ (flft κ1 q1) ⊛ ‵ ftrue) ∷ ‵ (fsep (finally u16 γ1 zs.1.0) (fbor κ1 (LentBody (Arr (Holey (mem u16)) (length v1)) b1 o1 γ1))) ∷ [])) (Post (L.nval (L.answer_of_step r)))
     exits r zs is e same1 =
-        qed 𝓛 (‵ (fobs γ ((X T).coded.code (L.exec_of r))) ∷ ‵ (fbor κ (LentBody (mem (X T)) b o γ)) ∷ ‵ (flft κ q) ∷ (‵ (flft κ1 q1) ⊛ ‵ ftrue) ∷ ‵ (finally u16 γ1 zs.1.0) ∷ []) ∵
+        qed 𝓛 (‵ (fobs γ ((X T).coded.code (L.exec_of r))) ∷ ‵ (fbor κ (LentBody (mem (X T)) b o γ)) ∷ ‵ (flft κ q) ∷ (‵ (flft κ1 q1) ⊛ ‵ ftrue) ∷ ‵ (fsep (finally u16 γ1 zs.1.0) (fbor κ1 (LentBody (Arr (Holey (mem u16)) (length v1)) b1 o1 γ1))) ∷ []) ∵
         suffices ! _ (ends_at 𝓛 self stayed (self_clauses 𝓤) (((κ, (κ1, tt)), (q, (q1, tt)), tt, x, at), tt) (L.nval (L.answer_of_step r)) (L.answer_of_step r) (L.exec_of r, (zs.1.0, tt)) (tt, (same1, tt))) $
         says ! (subst (λ (s : T.Step). Known s zs) (sym (L.rebuilt r)) e) $ move ! (2 ∷ 3 ∷ []) $ join ! $ frame ! $ feq_i ! (List Val) (vptr b o ∷ []) (vptr b o ∷ []) refl $ fjoin3 ! $ nothing ! $
         move ! (2 ∷ 0 ∷ []) $ fjoin ! $ move ! (1 ∷ 0 ∷ []) $ fjoin ! $ frame ! $
@@ -131,10 +134,10 @@ module _ (T : Types) (L : Laws T) (callee : Name) (K : T.exec.Value → List ℕ
           assigns ! (agg ! (and_then ! (load ! (from ! (stop !)) (look ! 7 refl)) (and_then ! (load ! (from ! (fld ! refl (stop !))) (look_in ! 13 (sub ! 1 refl (whole !)))) (no_more !)))) (from ! (stop !)) (init ! 5 refl (tt, (tt, (record { fits = room1.0 }, tt)))) $
           move ! (19 ∷ 20 ∷ []) $ use2 𝓛 (raw ((Callee 𝓛).pre to)) (goes_in was) $
           calls_at ! fm (Callee 𝓛) known to (and_then ! (load ! (from ! (stop !)) (look ! 10 refl)) (and_then ! (load ! (from ! (stop !)) (look ! 6 refl)) (no_more !))) (λ w.
-          use1 𝓛 (later (some (λ (r : T.Step). ((‵ (flft κ1 q1) ⊛ ‵ ftrue) ⊛ ‵ ((S T).own r (w ∷ []))) ⊛ raw (ensured 𝓛 called (called_clauses 𝓤) (κ1, tt) (h, (record { ref_ptr = (b1, o1); ghost_name = γ1; now = v1 }, tt)) tt r)))) (id⊢ 𝓤 _) $ await ! tt $ pick ! (λ r.
+          use1 𝓛 (later (some (λ (r : T.Step). ((‵ (flft κ1 q1) ⊛ ‵ ftrue) ⊛ ‵ ((S T).own_val r (w ∷ []))) ⊛ raw (ensured 𝓛 called (called_clauses 𝓤) (κ1, tt) (h, (record { ref_ptr = (b1, o1); ghost_name = γ1; now = v1 }, tt)) tt r)))) (id⊢ 𝓤 _) $ await ! tt $ pick ! (λ r.
           split ! $ move ! (1 ∷ []) $ use1 𝓛 (some (λ (zs : Last). ‵ (lasts called (κ1, tt) (h, (record { ref_ptr = (b1, o1); ghost_name = γ1; now = v1 }, tt)) zs) ⊛ raw (fact 𝓤 (Known r zs)))) (id⊢ 𝓤 _) $ pick ! (λ zs. split ! $ move ! (1 ∷ []) $ heard ! (Known r zs) (λ e.
           -- each parameter's last value is taken off
-          fsplit ! $ drop ! $ fsplit ! $ fsplit ! $ move ! (1 ∷ []) $ feq_l ! (λ same1. move ! (1 ∷ []) $ drop ! $ move ! (1 ∷ []) $ split ! $ move ! (1 ∷ []) $
+          fsplit ! $ drop ! $ fsplit ! $ fsplit ! $ fsplit ! $ move ! (1 ∷ []) $ feq_l ! (λ same1. fjoin ! $ move ! (1 ∷ []) $ drop ! $ move ! (1 ∷ []) $ split ! $ move ! (1 ∷ []) $
           peeks ! (S T) (Is (S T)) (shows 𝓛 (S T)) r (w ∷ []) (λ is.
           -- [what the step owns; the others' tokens; the slices' last lists, the last first; the record's cell; what it owns; the open borrow; obs; auth; the locals]
           land ! (from ! (stop !)) (init ! 14 refl ((L.s_lawful 𝓛).typed r _ is).0) $ rewrite ! 14 (λ (u : Val). ‵ (fat full_share (step_type T) l3 0 u)) (ap only (L.s_tells r _ is)) refl $

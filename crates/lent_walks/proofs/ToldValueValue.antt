@@ -5,8 +5,8 @@ use mathlib.Core.Path.{refl, sym, subst, ap}
 use Prim.Native.Nat.{ℕ}
 use mathlib.Core.List.{[], ◌∷◌, List}
 use seplogic.Ra.Ura.{Ura}
-use seplogic.Ra.TreeShare.{full_share}
-use mir.Syntax.{Name, Fn, seq, assign, call, return, local, value_local, named, mut, ty_ref, place, deref, field, copy, rv_opd}
+use base.Fraction.{full_share}
+use mir.Syntax.{Callee as Name, Fn, seq, assign, call, return, local, value_local, named, mut, ty_ref, place, deref, field, copy, rv_opd}
 use mir.Val.{Val, vptr}
 use base.Logic.{SProp, ent, sep, emp, via, fst∗, id⊢}
 use base.Fml.{GName, Lft, Share, ftrue, fat, flft, fobs, fbor}
@@ -22,7 +22,7 @@ use denote.RattleType.{owns}
 use denote.Laws.{Is, shows}
 use denote.Memory.{mem}
 use denote.Builtin.{RefMutOf}
-use denote.Ref.{MutBor, MutRef, mut_vals, mut_Tells}
+use denote.Ref.{MutBor, MutRef, mut_Tells, mut_vals}
 use denote.Signature.{plain}
 use denote.Steps.{only, opens, closes, owned, peeks, heard, nothing}
 use denote.Struct.Steps.{spelt}
@@ -41,6 +41,8 @@ module _ (T : Types) (L : Laws T) (P1 : One) (p1 : Plain P1) (P2 : One) (p2 : Pl
   function = record {
     lifetimes = 1;
     outlives = [];
+    ty_params = [];
+    givens = 0;
     params = 3;
     locals = local T.answer.ty value_local ∷ local (ty_ref (named 0) mut T.exec.written.ty) value_local ∷ local P1.ty value_local ∷ local P2.ty value_local ∷ local (step_type T) value_local ∷ local Q.ty value_local ∷ local T.exec.ty value_local ∷ [];
     body = seq (assign (place 6 []) (rv_opd (copy (place 1 (deref T.exec.ty ∷ []))))) (seq (call callee (copy (place 6 []) ∷ copy (place 2 []) ∷ copy (place 3 []) ∷ []) (place 5 [])) (seq (call teller (copy (place 5 []) ∷ []) (place 4 [])) (seq (assign (place 1 (deref T.exec.ty ∷ [])) (rv_opd (copy (place 4 (field 0 ∷ []))))) (seq (assign (place 0 []) (rv_opd (copy (place 4 (field 1 ∷ []))))) return))));
@@ -69,7 +71,7 @@ module _ (T : Types) (L : Laws T) (P1 : One) (p1 : Plain P1) (P2 : One) (p2 : Pl
   }
 
   abbrev pub self_clauses : {M : Type 1} (𝓤 : Ura M) → Clauses 𝓤 self
-  self_clauses 𝓤 κs a = record { ghost = Unit {0}; requires = λ _. emp 𝓤; ensures = λ _ r end. fact 𝓤 (J a.0.now a.1.0 a.1.1.0 (L.step_of_lem end.0.now r)) }
+  self_clauses 𝓤 κs a = record { ghost = Unit {0}; requires = λ _. emp 𝓤; ensures = λ _ r end. fact 𝓤 (J a.0.now a.1.0 a.1.1.0 (L.step_of end.0.now r)) }
 
   -- what is had of each parameter at exit: the record is still lent, a `&mut [T]` was given to the callee, and nothing is needed of
   -- the others
@@ -128,8 +130,8 @@ module _ (T : Types) (L : Laws T) (P1 : One) (p1 : Plain P1) (P2 : One) (p2 : Pl
     abbrev on : Q.Value → Val → (Teller 𝓛).Ghost
     on p w = ((tt, tt, tt, (p, tt), (w ∷ [], tt)), tt)
 
-    goes_on : (p : Q.Value) (w : Val) → ent 𝓤 (sem 𝓛 ((row Q).own p (w ∷ []))) ((Teller 𝓛).pre (on p w))
-    goes_on p w = qed 𝓛 (‵ ((row Q).own p (w ∷ [])) ∷ []) ∵ nothing ! $ move ! (1 ∷ 0 ∷ []) $ fjoin ! $ nothing ! $ join ! $ nothing ! $ move ! (1 ∷ 0 ∷ []) $ join ! $ done !
+    goes_on : (p : Q.Value) (w : Val) → ent 𝓤 (sem 𝓛 ((row Q).own_val p (w ∷ []))) ((Teller 𝓛).pre (on p w))
+    goes_on p w = qed 𝓛 (‵ ((row Q).own_val p (w ∷ [])) ∷ []) ∵ nothing ! $ move ! (1 ∷ 0 ∷ []) $ fjoin ! $ nothing ! $ join ! $ nothing ! $ move ! (1 ∷ 0 ∷ []) $ join ! $ done !
 
     module _ (C : Calls 𝓤 H) (Λ : Loops 𝓤 H) (fm : FmC 𝓤 H 𝓛.laws C) (known : Triple 𝓤 (C callee) (Callee 𝓛)) (tells : Triple 𝓤 (C teller) (Teller 𝓛)) where
       walk : ent 𝓤 (on_entry 𝓛 self.signature (κ, tt) (q, tt) x at) (WpFn 𝓤 H C Λ function (vptr b o ∷ p1.val v1 ∷ p2.val v2 ∷ []) Post)
@@ -145,7 +147,7 @@ module _ (T : Types) (L : Laws T) (P1 : One) (p1 : Plain P1) (P2 : One) (p2 : Pl
           assigns ! (of_opd ! (load ! (from ! (hop ! (look ! 15 refl) (stop !))) (look_raw ! 0 refl))) (from ! (stop !)) (init ! 5 refl ((L.x_lawful 𝓛).typed h _ was).0) $
           move ! (19 ∷ 20 ∷ []) $ use2 𝓛 (raw ((Callee 𝓛).pre to)) (goes_in was) $
           calls_at ! fm (Callee 𝓛) known to (and_then ! (load ! (from ! (stop !)) (look ! 6 refl)) (and_then ! (load ! (from ! (stop !)) (look ! 14 refl)) (and_then ! (load ! (from ! (stop !)) (look ! 12 refl)) (no_more !)))) (λ w.
-          use1 𝓛 (later (some (λ (r : Q.Value). (‵ ftrue ⊛ ‵ ((row Q).own r (w ∷ []))) ⊛ raw (ensured 𝓛 called (called_clauses 𝓤) tt (h, (v1, (v2, tt))) tt r)))) (id⊢ 𝓤 _) $ await ! tt $ pick ! (λ p.
+          use1 𝓛 (later (some (λ (r : Q.Value). (‵ ftrue ⊛ ‵ ((row Q).own_val r (w ∷ []))) ⊛ raw (ensured 𝓛 called (called_clauses 𝓤) tt (h, (v1, (v2, tt))) tt r)))) (id⊢ 𝓤 _) $ await ! tt $ pick ! (λ p.
           split ! $ move ! (1 ∷ []) $ use1 𝓛 (some (λ (zs : Last). ‵ (lasts called tt (h, (v1, (v2, tt))) zs) ⊛ raw (fact 𝓤 (Known p zs)))) (id⊢ 𝓤 _) $ pick ! (λ zs. split ! $ move ! (1 ∷ []) $ heard ! (Known p zs) (λ e.
           -- each parameter's last value is taken off
           fsplit ! $ drop ! $ fsplit ! $ drop ! $ fsplit ! $ drop ! $ drop ! $ move ! (0 ∷ []) $ split ! $ move ! (1 ∷ []) $
@@ -153,7 +155,7 @@ module _ (T : Types) (L : Laws T) (P1 : One) (p1 : Plain P1) (P2 : One) (p2 : Pl
           land ! (from ! (stop !)) (init ! 9 refl ((handed.lawful 𝓛).typed p _ isp).0) $
           use1 𝓛 (raw ((Teller 𝓛).pre (on p w))) (goes_on p w) $
           calls_at ! fm (Teller 𝓛) tells (on p w) (and_then ! (load ! (from ! (stop !)) (look ! 9 refl)) (no_more !)) (λ w.
-          use1 𝓛 (later (some (λ (r : T.Step). (‵ ftrue ⊛ ‵ ((S T).own r (w ∷ []))) ⊛ raw (ensured 𝓛 telling (telling_clauses 𝓤) tt (p, tt) tt r)))) (id⊢ 𝓤 _) $ await ! tt $ pick ! (λ r.
+          use1 𝓛 (later (some (λ (r : T.Step). (‵ ftrue ⊛ ‵ ((S T).own_val r (w ∷ []))) ⊛ raw (ensured 𝓛 telling (telling_clauses 𝓤) tt (p, tt) tt r)))) (id⊢ 𝓤 _) $ await ! tt $ pick ! (λ r.
           split ! $ move ! (1 ∷ []) $ use1 𝓛 (some (λ (ys : Unit {0} × Unit {0}). ‵ (lasts telling tt (p, tt) ys) ⊛ raw (fact 𝓤 (I p r)))) (id⊢ 𝓤 _) $ pick ! (λ ys. split ! $ move ! (1 ∷ []) $ heard ! (I p r) (λ told.
           fsplit ! $ drop ! $ drop ! $ split ! $ drop ! $
           peeks ! (S T) (Is (S T)) (shows 𝓛 (S T)) r (w ∷ []) (λ is.

@@ -6,25 +6,27 @@ use Prim.Native.Nat.{ℕ}
 use mathlib.Core.List.{[], ◌∷◌, List}
 use lib.ListN.{length}
 use seplogic.Ra.Ura.{Ura}
-use seplogic.Ra.TreeShare.{full_share}
-use mir.Syntax.{Name, Fn, seq, assign, call, return, local, value_local, named, erased, mut, imm, ty_int, ty_ref, w16, place, deref, field, copy, rv_opd, addr_of, aggregate}
+use base.Fraction.{full_share}
+use mir.Syntax.{Callee as Name, Fn, seq, assign, call, return, local, value_local, named, erased, mut, imm, ty_int, ty_ref, w16, place, deref, field, copy, rv_opd, addr_of, aggregate}
 use mir.Val.{Val, vptr}
 use base.Logic.{SProp, ent, sep, emp, via, fst∗, id⊢}
-use base.Fml.{GName, Lft, Share, ftrue, fat, flft, fobs, fbor}
+use base.Fml.{GName, Lft, Share, ftrue, fat, flft, fobs, fbor, fsep}
 use prog.Wp.{Calls, Loops, WpFn, Tables}
 use types.Logic.{Logic, sem}
 use contract.Monad.{fact}
 use types.Kit.{‵, raw, some, later, ◌⊛◌, ⋆, ◌$◌, ◌∵◌, !, qed, by, move, keep, drop, use1, use2, split, join, pick, rewrite, fsplit, fsplit3, fjoin, fjoin3, feq_l, feq_i, suffices, frame, await, done}
 use types.Run.{look, look_raw, init, store_raw, forget, stop, hop, fld, from, load, addr, of_opd, and_then, no_more, assigns, land, returns, enter, alloc1, alloc0, params1, pass1, pass0, free1, free0}
 use types.Part.{agg, whole, sub, look_in}
-use types.SemTy.{Body as LentBody}
+use types.SemTy.{Body as LentBody, Arr}
+use types.Hole.{Holey}
 use sound.WpLaws.{FmC, fm_of, WpFn-mono}
 use denote.RattleType.{owns}
 use denote.Laws.{Is, shows}
 use denote.Memory.{mem}
 use denote.Builtin.{u16, RefMutOf, SliceRefOf, SliceRefMutOf}
-use denote.Ref.{MutBor, MutRef, shr_vals, mut_Tells}
-use denote.Slice.{slice_ty, slice_val, shr_slice_vals, Room, MutSlice, finally, mut_slice_Tells, ShrSlice, shr_slice_Tells}
+use denote.Bor.{Bor}
+use denote.Ref.{MutBor, MutRef, mut_Tells, mut_vals}
+use denote.Slice.{slice_ty, slice_val, Room, MutSlice, finally, mut_slice_Tells, ShrSlice, shr_slice_Tells, mut_slice_vals, shr_slice_vals}
 use denote.Signature.{plain, shr_slice_of}
 use denote.Steps.{only, opens, closes, owned, peeks, heard, nothing}
 use denote.Struct.Steps.{spelt}
@@ -43,6 +45,8 @@ module _ (T : Types) (L : Laws T) (P1 : One) (p1 : Plain P1) (callee : Name) (K 
   function = record {
     lifetimes = 3;
     outlives = [];
+    ty_params = [];
+    givens = 0;
     params = 4;
     locals = local T.answer.ty value_local ∷ local (ty_ref (named 0) mut T.exec.written.ty) value_local ∷ local P1.ty value_local ∷ local (slice_ty (ty_ref (named 1) mut (ty_int w16))) value_local ∷ local (slice_ty (ty_ref (named 2) imm (ty_int w16))) value_local ∷ local (step_type T) value_local ∷ local T.exec.ty value_local ∷ local (ty_ref erased mut (ty_int w16)) value_local ∷ local (slice_ty (ty_ref erased mut (ty_int w16))) value_local ∷ [];
     body = seq (assign (place 6 []) (rv_opd (copy (place 1 (deref T.exec.ty ∷ []))))) (seq (assign (place 7 []) (addr_of (place 3 (field 0 ∷ deref (ty_int w16) ∷ [])))) (seq (assign (place 8 []) (aggregate (copy (place 7 []) ∷ copy (place 3 (field 1 ∷ [])) ∷ []))) (seq (call callee (copy (place 6 []) ∷ copy (place 2 []) ∷ copy (place 8 []) ∷ copy (place 4 []) ∷ []) (place 5 [])) (seq (assign (place 1 (deref T.exec.ty ∷ [])) (rv_opd (copy (place 5 (field 0 ∷ []))))) (seq (assign (place 0 []) (rv_opd (copy (place 5 (field 1 ∷ []))))) return)))));
@@ -65,7 +69,7 @@ module _ (T : Types) (L : Laws T) (P1 : One) (p1 : Plain P1) (callee : Name) (K 
   }
 
   abbrev pub self_clauses : {M : Type 1} (𝓤 : Ura M) → Clauses 𝓤 self
-  self_clauses 𝓤 κs a = record { ghost = Unit {0}; requires = λ _. emp 𝓤; ensures = λ _ r end. fact 𝓤 (K a.0.now a.1.0 a.1.1.0.now a.1.1.1.0.now (L.step_of_lem end.0.now r) end.1.1.0.now) }
+  self_clauses 𝓤 κs a = record { ghost = Unit {0}; requires = λ _. emp 𝓤; ensures = λ _ r end. fact 𝓤 (K a.0.now a.1.0 a.1.1.0.now a.1.1.1.0.now (L.step_of end.0.now r) end.1.1.0.now) }
 
   -- what is had of each parameter at exit: the record is still lent, a `&mut [T]` was given to the callee, and nothing is needed of
   -- the others
@@ -75,14 +79,14 @@ module _ (T : Types) (L : Laws T) (P1 : One) (p1 : Plain P1) (callee : Name) (K 
   abbrev pub Callee : {M : Type 1} {𝓤 : Ura M} (𝓛 : Logic 𝓤) → Contract 𝓤
   Callee {𝓤 = 𝓤} 𝓛 = triple_of 𝓛 called.signature (closing 𝓛 called (called_clauses 𝓤))
 
-  module _ {M : Type 1} {𝓤 : Ura M} (𝓛 : Logic 𝓤) (κ : Lft) (q : Share) (b o : ℕ) (γ : GName) (h : T.exec.Value) (v1 : P1.Value) (is1 : Is (row P1) v1 (p1.val v1 ∷ [])) (κ2 : Lft) (q2 : Share) (b2 o2 : ℕ) (γ2 : GName) (v2 : List ℕ) (room2 : Room u16 (length v2)) (κ3 : Lft) (q3 : Share) (b3 o3 : ℕ) (γ3 : GName) (v3 : List ℕ) (room3 : Room u16 (length v3)) where
+  module _ {M : Type 1} {𝓤 : Ura M} (𝓛 : Logic 𝓤) (κ : Lft) (q : Share) (b o : ℕ) (γ : GName) (h : T.exec.Value) (v1 : P1.Value) (is1 : Is (row P1) v1 (p1.val v1 ∷ [])) (κ2 : Lft) (q2 : Share) (b2 o2 : ℕ) (γ2 : GName) (v2 : List ℕ) (room2 : Room u16 (length v2)) (κ3 : Lft) (q3 : Share) (b3 o3 : ℕ) (v3 : List ℕ) (room3 : Room u16 (length v3)) where
     open 𝓛 use {H, A}
 
     abbrev Arg : Type 0
-    Arg = MutBor T.exec.Value × (P1.Value × (MutBor (List ℕ) × (MutBor (List ℕ) × Unit {0})))
+    Arg = MutBor T.exec.Value × (P1.Value × (MutBor (List ℕ) × (Bor (List ℕ) × Unit {0})))
 
     abbrev x : Arg
-    x = (record { ref_ptr = (b, o); ghost_name = γ; now = h }, (v1, (record { ref_ptr = (b2, o2); ghost_name = γ2; now = v2 }, (record { ref_ptr = (b3, o3); ghost_name = γ3; now = v3 }, tt))))
+    x = (record { ref_ptr = (b, o); ghost_name = γ; now = h }, (v1, (record { ref_ptr = (b2, o2); ghost_name = γ2; now = v2 }, (record { ref_ptr = (b3, o3); now = v3 }, tt))))
 
     abbrev Vals : Type 0
     Vals = List Val × (List Val × (List Val × (List Val × Unit {0})))
@@ -100,9 +104,9 @@ module _ (T : Types) (L : Laws T) (P1 : One) (p1 : Plain P1) (callee : Name) (K 
     abbrev Known : T.Step → Last → Type 0
     Known r zs = K (h) (v1) (v2) (v3) r zs.1.1.0
 
-    exits : (r : T.Step) (zs : Last) → Is (N T) (L.answer_of_step r) (L.nval (L.answer_of_step r) ∷ []) → Known r zs → (same2 : length zs.1.1.0 ≡ length v2) → ent 𝓤 (⋆ 𝓛 (‵ (fobs γ ((X T).coded.code (L.exec_of r))) ∷ ‵ (fbor κ (LentBody (mem (X T)) b o γ)) ∷ ‵ (flft κ q) ∷ (‵ (flft κ2 q2) ⊛ ‵ (flft κ3 q3) ⊛ ‵ ftrue) ∷ ‵ (finally u16 γ2 zs.1.1.0) ∷ [])) (Post (L.nval (L.answer_of_step r)))
+    exits : (r : T.Step) (zs : Last) → Is (N T) (L.answer_of_step r) (L.nval (L.answer_of_step r) ∷ []) → Known r zs → (same2 : length zs.1.1.0 ≡ length v2) → ent 𝓤 (⋆ 𝓛 (‵ (fobs γ ((X T).coded.code (L.exec_of r))) ∷ ‵ (fbor κ (LentBody (mem (X T)) b o γ)) ∷ ‵ (flft κ q) ∷ (‵ (flft κ2 q2) ⊛ ‵ (flft κ3 q3) ⊛ ‵ ftrue) ∷ ‵ (fsep (finally u16 γ2 zs.1.1.0) (fbor κ2 (LentBody (Arr (Holey (mem u16)) (length v2)) b2 o2 γ2))) ∷ [])) (Post (L.nval (L.answer_of_step r)))
     exits r zs is e same2 =
-        qed 𝓛 (‵ (fobs γ ((X T).coded.code (L.exec_of r))) ∷ ‵ (fbor κ (LentBody (mem (X T)) b o γ)) ∷ ‵ (flft κ q) ∷ (‵ (flft κ2 q2) ⊛ ‵ (flft κ3 q3) ⊛ ‵ ftrue) ∷ ‵ (finally u16 γ2 zs.1.1.0) ∷ []) ∵
+        qed 𝓛 (‵ (fobs γ ((X T).coded.code (L.exec_of r))) ∷ ‵ (fbor κ (LentBody (mem (X T)) b o γ)) ∷ ‵ (flft κ q) ∷ (‵ (flft κ2 q2) ⊛ ‵ (flft κ3 q3) ⊛ ‵ ftrue) ∷ ‵ (fsep (finally u16 γ2 zs.1.1.0) (fbor κ2 (LentBody (Arr (Holey (mem u16)) (length v2)) b2 o2 γ2))) ∷ []) ∵
         suffices ! _ (ends_at 𝓛 self stayed (self_clauses 𝓤) (((κ, (κ2, (κ3, tt))), (q, (q2, (q3, tt))), tt, x, at), tt) (L.nval (L.answer_of_step r)) (L.answer_of_step r) (L.exec_of r, (tt, (zs.1.1.0, (tt, tt)))) (tt, (tt, (same2, (tt, tt))))) $
         says ! (subst (λ (s : T.Step). Known s zs) (sym (L.rebuilt r)) e) $ move ! (2 ∷ 3 ∷ []) $ join ! $ frame ! $ feq_i ! (List Val) (vptr b o ∷ []) (vptr b o ∷ []) refl $ fjoin3 ! $ nothing ! $
         nothing ! $ fjoin ! $ move ! (2 ∷ 0 ∷ []) $ fjoin ! $ nothing ! $ fjoin ! $ move ! (1 ∷ 0 ∷ []) $ fjoin ! $ frame ! $
@@ -110,7 +114,7 @@ module _ (T : Types) (L : Laws T) (P1 : One) (p1 : Plain P1) (callee : Name) (K 
 
     -- what the callee's triple binds outside, and its `pre`: the others' tokens and what the others own go to it as they stand
     abbrev to : (Callee 𝓛).Ghost
-    to = (((κ2, (κ3, tt)), (q2, (q3, tt)), tt, (h, (v1, (record { ref_ptr = (b2, o2); ghost_name = γ2; now = v2 }, (record { ref_ptr = (b3, o3); ghost_name = γ3; now = v3 }, tt)))), (L.xval h ∷ [], (p1.val v1 ∷ [], (slice_val (b2, o2) (length v2) ∷ [], (slice_val (b3, o3) (length v3) ∷ [], tt))))), tt)
+    to = (((κ2, (κ3, tt)), (q2, (q3, tt)), tt, (h, (v1, (record { ref_ptr = (b2, o2); ghost_name = γ2; now = v2 }, (record { ref_ptr = (b3, o3); now = v3 }, tt)))), (L.xval h ∷ [], (p1.val v1 ∷ [], (slice_val (b2, o2) (length v2) ∷ [], (slice_val (b3, o3) (length v3) ∷ [], tt))))), tt)
 
     goes_in : Is (X T) h (L.xval h ∷ []) → ent 𝓤 (sep 𝓤 (sem 𝓛 (owns (row P1 ∷ MutSlice (named 1) κ2 u16 ∷ ShrSlice (named 2) κ3 u16 ∷ []) x.1 at.1)) (sep 𝓤 (A.lft κ2 q2) (sep 𝓤 (A.lft κ3 q3) (sem 𝓛 ftrue)))) ((Callee 𝓛).pre to)
     goes_in is = qed 𝓛 (‵ (owns (row P1 ∷ MutSlice (named 1) κ2 u16 ∷ ShrSlice (named 2) κ3 u16 ∷ []) x.1 at.1) ∷ (‵ (flft κ2 q2) ⊛ ‵ (flft κ3 q3) ⊛ ‵ ftrue) ∷ []) ∵ owned ! (X T) (Is (X T)) (L.x_makes 𝓛) h _ is $ fjoin ! $ move ! (1 ∷ 0 ∷ []) $ join ! $ frame ! $ done !
@@ -131,10 +135,10 @@ module _ (T : Types) (L : Laws T) (P1 : One) (p1 : Plain P1) (callee : Name) (K 
           assigns ! (agg ! (and_then ! (load ! (from ! (stop !)) (look ! 7 refl)) (and_then ! (load ! (from ! (fld ! refl (stop !))) (look_in ! 15 (sub ! 1 refl (whole !)))) (no_more !)))) (from ! (stop !)) (init ! 5 refl (tt, (tt, (record { fits = room2.0 }, tt)))) $
           move ! (23 ∷ 24 ∷ []) $ use2 𝓛 (raw ((Callee 𝓛).pre to)) (goes_in was) $
           calls_at ! fm (Callee 𝓛) known to (and_then ! (load ! (from ! (stop !)) (look ! 10 refl)) (and_then ! (load ! (from ! (stop !)) (look ! 18 refl)) (and_then ! (load ! (from ! (stop !)) (look ! 6 refl)) (and_then ! (load ! (from ! (stop !)) (look ! 14 refl)) (no_more !))))) (λ w.
-          use1 𝓛 (later (some (λ (r : T.Step). ((‵ (flft κ2 q2) ⊛ ‵ (flft κ3 q3) ⊛ ‵ ftrue) ⊛ ‵ ((S T).own r (w ∷ []))) ⊛ raw (ensured 𝓛 called (called_clauses 𝓤) (κ2, (κ3, tt)) (h, (v1, (record { ref_ptr = (b2, o2); ghost_name = γ2; now = v2 }, (record { ref_ptr = (b3, o3); ghost_name = γ3; now = v3 }, tt)))) tt r)))) (id⊢ 𝓤 _) $ await ! tt $ pick ! (λ r.
-          split ! $ move ! (1 ∷ []) $ use1 𝓛 (some (λ (zs : Last). ‵ (lasts called (κ2, (κ3, tt)) (h, (v1, (record { ref_ptr = (b2, o2); ghost_name = γ2; now = v2 }, (record { ref_ptr = (b3, o3); ghost_name = γ3; now = v3 }, tt)))) zs) ⊛ raw (fact 𝓤 (Known r zs)))) (id⊢ 𝓤 _) $ pick ! (λ zs. split ! $ move ! (1 ∷ []) $ heard ! (Known r zs) (λ e.
+          use1 𝓛 (later (some (λ (r : T.Step). ((‵ (flft κ2 q2) ⊛ ‵ (flft κ3 q3) ⊛ ‵ ftrue) ⊛ ‵ ((S T).own_val r (w ∷ []))) ⊛ raw (ensured 𝓛 called (called_clauses 𝓤) (κ2, (κ3, tt)) (h, (v1, (record { ref_ptr = (b2, o2); ghost_name = γ2; now = v2 }, (record { ref_ptr = (b3, o3); now = v3 }, tt)))) tt r)))) (id⊢ 𝓤 _) $ await ! tt $ pick ! (λ r.
+          split ! $ move ! (1 ∷ []) $ use1 𝓛 (some (λ (zs : Last). ‵ (lasts called (κ2, (κ3, tt)) (h, (v1, (record { ref_ptr = (b2, o2); ghost_name = γ2; now = v2 }, (record { ref_ptr = (b3, o3); now = v3 }, tt)))) zs) ⊛ raw (fact 𝓤 (Known r zs)))) (id⊢ 𝓤 _) $ pick ! (λ zs. split ! $ move ! (1 ∷ []) $ heard ! (Known r zs) (λ e.
           -- each parameter's last value is taken off
-          fsplit ! $ drop ! $ fsplit ! $ drop ! $ fsplit ! $ fsplit ! $ move ! (1 ∷ []) $ feq_l ! (λ same2. move ! (1 ∷ []) $ fsplit ! $ drop ! $ drop ! $ move ! (1 ∷ []) $ split ! $ move ! (1 ∷ []) $
+          fsplit ! $ drop ! $ fsplit ! $ drop ! $ fsplit ! $ fsplit ! $ fsplit ! $ move ! (1 ∷ []) $ feq_l ! (λ same2. fjoin ! $ move ! (1 ∷ []) $ fsplit ! $ drop ! $ drop ! $ move ! (1 ∷ []) $ split ! $ move ! (1 ∷ []) $
           peeks ! (S T) (Is (S T)) (shows 𝓛 (S T)) r (w ∷ []) (λ is.
           -- [what the step owns; the others' tokens; the slices' last lists, the last first; the record's cell; what it owns; the open borrow; obs; auth; the locals]
           land ! (from ! (stop !)) (init ! 14 refl ((L.s_lawful 𝓛).typed r _ is).0) $ rewrite ! 14 (λ (u : Val). ‵ (fat full_share (step_type T) l5 0 u)) (ap only (L.s_tells r _ is)) refl $
@@ -150,9 +154,9 @@ module _ (T : Types) (L : Laws T) (P1 : One) (p1 : Plain P1) (callee : Name) (K 
     open 𝓛 use {H}
 
     walks : (C : Calls 𝓤 H) (Λ : Loops 𝓤 H) → FmC 𝓤 H 𝓛.laws C → Triple 𝓤 (C callee) (Callee 𝓛) → Walks 𝓛 self stayed (WpFn 𝓤 H C Λ function) (self_clauses 𝓤)
-    walks C Λ fm known = walked 𝓛 self stayed (self_clauses 𝓤) (WpFn 𝓤 H C Λ function) (λ κs. (shr_vals, ((λ y. p1.val y ∷ []), (shr_slice_vals, (shr_slice_vals, tt)))))
+    walks C Λ fm known = walked 𝓛 self stayed (self_clauses 𝓤) (WpFn 𝓤 H C Λ function) (λ κs. (mut_vals, ((λ y. p1.val y ∷ []), (mut_slice_vals, (shr_slice_vals, tt)))))
         (λ κs. (mut_Tells (named 0) κs.0 (X T), (p1.tells, (mut_slice_Tells (named 1) κs.1.0 u16, (shr_slice_Tells (named 2) κs.1.1.0 u16, tt)))))
-        (λ κs qs bounds a g are. via 𝓤 _ (fst∗ 𝓤 _ (emp 𝓤)) (walk 𝓛 κs.0 qs.0 a.0.ref_ptr.0 a.0.ref_ptr.1 a.0.ghost_name a.0.now a.1.0 are.1.0 κs.1.0 qs.1.0 a.1.1.0.ref_ptr.0 a.1.1.0.ref_ptr.1 a.1.1.0.ghost_name a.1.1.0.now are.1.1.0.0.1 κs.1.1.0 qs.1.1.0 a.1.1.1.0.ref_ptr.0 a.1.1.1.0.ref_ptr.1 a.1.1.1.0.ghost_name a.1.1.1.0.now are.1.1.1.0.0.1 C Λ fm known))
+        (λ κs qs bounds a g are. via 𝓤 _ (fst∗ 𝓤 _ (emp 𝓤)) (walk 𝓛 κs.0 qs.0 a.0.ref_ptr.0 a.0.ref_ptr.1 a.0.ghost_name a.0.now a.1.0 are.1.0 κs.1.0 qs.1.0 a.1.1.0.ref_ptr.0 a.1.1.0.ref_ptr.1 a.1.1.0.ghost_name a.1.1.0.now are.1.1.0.0.1 κs.1.1.0 qs.1.1.0 a.1.1.1.0.ref_ptr.0 a.1.1.1.0.ref_ptr.1 a.1.1.1.0.now are.1.1.1.0.0.1 C Λ fm known))
 
     goes : AllGo 𝓛 3 self.signature.params self.kept stayed
     goes = (Goes-ref 𝓛 3 0 tt (plain (λ _. X T)), (Goes-dropped 𝓛 3 (plain (λ κs. row P1)) yes (λ κs x f. refl), (Goes-gave_slice 𝓛 3 1 tt (plain (λ _. u16)), (Goes-dropped 𝓛 3 (shr_slice_of (2 ∷ []) tt (plain (λ _. u16))) yes (λ κs x f. refl), tt))))

@@ -5,8 +5,8 @@ use mathlib.Core.Path.{refl, sym, subst, ap}
 use Prim.Native.Nat.{ℕ}
 use mathlib.Core.List.{[], ◌∷◌, List}
 use seplogic.Ra.Ura.{Ura}
-use seplogic.Ra.TreeShare.{full_share}
-use mir.Syntax.{Name, Fn, seq, assign, call, return, local, value_local, named, mut, ty_ref, place, deref, field, copy, rv_opd}
+use base.Fraction.{full_share}
+use mir.Syntax.{Callee as Name, Fn, seq, assign, call, return, local, value_local, named, mut, ty_ref, place, deref, field, copy, rv_opd}
 use mir.Val.{Val, vptr}
 use base.Logic.{SProp, ent, sep, emp, via, fst∗, id⊢}
 use base.Fml.{GName, Lft, Share, ftrue, fat, flft, fobs, fbor}
@@ -22,7 +22,7 @@ use denote.RattleType.{owns}
 use denote.Laws.{Is, shows}
 use denote.Memory.{mem}
 use denote.Builtin.{RefMutOf}
-use denote.Ref.{MutBor, MutRef, mut_vals, mut_Tells}
+use denote.Ref.{MutBor, MutRef, mut_Tells, mut_vals}
 use denote.Signature.{plain}
 use denote.Steps.{only, opens, closes, owned, peeks, heard, nothing}
 use denote.Struct.Steps.{spelt}
@@ -41,6 +41,8 @@ module _ (T : Types) (L : Laws T) (P1 : One) (p1 : Plain P1) (P2 : One) (p2 : Pl
   function = record {
     lifetimes = 1;
     outlives = [];
+    ty_params = [];
+    givens = 0;
     params = 3;
     locals = local T.answer.ty value_local ∷ local (ty_ref (named 0) mut T.exec.written.ty) value_local ∷ local P1.ty value_local ∷ local P2.ty value_local ∷ local (step_type T) value_local ∷ local T.exec.ty value_local ∷ [];
     body = seq (assign (place 5 []) (rv_opd (copy (place 1 (deref T.exec.ty ∷ []))))) (seq (call callee (copy (place 5 []) ∷ copy (place 2 []) ∷ copy (place 3 []) ∷ []) (place 4 [])) (seq (assign (place 1 (deref T.exec.ty ∷ [])) (rv_opd (copy (place 4 (field 0 ∷ []))))) (seq (assign (place 0 []) (rv_opd (copy (place 4 (field 1 ∷ []))))) return)));
@@ -63,7 +65,7 @@ module _ (T : Types) (L : Laws T) (P1 : One) (p1 : Plain P1) (P2 : One) (p2 : Pl
   }
 
   abbrev pub self_clauses : {M : Type 1} (𝓤 : Ura M) → Clauses 𝓤 self
-  self_clauses 𝓤 κs a = record { ghost = Unit {0}; requires = λ _. emp 𝓤; ensures = λ _ r end. fact 𝓤 (K a.0.now a.1.0 a.1.1.0 (L.step_of_lem end.0.now r)) }
+  self_clauses 𝓤 κs a = record { ghost = Unit {0}; requires = λ _. emp 𝓤; ensures = λ _ r end. fact 𝓤 (K a.0.now a.1.0 a.1.1.0 (L.step_of end.0.now r)) }
 
   -- what is had of each parameter at exit: the record is still lent, a `&mut [T]` was given to the callee, and nothing is needed of
   -- the others
@@ -127,7 +129,7 @@ module _ (T : Types) (L : Laws T) (P1 : One) (p1 : Plain P1) (P2 : One) (p2 : Pl
           assigns ! (of_opd ! (load ! (from ! (hop ! (look ! 13 refl) (stop !))) (look_raw ! 0 refl))) (from ! (stop !)) (init ! 5 refl ((L.x_lawful 𝓛).typed h _ was).0) $
           move ! (17 ∷ 18 ∷ []) $ use2 𝓛 (raw ((Callee 𝓛).pre to)) (goes_in was) $
           calls_at ! fm (Callee 𝓛) known to (and_then ! (load ! (from ! (stop !)) (look ! 6 refl)) (and_then ! (load ! (from ! (stop !)) (look ! 12 refl)) (and_then ! (load ! (from ! (stop !)) (look ! 10 refl)) (no_more !)))) (λ w.
-          use1 𝓛 (later (some (λ (r : T.Step). (‵ ftrue ⊛ ‵ ((S T).own r (w ∷ []))) ⊛ raw (ensured 𝓛 called (called_clauses 𝓤) tt (h, (v1, (v2, tt))) tt r)))) (id⊢ 𝓤 _) $ await ! tt $ pick ! (λ r.
+          use1 𝓛 (later (some (λ (r : T.Step). (‵ ftrue ⊛ ‵ ((S T).own_val r (w ∷ []))) ⊛ raw (ensured 𝓛 called (called_clauses 𝓤) tt (h, (v1, (v2, tt))) tt r)))) (id⊢ 𝓤 _) $ await ! tt $ pick ! (λ r.
           split ! $ move ! (1 ∷ []) $ use1 𝓛 (some (λ (zs : Last). ‵ (lasts called tt (h, (v1, (v2, tt))) zs) ⊛ raw (fact 𝓤 (Known r zs)))) (id⊢ 𝓤 _) $ pick ! (λ zs. split ! $ move ! (1 ∷ []) $ heard ! (Known r zs) (λ e.
           -- each parameter's last value is taken off
           fsplit ! $ drop ! $ fsplit ! $ drop ! $ fsplit ! $ drop ! $ drop ! $ move ! (0 ∷ []) $ split ! $ move ! (1 ∷ []) $

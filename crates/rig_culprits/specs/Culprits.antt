@@ -3,7 +3,7 @@ use Rattle.std.specs.Prelude.{ℕ, ◌+◌, Bool, cond, List, [], ◌∷◌, eqb
 use Rattle.text.specs.Split.{split, part}
 use Rattle.rig_lines.specs.Line.{line_of}
 use Rattle.rig_lines.specs.File.{lines_of}
-use Rattle.rig_meaning.specs.Reading.{read_of}
+use Rattle.rig_meaning.proofs.Reading.{read_of}
 use Rattle.rig_suspects.specs.Suspects.{lines_from, stray, shared, unused, task_missing}
 use Rattle.rig_culprits.specs.declared.Culprit.{Culprit}
 

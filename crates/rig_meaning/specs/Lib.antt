@@ -1,3 +1,1 @@
 pub mod Reads
-pub mod Reading
-pub mod Laws

@@ -24,8 +24,8 @@ use Rattle.rig_lines.specs.Kinds.{kind_rig, count_of, counts, timed, kind_of, pl
 use Rattle.rig_lines.specs.Line.{Line, decimals, shaped, fits, sized, placed, ordered, judge}
 use Rattle.rig_lines.specs.File.{Fault, fault, first_fault, fault_of, lines_in, lines_of}
 use Rattle.rig_lines.specs.Laws.Judged.{Faultless, judged_one, judged_two, judged_three, sound_judged, shaped_if, fits_small}
-use Rattle.rig_lines.specs.Laws.Order.{first_rig}
-use Rattle.rig_lines.specs.Laws.RoundTrip.{written, some_line}
+use Rattle.rig_lines.proofs.Laws.Order.{first_rig}
+use Rattle.rig_lines.proofs.Laws.RoundTrip.{written, some_line}
 use Rattle.rig_lines.specs.Laws.Turns.{said, fault_line, lines_line, lines_end, end_clean, end_empty, end_open, rest_turn, decimals_turn, decimals_bad, put_turn, put_at, timed_same, rank_same}
 use Rattle.rig_held.specs.Held.{held_line, held}
 use Rattle.rig_held.specs.Laws.Lines.{held_none, held_put, held_first, held_kind}

@@ -18,7 +18,7 @@ use Rattle.rig_lines.specs.Kinds.{count_of}
 use Rattle.rig_lines.specs.Line.{Line, placed, judge}
 use Rattle.rig_lines.specs.Whole.{number_of, is_kind, is_flag_line, how_many, tasks_of, flags_of, master_of, line_tests}
 use Rattle.rig_lines.specs.Laws.Judged.{Faultless, judged_sound, shaped_known}
-use Rattle.rig_lines.specs.Laws.Order.{first_rig}
+use Rattle.rig_lines.proofs.Laws.Order.{first_rig}
 use Rattle.rig_lines.specs.Laws.Whole.{many_snoc, line_rules}
 use Rattle.rig_fill.specs.OfLines.{zeros, stored, listed, task_table, condition_table, line_table, one, row_said, rig_from, flags_from, places, table_from}
 use Rattle.rig_fill.specs.Laws.Snoc.{stored_snoc, listed_snoc, places_length, places_at}

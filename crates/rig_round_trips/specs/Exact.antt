@@ -12,7 +12,7 @@ use Rattle.rig.specs.Rules.{Right}
 use Rattle.rig.specs.Forms.{table_of}
 use Rattle.rig_lines.specs.File.{Fault, fault_of}
 use Rattle.rig_lines.specs.Words.{NoneFaulty}
-use Rattle.rig_lines.specs.Laws.FirstFaulty.{none_faulty}
+use Rattle.rig_lines.proofs.Laws.FirstFaulty.{none_faulty}
 use Rattle.rig_build.specs.declared.Answer.{Answer}
 use Rattle.rig_build.specs.Read.{file_accepted, read_computed}
 use Rattle.rig_build.specs.Laws.Exactly.{Way, long, line, whole, right, way, whole_broken_lem, all_right, accepted_right, number_four}

@@ -19,7 +19,7 @@ use Rattle.rig_whole.specs.Laws.Whole.{broken_none}
 use Rattle.rig_lines.specs.Text.{text}
 use Rattle.rig_lines.specs.Laws.Judged.{Faultless}
 use Rattle.rig_lines.specs.File.{Fault, fault_of, lines_of}
-use Rattle.rig_lines.specs.Laws.RoundTrip.{read_lines}
+use Rattle.rig_lines.proofs.Laws.RoundTrip.{read_lines}
 use Rattle.rig_round_trips.specs.Built.{Built, numbers, nothing, build}
 use Rattle.rig_round_trips.specs.MarkTests.{marked_one, mark_tests}
 use Rattle.rig_round_trips.specs.Marked.{after_rig, marks_say}

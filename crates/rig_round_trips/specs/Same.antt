@@ -23,7 +23,7 @@ use Rattle.rig_lines.specs.Line.{Line, placed, judge}
 use Rattle.rig_lines.specs.Laws.Judged.{Faultless, judged_sound, shaped_known}
 use Rattle.rig_lines.specs.Text.{text}
 use Rattle.rig_lines.specs.File.{lines_of}
-use Rattle.rig_lines.specs.Laws.RoundTrip.{written, some_line}
+use Rattle.rig_lines.proofs.Laws.RoundTrip.{written, some_line}
 use Rattle.rig_round_trips.specs.Built.{Marks, Built, built, numbers, no_marks, no_table, nothing, under_one, above_after, with_above, with_task, with_condition, with_line, with_row, row_of, has_line, one_flag, put_flag, store, build}
 use Rattle.rig_build.specs.declared.Answer.{Answer}
 use Rattle.rig_fill.specs.OfLines.{zeros}
@@ -32,7 +32,7 @@ use Rattle.rig_round_trips.specs.Cases.{by_cases}
 use Rattle.rig_round_trips.specs.MarkTests.{marked_one, mark_tests}
 use Rattle.rig_round_trips.specs.Marked.{not_rig, tasks_most, begun, after_rig, marks_say}
 use Rattle.rig_lines.specs.Whole.{line_tests}
-use Rattle.rig_lines.specs.Laws.Order.{first_rig}
+use Rattle.rig_lines.proofs.Laws.Order.{first_rig}
 use Rattle.rig_fill.specs.OfLines.{rig_from, table_from}
 use Rattle.rig_build.specs.Read.{broken_rule, read_computed}
 use Rattle.rig_round_trips.specs.Bridge.{built_rig, built_table}

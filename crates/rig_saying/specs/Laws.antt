@@ -13,7 +13,7 @@ use Rattle.put_text.specs.Wrote.{Wrote}
 use Rattle.put_text.specs.Laws.Text.{short}
 use Rattle.put_text.specs.Laws.Wrote.{wrote_then, wrote_as, wrote_none, wrote_same}
 use Rattle.rig_build.specs.declared.Answer.{Answer}
-use Rattle.rig_meaning.specs.Reading.{read_of}
+use Rattle.rig_meaning.proofs.Reading.{read_of}
 use Rattle.rig_shapes.specs.Shape.{reason_of}
 use Rattle.rig_culprits.specs.declared.Culprit.{Culprit}
 use Rattle.rig_culprits.specs.Culprits.{culprit_of}

@@ -3,7 +3,7 @@
 use Rattle.std.specs.Prelude.{ℕ, zero, suc, ◌+◌, ◌≤◌, ◌<◌, ◌≡◌, ◌⊎◌, Bool, cond, List, [], ◌++◌, eqb, length, get_or, take}
 use Rattle.rig.specs.declared.Rig.{Rig}
 use Rattle.rig_build.specs.declared.Answer.{Answer}
-use Rattle.rig_meaning.specs.Reading.{read_of}
+use Rattle.rig_meaning.proofs.Reading.{read_of}
 use Rattle.text.specs.Split.{part}
 use Rattle.bench_script.specs.Input.{rig_end}
 use Rattle.put_text.specs.Wrote.{Wrote}

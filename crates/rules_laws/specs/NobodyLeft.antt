@@ -43,7 +43,7 @@ abbrev Left : Rig → ℕ → State → Type 0
 Left r x s = (u : ℕ) → u ≢ 0 → u ≢ x → state_of s u ≡ 1 → met r.present r.desired u s.conds ≡ false
 
 -- the states are of 64 tasks, and nobody but task x is left
-abbrev Calm : Rig → ℕ → State → Type 0
+abbrev pub Calm : Rig → ℕ → State → Type 0
 Calm r x s = (length s.states ≡ 65) × Left r x s
 
 -- ---- one service
@@ -131,7 +131,7 @@ tested_calm r ok t s c =
     go n u z i (yes q) = ap (λ (v : ℕ). met r.present r.desired v s.conds) q ∙ n (sym (ap (state_of s) q) ∙ i)
     go n u z i (no q) = c.1 u z q i
 
-settle_calm : (r : Rig) → RigOk r → (t : ℕ) (w : Work) → Calm r t w.now → Calm r 0 (again r t (serve r w)).now
+pub settle_calm : (r : Rig) → RigOk r → (t : ℕ) (w : Work) → Calm r t w.now → Calm r 0 (again r t (serve r w)).now
 unfolding again
 settle_calm r ok zero w c = serve_calm r ok 0 w c
 settle_calm r ok (suc t) w c =
@@ -147,7 +147,7 @@ module _ (r : Rig) (ok : RigOk r) (s : State) (c : Calm r 0 s) where
   sized : (t v : ℕ) → length (set s.states t v) ≡ 65
   sized t v = length-set s.states t v ∙ c.0
 
-  scheduled_calm : (t : ℕ) → Calm r 0 (scheduled r s t).now
+  pub scheduled_calm : (t : ℕ) → Calm r 0 (scheduled r s t).now
   unfolding scheduled
   scheduled_calm t =
       tested_calm r ok t _ (
@@ -180,7 +180,7 @@ module _ (r : Rig) (ok : RigOk r) (s : State) (c : Calm r 0 s) where
       stores_keep (λ i. is_marked marks (i + 1)) (λ i. i + 1) (λ i. 0) (λ m. (length m ≡ 65) × ((u : ℕ) → get_or m u 0 ≡ 1 → state_of s u ≡ 1)) 64
       (λ j m a e g. (length-set m (j + 1) 0 ∙ g.0, (λ u i. g.1 u (was_there m (j + 1) u 0 1 (λ q. omega arith) i)))) s.states (c.0, (λ u i. i))
 
-  effect_calm : (k : Call) → Calm r (ended s k) (effect r s k).now
+  pub effect_calm : (k : Call) → Calm r (ended s k) (effect r s k).now
   unfolding effect ended finished terminated cancelled
   effect_calm (schedule t) = scheduled_calm t
   effect_calm (cancel t) =
@@ -200,42 +200,3 @@ module _ (r : Rig) (ok : RigOk r) (s : State) (c : Calm r 0 s) where
   effect_calm next_waking = c
   effect_calm (read_overruns t) = c
   effect_calm (why_not t d) = c
-
-  -- EVERY CALL, accepted or refused, leaves nobody
-  step_calm : (k : Call) → Calm r 0 (step r s k).next
-  unfolding step after accepted settled dispatch
-  step_calm k = go (refusal r s k)
-    where
-      go : (n : ℕ) → Calm r 0 (after n r s k).next
-      go zero = settle_calm r ok (ended s k) (effect r s k) (effect_calm k)
-      go (suc n) = c
-
--- ---- runs
-
-module _ (r : Rig) (ok : RigOk r) where
-  blank_calm : Calm r 0 blank
-  unfolding blank
-  blank_calm = (length-replicate {A = ℕ} 65 0, (λ u z n i. absurd (omega (arith, i, zeros 65 u))))
-
-  start_calm : Calm r 0 (start r)
-  unfolding start started again dispatch
-  start_calm = settle_calm r ok 0 (scheduled r blank 1) (scheduled_calm r ok blank blank_calm 1)
-
-  run_calm : (ks : List Call) (s : State) → Calm r 0 s → Calm r 0 (run r s ks)
-  unfolding run
-  run_calm [] s c = c
-  run_calm (k ∷ ks) s c = run_calm ks (step r s k).next (step_calm r ok s c k)
-
-  -- the test says what the words say
-  desired_met : (t : ℕ) (conds : List ℕ) → AsDesired r t conds → met r.present r.desired t conds ≡ true
-  desired_met t conds d = (met_is r.present r.latched r.desired t conds).1 (λ p l. go p l (dec_eq (r.present (place_of t p)) 1))
-    where
-      go : (p : ℕ) → p < 16 → Dec (r.present (place_of t p) ≡ 1) → (r.present (place_of t p) ≢ 1) ⊎ (get_or conds (place_of t p) 0 ≡ r.desired (place_of t p))
-      go p l (yes e) = inr (d p l e)
-      go p l (no e) = inl e
-
-  -- THE THEOREM, after any run from an accepted start, refused calls among it
-  pub nobody_left : (ks : List Call) → ProperRun ks → NobodyLeft r (run r (start r) ks)
-  nobody_left ks p t i d =
-      let z : t ≢ 0 = λ q. omega (arith, ((always r ok ks p).tasks.within t (λ k. omega (arith, i, k))).0, q) in
-      true≢false (sym (desired_met t (run r (start r) ks).conds d) ∙ (run_calm ks (start r) start_calm).1 t z z i)

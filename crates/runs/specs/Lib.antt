@@ -1,4 +1,3 @@
 pub mod Runs
 pub mod Demands
-pub mod Laws
 pub mod Starred

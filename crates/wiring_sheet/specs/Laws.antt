@@ -9,8 +9,8 @@ use Rattle.compool.specs.Post.{RowsFit}
 use Rattle.put_text.specs.Wrote.{Wrote}
 use Rattle.put_text.specs.Laws.Wrote.{wrote_as, wrote_same, wrote_fits}
 use Rattle.rig_build.specs.declared.Answer.{Answer}
-use Rattle.rig_meaning.specs.Reading.{read_of}
-use Rattle.rig_meaning.specs.Laws.Read.{read_right, read_line}
+use Rattle.rig_meaning.proofs.Reading.{read_of}
+use Rattle.rig_meaning.proofs.Laws.Read.{read_right, read_line}
 use Rattle.bench_script.specs.Input.{rig_end}
 use Rattle.bench_script.specs.Laws.Input.{end_le}
 use Rattle.compool.specs.Laws.Rows.{rows_fit}

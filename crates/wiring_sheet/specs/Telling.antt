@@ -4,7 +4,7 @@ use Rattle.compool.specs.View.{rows_of}
 use Rattle.put_text.specs.Text.{ascii}
 use Rattle.put_text.specs.Wrote.{Wrote}
 use Rattle.rig_build.specs.declared.Answer.{Answer}
-use Rattle.rig_meaning.specs.Reading.{read_of}
+use Rattle.rig_meaning.proofs.Reading.{read_of}
 use Rattle.bench_script.specs.Input.{rig_end}
 use Rattle.wiring_lines.specs.Line.{refused_text, usage_text}
 use Rattle.wiring_text.specs.Sheet.{sheet_text, sheet_room}

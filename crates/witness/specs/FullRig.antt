@@ -5,9 +5,9 @@ use Rattle.std.proofs.Common.{arith, le-ltb, ne_eqb}
 use Rattle.std.proofs.lemmas.Bool.{lt-leb}
 use Rattle.rig.specs.Forms.{table_of}
 use Rattle.rig_build.specs.Read.{file_accepted}
-use Rattle.rig_meaning.specs.Reading.{read_of}
+use Rattle.rig_meaning.proofs.Reading.{read_of}
 use Rattle.rig_write.specs.File.{file_of}
-use Rattle.rig_meaning.specs.Laws.Read.{read_file}
+use Rattle.rig_meaning.proofs.Laws.Read.{read_file}
 use Rattle.rules_full.specs.Full.{full}
 use Rattle.exec_state.specs.View.{rig_of}
 use Rattle.witness.specs.RightRigs.{full_rig, full_right}

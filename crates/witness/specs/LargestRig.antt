@@ -14,9 +14,9 @@ use Rattle.rig.specs.declared.Cycle.{Cycle}
 use Rattle.rig.specs.declared.Rig.{Rig}
 use Rattle.rig.specs.declared.Row.{Row}
 use Rattle.rig_build.specs.Read.{file_accepted}
-use Rattle.rig_meaning.specs.Reading.{read_of}
+use Rattle.rig_meaning.proofs.Reading.{read_of}
 use Rattle.rig_write.specs.File.{file_of}
-use Rattle.rig_meaning.specs.Laws.Read.{read_file}
+use Rattle.rig_meaning.proofs.Laws.Read.{read_file}
 use Rattle.rules.specs.Rig as G
 use Rattle.rules.specs.Scripts.{B}
 use Rattle.exec_state.specs.View.{rig_of}
@@ -271,7 +271,3 @@ largest_right =
             fifteen = λ c h. ap (λ (y : Cycle). length y.flags) (cycle_is c h) ∙ table_length 15 (largest.minor c);
           };
     }
-
--- and its file is accepted: so 40,960 bytes are enough
-pub largest_read : read_of (file_of largest_rig (table_of (code_cycles largest))) ≡ file_accepted largest_rig (code_cycles largest)
-largest_read = read_file largest_rig (code_cycles largest) largest_right

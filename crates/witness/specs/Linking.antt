@@ -67,11 +67,11 @@ selves =
       none = λ k a. table_at 322 f k 0 (omega arith) ∙ rw (le-ltb 64 k a);
     }
 
-fresh_held : Held fresh_links (λ (c : ℕ). [])
+pub fresh_held : Held fresh_links (λ (c : ℕ). [])
 unfolding fresh_links
 fresh_held = selves_empty fresh_links.next fresh_links.prev selves selves
 
-fresh_sized : Sized fresh_links
+pub fresh_sized : Sized fresh_links
 unfolding fresh_links
 fresh_sized = record { next = selves.size; prev = selves.size; on = length-replicate {A = ℕ} 65 0 }
 
@@ -102,7 +102,7 @@ module _ (s : ℕ) (low : 64 < s) (high : s < 322) where
   joined_on l t u n = get_or-set_other l.on t u s 0 n
 
   -- a list of tasks, each idle and once
-  all_held : (ts : List ℕ) → Distinct ts → (l : Links) → Sized l
+  pub all_held : (ts : List ℕ) → Distinct ts → (l : Links) → Sized l
       → ((t : ℕ) → In t ts → (0 < t) × (t ≤ 64) × (at l.on t ≡ 0))
       → (X : ℕ → List ℕ) → Held l X
       → Held (joined_all l s ts) (upd X s (X s ++ ts)) × Sized (joined_all l s ts)
@@ -126,65 +126,3 @@ module _ (s : ℕ) (low : 64 < s) (high : s < 322) where
           upd_upd X s (X s ++ t ∷ []) (upd X s (X s ++ t ∷ []) s ++ ts)
           ∙ ap (λ (l : List ℕ). upd X s (l ++ ts)) (upd_same X s (X s ++ t ∷ []))
           ∙ ap (upd X s) (append_assoc (X s) (t ∷ []) ts)
-
--- ---- one chain after the other
-
--- the chains of anchors below n
-abbrev up_to : ℕ → (ℕ → List ℕ) → ℕ → List ℕ
-up_to n X c = cond (ltb c n) (X c) []
-
-module _ (X : ℕ → List ℕ) (w : Chainable X) where
-  empty : (c : ℕ) → ((65 ≤ c) × (c ≤ 321) → ⊥) → X c ≡ []
-  empty c n = go (X c) refl
-    where
-      go : (l : List ℕ) → X c ≡ l → X c ≡ []
-      go [] e = e
-      go (t ∷ ts) e = absurd (n (w.only t c (subst (In t) (sym e) (inl refl))))
-
-  none_below : (λ (c : ℕ). []) ≡ up_to 65 X
-  none_below =
-      fun_ext λ c.
-      by (ltb c 65) (λ e. rw e (sym (empty c (λ k. omega (arith, k.0, ltb-true c 65 e))))) (λ e. rw e)
-
-  all_below : up_to 322 X ≡ X
-  all_below =
-      fun_ext λ c.
-      by (ltb c 322) (λ e. rw e) (λ e. rw e (sym (empty c (λ k. omega (arith, k.1, ltb-false c 322 e)))))
-
-  one_more : (s : ℕ) → upd (up_to s X) s (up_to s X s ++ X s) ≡ up_to (suc s) X
-  one_more s =
-      fun_ext λ c.
-      by (eqb c s)
-      (λ e. let q : c ≡ s = eqb-true c s e in rw (q, eq-eqb s s refl, le-ltb s s (omega arith), lt-ltb s (suc s) (omega arith)))
-      (λ e.
-      let n = eqb-false c s e in
-      rw e (by (ltb c s)
-      (λ k. rw (k, lt-ltb c (suc s) (omega (arith, ltb-true c s k))))
-      (λ k. rw (k, le-ltb c (suc s) (omega (arith, n, ltb-false c s k))))))
-
-  -- the tasks of the next chain are in none of those before it
-  idle : (n : ℕ) (l : Links) → Held l (up_to (65 + n) X) → (t : ℕ) → In t (X (65 + n)) → at l.on t ≡ 0
-  idle n l h t i =
-      ⊎_elim (λ k. k.0) (λ k. absurd (clash (at l.on t) k.2)) (h.task t (w.tasks t (65 + n) i).1)
-    where
-      clash : (c : ℕ) → In t (up_to (65 + n) X c) → ⊥
-      clash c = by (ltb c (65 + n)) (λ e. rw e (λ j. omega (arith, w.apart t c (65 + n) j i, ltb-true c (65 + n) e))) (λ e. rw e (λ j. j))
-
-  up_to_held : (n : ℕ) → n ≤ 257 → Held (links_up_to n X) (up_to (65 + n) X) × Sized (links_up_to n X)
-  unfolding links_up_to
-  up_to_held zero b = (subst (Held fresh_links) none_below fresh_held, fresh_sized)
-  up_to_held (suc n) b =
-      let h = up_to_held n (omega arith) in
-      let r =
-      all_held (65 + n) (omega arith) (omega arith) (X (65 + n)) (w.once (65 + n)) (links_up_to n X) h.1
-      (λ t i. let k = w.tasks t (65 + n) i in (k.0, k.1, idle n (links_up_to n X) h.0 t i)) (up_to (65 + n) X) h.0 in
-      (subst (Held (links_up_to (suc n) X)) (one_more (65 + n) ∙ ap (λ (k : ℕ). up_to k X) (omega arith)) r.0, r.1)
-
-  pub linked : Held (links_of X) X × Sized (links_of X)
-  unfolding links_of
-  linked =
-      let h = up_to_held 257 (omega arith) in
-      (subst (Held (links_of X)) all_below h.0, h.1)
-
-  pub linked_read : chains_of (links_of X) ≡ X
-  linked_read = held_chains (links_of X) X linked.0 (λ c e. empty c (λ k. true≢false (sym (inside_is c k.0 (omega (arith, k.1))) ∙ e)))

@@ -1,3 +1,1 @@
 pub mod PackedCases
-pub mod Parity
-pub mod ParityCases

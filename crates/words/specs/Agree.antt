@@ -5,7 +5,7 @@ use Rattle.std.specs.Int.Count.{ones}
 use Rattle.laws.specs.Tables.{at, follows}
 use Rattle.laws.specs.Laws.Tables.{follows_at}
 use Rattle.word_parts.specs.Parity.{parity_bit}
-use Rattle.word_parts.specs.Laws.Parity.{parity_bytes}
+use Rattle.word_parts.proofs.Laws.Parity.{parity_bytes}
 
 -- "counting the word's ones"
 abbrev pub counted : ℕ → ℕ

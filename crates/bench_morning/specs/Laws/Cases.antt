@@ -6,7 +6,7 @@ use Rattle.decimal.specs.Decimal.{read_byte, read_on, dec_by, dec}
 use Rattle.rules.specs.Rig as G
 use Rattle.rules.specs.State as S
 use Rattle.rig_build.specs.declared.Answer.{Answer}
-use Rattle.rig_meaning.specs.Laws.Read.{read_empty}
+use Rattle.rig_meaning.proofs.Laws.Read.{read_empty}
 use Rattle.bench_script.specs.Letters.{lf, question}
 use Rattle.bench_script.specs.Script.{verb_of, alone, with_number, with_value, with_two, fields_say, said_of}
 use Rattle.bench_script.specs.Output.{fields_text, line_text}

@@ -6,7 +6,7 @@ use mathlib.Core.List.{List, [], ◌∷◌, ◌++◌, append-nil}
 use Rattle.std.proofs.Math.ListN.{take}
 use Rattle.std.proofs.Math.Seq.{take-length}
 use Rattle.laws.specs.Cases.{if_yes, if_no}
-use Rattle.rig_meaning.specs.Reading.{read_of}
+use Rattle.rig_meaning.proofs.Reading.{read_of}
 use Rattle.put_text.specs.Laws.Wrote.{wrote_as, wrote_none}
 use Rattle.bench_input.specs.Opening.{full, Opening, still, whole, with_byte, waits, opens, onward, scanned, Scans}
 use Rattle.bench_input.specs.declared.Kept.{Kept}

@@ -16,7 +16,7 @@ use Rattle.exec.specs.declared.Report.{Report}
 use Rattle.exec.specs.declared.Step.{Step}
 use Rattle.exec.specs.declared.Answer.TheVariants.{Accepted, Refused}
 use Rattle.rig_build.specs.declared.Answer.{Answer}
-use Rattle.rig_meaning.specs.Reading.{read_of}
+use Rattle.rig_meaning.proofs.Reading.{read_of}
 use Rattle.bench_script.specs.Letters.{start_name}
 use Rattle.bench_script.specs.Output.{line_text, start_room}
 use Rattle.put_text.specs.Wrote.{Wrote}
@@ -27,7 +27,7 @@ use Rattle.bench_morning.specs.Morning.{file_rig, start_columns, start_text}
 use Rattle.bench_morning.specs.Desk.{talking, over, desk_started}
 use Rattle.bench_morning.specs.Stream.{desk_of, HoldsIn, fresh, nothing_more}
 use Rattle.bench_morning.specs.Laws.Steps.{Begins}
-use Rattle.rig_meaning.specs.Laws.Read.{read_right, read_line}
+use Rattle.rig_meaning.proofs.Laws.Read.{read_right, read_line}
 use Rattle.bench_morning.specs.declared.Stream.{Stream}
 use Rattle.bench_morning.specs.declared.Phase.TheVariants.{Opening, Talking, Over}
 use Rattle.bench_morning.specs.declared.Started as Line

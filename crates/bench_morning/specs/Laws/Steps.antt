@@ -1,6 +1,6 @@
 -- WHAT THE OPENING OWES: the line START, and the bytes of the rig's text up to it.
 use Rattle.std.specs.Prelude.{ℕ, ◌≤◌, ◌<◌, ◌≡◌, Bool, List, [], length, take}
-use Rattle.rig_meaning.specs.Reading.{read_of}
+use Rattle.rig_meaning.proofs.Reading.{read_of}
 use Rattle.put_text.specs.Wrote.{Wrote}
 use Rattle.bench_morning.specs.Morning.{start_text}
 use Rattle.bench_morning.specs.Desk.{desk_started, desk_after, said}

@@ -16,8 +16,8 @@ use Rattle.rules.specs.State as S
 use Rattle.rules.specs.Calls as R
 use Rattle.rig_build.specs.declared.Answer.{Answer}
 use Rattle.rig_build.specs.Read.{file_refused}
-use Rattle.rig_meaning.specs.Reading.{read_of}
-use Rattle.rig_meaning.specs.Laws.Read.{read_too_long}
+use Rattle.rig_meaning.proofs.Reading.{read_of}
+use Rattle.rig_meaning.proofs.Laws.Read.{read_too_long}
 use Rattle.bench_script.specs.Letters.{lf}
 use Rattle.bench_script.specs.Input.{rig_end}
 use Rattle.bench_input.specs.Opening.{run_line, Opening, still, whole, with_byte, Scanned, waits, opens, onward, scanned}

@@ -6,7 +6,7 @@ use Rattle.laws.specs.Cases.{by}
 use Rattle.bench_script.specs.Output.{turn_room}
 use Rattle.put_text.specs.Wrote.{Wrote}
 use Rattle.put_text.specs.Laws.Wrote.{wrote_then, wrote_as, wrote_none, wrote_fits}
-use Rattle.rig_meaning.specs.Reading.{read_of}
+use Rattle.rig_meaning.proofs.Reading.{read_of}
 use Rattle.bench_input.specs.Line.{last_text}
 use Rattle.bench_morning.specs.Morning.{start_text}
 use Rattle.bench_morning.specs.Desk.{Desk, over, desk_after, said, last_said}

@@ -13,7 +13,7 @@ use Rattle.bench_script.specs.Output.{wrong_text}
 use Rattle.put_text.specs.Wrote.{Wrote}
 use Rattle.put_text.specs.Laws.Wrote.{wrote_as}
 use Rattle.bench_show.specs.Shown.{words_lent}
-use Rattle.bench_show.specs.Laws.Shown.{text_other}
+use Rattle.bench_show.proofs.Laws.Shown.{text_other}
 use Rattle.bench_script.specs.declared.Said.{Said}
 use Rattle.bench_script.specs.declared.Said.TheVariants.{Schedule, Cancel, Terminate, Finish, Tick, Until, Cycles, Latched, Unlatched, Signal, Ask, NextWaking, Overruns, WhyNot, Wrong}
 use Rattle.bench_turn.specs.Turn.{letter_of, asked_by, answer_text, Answered, Takes}

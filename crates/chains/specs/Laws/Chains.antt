@@ -182,7 +182,7 @@ module _ (T M : ℕ) (N P O : ℕ → ℕ) (X : ℕ → List ℕ) (ch : LinkedCh
   -- a task in no chain is apart from the nodes of a chain
   idle_off : (s : ℕ) → T < s → s < M → (a : ℕ) → a ≤ T → O a ≡ 0 → (w : ℕ) → In w (s ∷ X s) → a ≢ w
   idle_off s ls hs a a_t oa w (inl q) r = omega arith
-  idle_off s ls hs a a_t oa w (inr i) r = idle_out a oa s ls hs (rw (← r) at i)
+  idle_off s ls hs a a_t oa w (inr i) r = idle_out a oa s ls hs (subst (λ (z : ℕ). In z (X s)) (sym r) i)
 
   -- the chain of d is as it was, under stores at nodes of another chain and at x alone
   other : (s d : ℕ) → T < s → s < M → T < d → d < M → d ≢ s → (x u v : ℕ) → In u (s ∷ X s) → In v (s ∷ X s) → ((c : ℕ) → In c (d ∷ X d) → c ≢ x)

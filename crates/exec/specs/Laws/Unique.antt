@@ -8,7 +8,7 @@ use Rattle.chains.specs.Laws.Read.{sound_chains}
 use Rattle.chains.specs.Laws.Unique.{held_same}
 use Rattle.rules.specs.State as S
 use Rattle.rules.specs.Calls as R
-use Rattle.exec_family.specs.Laws.Anchors.{named_all}
+use Rattle.exec_family.proofs.Laws.Anchors.{named_all}
 use Rattle.exec_state.specs.View.{view_of}
 use Rattle.exec_state.specs.declared.State.{State}
 use Rattle.exec_refusals.specs.Numbers.{not_sound_no}

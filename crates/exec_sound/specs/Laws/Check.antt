@@ -27,7 +27,7 @@ use Rattle.rules.specs.Soundness as R
 use Rattle.sound_tables.specs.Tests.{within_b, empty_b, conds_b, tree_b, waits_b, flags_b}
 use Rattle.sound_tables.specs.Exact.{within_facts, within_back, empty_facts, empty_back, conds_facts, conds_back, tree_facts, tree_back, waits_facts, waits_back, flags_facts, flags_back}
 use Rattle.exec_family.specs.Anchors.{anchor_of, name_of, by_name}
-use Rattle.exec_family.specs.Laws.Anchors.{anchor_chain, anchor_same, name_anchor}
+use Rattle.exec_family.proofs.Laws.Anchors.{anchor_chain, anchor_same, name_anchor}
 use Rattle.exec_state.specs.declared.State.{State}
 use Rattle.exec_sound.specs.Sound.{SoundParts}
 use Rattle.exec_sound.specs.Laws.RightRig.{rig_ok}

@@ -11,7 +11,7 @@ use Rattle.chains.specs.Read.{chains_of}
 use Rattle.chains.specs.Laws.Read.{sound_chains}
 use Rattle.chains.specs.declared.Links.{Links}
 use Rattle.exec_family.specs.Anchors.{anchor_of}
-use Rattle.exec_family.specs.Laws.Anchors.{anchor_flag, named_put}
+use Rattle.exec_family.proofs.Laws.Anchors.{anchor_flag, named_put}
 use Rattle.rules.specs.State.{Chain, time_chain, chain_of, with_chains, with_running, with_wakes}
 use Rattle.rules.specs.Soundness.{IsChain}
 use Rattle.rules.specs.Waiting.{wait_on, wait_until_count}

@@ -16,7 +16,7 @@ use Rattle.chains.specs.Read.{chains_of}
 use Rattle.chains.specs.Laws.Read.{sound_chains}
 use Rattle.chains.specs.declared.Links.{Links}
 use Rattle.exec_family.specs.Anchors.{by_name}
-use Rattle.exec_family.specs.Laws.Anchors.{named_put}
+use Rattle.exec_family.proofs.Laws.Anchors.{named_put}
 use Rattle.exec_queue.specs.View.{entries_of, minor_of}
 use Rattle.exec_queue.specs.declared.Queue.{Queue}
 use Rattle.rig.specs.declared.Cycle.{Cycle}

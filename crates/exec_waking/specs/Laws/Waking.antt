@@ -12,7 +12,7 @@ use Rattle.chains.specs.Read.{chains_of}
 use Rattle.chains.specs.Laws.Read.{sound_chains}
 use Rattle.chains.specs.declared.Links.{Links}
 use Rattle.exec_family.specs.Anchors.{anchor_of, by_name}
-use Rattle.exec_family.specs.Laws.Anchors.{anchor_chain, named_put}
+use Rattle.exec_family.proofs.Laws.Anchors.{anchor_chain, named_put}
 use Rattle.rules.specs.State.{Chain, with_chain, with_chains}
 use Rattle.rules.specs.Serving.{rouse, wake}
 use Rattle.exec_state.specs.View.{view_of}

@@ -6,11 +6,11 @@ use Rattle.rig.specs.Rules.{Right}
 use Rattle.rig.specs.Forms.{table_of}
 use Rattle.rig.specs.Laws.Forms.{cycles_of_table}
 use Rattle.rig_build.specs.declared.Answer.{Answer}
-use Rattle.rig_meaning.specs.Reading.{read_of}
+use Rattle.rig_meaning.proofs.Reading.{read_of}
 use Rattle.exec.specs.Starting.{Started, Starts}
 use Rattle.exec.specs.declared.Step.{Step}
 use Rattle.host_replies.specs.Told.{coded, refused_file, StartRepliesFrom}
-use Rattle.rig_meaning.specs.Laws.Read.{read_right, read_line}
+use Rattle.rig_meaning.proofs.Laws.Read.{read_right, read_line}
 use Rattle.host_replies.specs.declared.Coded.{Coded}
 
 module _ (file : List ℕ) (a : Answer) (e : a ≡ read_of file) where

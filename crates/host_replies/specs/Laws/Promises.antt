@@ -3,7 +3,7 @@ use Rattle.std.specs.Prelude.{◌≡◌, refl, ◌≢◌, ◌⊎◌, ◌↔◌, 
 use Rattle.std.proofs.Common.{sym, ap, subst, ◌∙◌, ⊎_elim}
 use Rattle.rules.specs.Calls as R
 use Rattle.rules_laws.specs.Refusals.{code_is}
-use Rattle.rig_meaning.specs.Reading.{read_of}
+use Rattle.rig_meaning.proofs.Reading.{read_of}
 use Rattle.exec.specs.Sound.{rig_in, view, SoundRecord}
 use Rattle.exec.specs.Call.{answer_of, refuse}
 use Rattle.exec.specs.Starting.{no_exec}

@@ -7,14 +7,14 @@ use Rattle.rig.specs.Rules.{Right}
 use Rattle.rig.specs.Forms.{table_of}
 use Rattle.rig.specs.Laws.Forms.{cycles_of_table}
 use Rattle.rules.specs.Calls as R
-use Rattle.rig_meaning.specs.Reading.{read_of}
+use Rattle.rig_meaning.proofs.Reading.{read_of}
 use Rattle.exec.specs.Laws.Unique.{meets_same}
 use Rattle.exec.specs.Starting.{Started, Starts}
 use Rattle.exec.specs.Laws.Starting.{starts_same}
 use Rattle.exec.specs.declared.Exec.{Exec}
 use Rattle.exec.specs.declared.Step.{Step}
 use Rattle.host_replies.specs.Told.{coded, Replies, StartReplies, StartRepliesFrom}
-use Rattle.rig_meaning.specs.Laws.Read.{read_right}
+use Rattle.rig_meaning.proofs.Laws.Read.{read_right}
 use Rattle.host_replies.specs.declared.Coded.{Coded}
 
 pub replies_same : (x : Exec) (k : R.Call) (r s : Coded) (u v : List ℕ) → Replies x k r u → Replies x k s v → (r ≡ s) × (u ≡ v)

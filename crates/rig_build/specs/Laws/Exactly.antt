@@ -23,8 +23,8 @@ use Rattle.rig_whole.specs.Laws.Whole.{broken_none}
 use Rattle.rig_lines.specs.Line.{Line, line_of, shaped, sized, ordered, placed, judge}
 use Rattle.rig_lines.specs.File.{Fault, fault, first_fault, fault_of, lines_of}
 use Rattle.rig_lines.specs.Words.{FirstFaulty}
-use Rattle.rig_lines.specs.Laws.FirstFaulty.{first_faulty}
-use Rattle.rig_lines.specs.Laws.RoundTrip.{last_byte}
+use Rattle.rig_lines.proofs.Laws.FirstFaulty.{first_faulty}
+use Rattle.rig_lines.proofs.Laws.RoundTrip.{last_byte}
 use Rattle.rig_lines.specs.Whole.{line_tests}
 use Rattle.rig_fill.specs.OfLines.{rig_from, table_from}
 use Rattle.rig_build.specs.declared.Answer.{Answer}

@@ -31,7 +31,7 @@ module _ (controller : List ℕ) where
       rw (lt-ltb a x (ancestor_low (nearest e n) g l)) (ap (climb (at controller) a k) e ∙ climb_stop controller a k a (omega arith))
   climb_ancestor {a} {x} (further n h) g l (suc k) b =
       let d = l x g (omega arith) in
-      rw (lt-ltb a x (ancestor_low (further n h) g l)) (climb_ancestor h (omega arith) (λ t i j. l t i (omega arith)) k (omega arith))
+      rw (lt-ltb a x (ancestor_low (further n h) g l)) (climb_ancestor {x = at controller x} h (omega arith) (λ t i j. l t i (omega arith)) k (omega arith))
 
   -- and where it stops at c, c is where it began or an ancestor
   climb_found : (c : ℕ) → c ≢ 0 → (k x : ℕ) → climb (at controller) c k x ≡ c → (c ≡ x) ⊎ Ancestor (at controller) c x

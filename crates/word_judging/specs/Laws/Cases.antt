@@ -2,7 +2,7 @@
 use Rattle.std.specs.Prelude.{◌≡◌, refl}
 use Rattle.laws.specs.All.{all_of}
 use Rattle.word_parts.specs.Parity.{image_of}
-use Rattle.word_parts.specs.Laws.ParityCases.{parities}
+use Rattle.word_parts.proofs.Laws.ParityCases.{parities}
 use Rattle.word_answers.specs.Answers.{word_answered, word_refused, if_in_size}
 use Rattle.status_words.specs.Status.{status_fields}
 use Rattle.word_judging.specs.declared.Verdict.TheVariants.{Error, Exception, Clean}

@@ -6,7 +6,7 @@ use Rattle.laws.specs.Bits.{is_one}
 use Rattle.laws.specs.Cases.{by}
 use Rattle.word_parts.specs.Packed.{status_word}
 use Rattle.word_parts.specs.Parity.{parity_bit, image_of, word_in, parity_in}
-use Rattle.word_parts.specs.Laws.Parity.{image_word, image_parity}
+use Rattle.word_parts.proofs.Laws.Parity.{image_word, image_parity}
 use Rattle.status_words.specs.declared.Status.{Status}
 use Rattle.status_words.specs.Status.{status_fields}
 use Rattle.status_words.specs.Laws.Status.{status_whole}

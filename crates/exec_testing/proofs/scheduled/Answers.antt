@@ -1,0 +1,8 @@
+use Rattle.exec_testing.specs.Laws.Testing.{scheduled_is}
+use Rattle.exec_testing.proofs.scheduled.Goals as goal
+
+pub returns : goal.returns
+returns c =
+    let a = c.args in
+    let x = c.relax in
+    scheduled_is a.st a.rig a.t x.new.cond x.ensures c.tested.result c.tested.ensures

@@ -1,0 +1,11 @@
+use lib.ListN.{length}
+use Rattle.chains.specs.Ops.{walk}
+use Rattle.chains.specs.Held.{at}
+use Rattle.exec_waking.specs.Laws.Waking.{Waking}
+use Rattle.exec_waking.proofs.wake.Given as goal
+
+abbrev pub invariant-loop-v : goal.invariant-loop-v
+invariant-loop-v l = Waking l.initial.k l.initial.state l.s l.state l.k l.v l.woken
+
+abbrev pub decreases-loop-v : goal.decreases-loop-v
+decreases-loop-v l = length (walk (at l.k.next) 64 64 l.s)

@@ -1,0 +1,13 @@
+use mathlib.Core.Path.{◌≡◌}
+use mathlib.Core.Bool.{true}
+use Prim.Native.Nat.{◌≤◌, ◌-◌}
+use lib.ListN.{length}
+use Rattle.laws.specs.All.{all}
+use Rattle.rig_cycles.specs.Tests.{cycle_rises_one}
+use Rattle.rig_cycles.proofs.cycles_rise.Given as goal
+
+abbrev pub invariant-loop-c : goal.invariant-loop-c
+invariant-loop-c l = (all l.c (cycle_rises_one l.cycles) ≡ true) × ((length l.cycles ≡ 64) × (l.c ≤ 64))
+
+abbrev pub decreases-loop-c : goal.decreases-loop-c
+decreases-loop-c l = 64 - l.c

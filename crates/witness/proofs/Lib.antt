@@ -1,0 +1,11 @@
+pub mod Morning
+pub mod MorningRun
+pub mod MorningStream
+pub mod MorningWait
+pub mod MorningAsked
+pub mod MorningTicks
+pub mod Records
+pub mod FullRun
+pub mod LargestRead
+pub mod MorningWoken
+pub mod Linked
