@@ -1,7 +1,7 @@
 /* Algolmallet for C hosts: the executive of an avionics training bench, on a record that the host keeps, and the monitor's side of the bus.
  *
  * Link with libalgolmallet.a, which `./install PREFIX` puts beside this header's folder (pkg-config algolmallet); in the repository it
- * is target/staticlib/libhost.a, which `rt staticlib host` proves and writes. It is for x86-64. The archive has the entries below and
+ * is target/staticlib/libhost.a, which `tools/archive host` proves and writes. It is for x86-64. The archive has the entries below and
  * nothing else that can be seen from outside, keeps no memory of its own, uses no heap, and needs of the host only
  *     memcpy memmove memset
  * The words in quotes are the build paper's, or those of a request that came after it, where one is named.

@@ -6,7 +6,7 @@
  * archives in one program.
  *
  * Link with libalgolmallet_terminal.a, which `./install PREFIX` puts beside this header's folder (pkg-config algolmallet_terminal); in the
- * repository it is target/staticlib/libterminal.a, which `rt staticlib terminal` proves and writes. It is for x86-64. The archive has the
+ * repository it is target/staticlib/libterminal.a, which `tools/archive terminal` proves and writes. It is for x86-64. The archive has the
  * entries below and nothing else that can be seen from outside. The words in quotes are the build paper's.
  *
  * A board owes nothing: no entry takes a pointer, any numbers may be handed in, from any thread.

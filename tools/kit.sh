@@ -1,7 +1,7 @@
 # shellcheck shell=bash
 # What the commands at the top of the repository share: words of a command line, finding the kit, building a program
-# once, running it. Programs are for x86-64; on other processors the kit has an emulator beside its compiler, and C is
-# cross-compiled.
+# once, running it. The kit proves and builds on x86-64 alone; on other processors what is built already runs under
+# qemu-x86_64, and C is cross-compiled.
 
 missing() {
     echo "${0##*/}: $1 is missing. $2" >&2
@@ -123,47 +123,124 @@ make_x86() {
     fi
 }
 
-# is_new FILE: it is there and newer than every source
+# is_new PATH: it is there and newer than every source
 is_new() {
-    [ -f "$1" ] && [ -z "$(find crates crates.txt -newer "$1" -type f 2>/dev/null | head -1)" ]
+    [ -e "$1" ] && [ -z "$(find crates.txt crates/*/src crates/*/specs crates/*/proofs -newer "$1" 2>/dev/null | head -1)" ]
 }
 
-# prove FILE WORDS...: unless FILE is new, make it by `rt WORDS...`, with a line for each crate on standard error
+# prove FILE CRATE VERB: unless FILE is new, make it by `rt VERB` in the crate's folder, with a line for each crate on standard error
 prove() {
-    local file=$1
-    shift
-    is_new "$file" && return 0
+    is_new "$1" && return 0
     need_kit
-    echo "proving $2 and what it is built on; the first time takes some minutes" >&2
+    echo "proving $2 and what it is built on, one crate after the other: the first time takes long (rt ci proves side by side)" >&2
     mkdir -p target
-    if ! (set -o pipefail && rt "$@" 2>&1 | tee target/build.log | prove_lines) || [ ! -f "$file" ]; then
+    rt_in "$2" "$3" | tee target/build.log | prove_lines || true
+    if ! grep -qE '^rt: running out/|^rt ended with status 0$' target/build.log || [ ! -f "$1" ]; then
         echo "${0##*/}: $2 could not be built; target/build.log says why" >&2
         exit 2
     fi
-    touch "$file"
+    touch "$1" # rt makes nothing anew where only times have changed
+}
+
+# rt_in CRATE VERB: what rt says, and how it ended. `rt run` builds a program and runs it: here on no input, and what it prints is nobody's.
+rt_in() {
+    cd "crates/$1" || return
+    case $2 in
+        run) rt run </dev/null 2>&1 >/dev/null ;;
+        *) rt "$2" </dev/null 2>&1 ;;
+    esac
+    echo "rt ended with status $?"
 }
 
 prove_lines() {
-    grep --line-buffered -E '^rt: [a-z_]+ (proved|NOT)' >&2 || true
+    awk '/^crate [a-z_0-9]+:/ { crate = $2; sub(/:$/, "", crate) }
+        /^logic=/ { print "rt: " crate (/^logic=proved/ ? " proved" : " NOT proved"); fflush() }' >&2
 }
 
-# build NAME: target/bin/NAME, the program and all that it needs proved
-build() {
-    prove "target/bin/$1" check "$1"
+# program_of NAME: where `rt ci` and `rt run` leave the program, proved
+program_of() {
+    echo "crates/$1/out/$1"
 }
+
+# build NAME: the program and all that it needs proved. After `rt ci` nothing is left to do.
+build() {
+    prove "$(program_of "$1")" "$1" run
+}
+
+# needs_of CRATE: the libraries that crates.txt lists for it
+needs_of() {
+    awk -v crate="$1" -F: '{ sub(/#.*/, "") } split($1, words, " ") && words[1] == crate { print $2; found = 1 } END { exit !found }' crates.txt
+}
+
+# built_on CRATE: it, and every crate that crates.txt leads to from it
+built_on() {
+    awk -v first="$1" -F: '{ sub(/#.*/, "") } NF > 1 { split($1, words, " "); needs[words[1]] = $2 }
+        END {
+            if (!(first in needs)) exit 1
+            list[1] = first; seen[first] = 1; last = 1
+            for (i = 1; i <= last; i++) {
+                print list[i]
+                many = split(needs[list[i]], need, " ")
+                for (j = 1; j <= many; j++) if (!(need[j] in seen)) { seen[need[j]] = 1; list[++last] = need[j] }
+            }
+        }' crates.txt
+}
+
+# archive_of NAME: where the library for C of crate NAME is written. Its exports are crate NAME_c, a static library.
+archive_of() {
+    echo "target/staticlib/lib$1.a"
+}
+
+# build_archive NAME: the archive, all that it needs proved
+build_archive() {
+    local file made="crates/$1_c/out/lib$1_c.a"
+    file=$(archive_of "$1")
+    is_new "$file" && return 0
+    mkdir -p "${file%/*}"
+    if ! is_new "$made" && over_gate "$1_c"; then
+        echo "proving $1_c over what rt ci proved" >&2
+        static_words "$1_c" >target/build.log 2>&1 || rm -f "$made"
+    fi
+    prove "$made" "$1_c" lib
+    cp "$made" "$file"
+}
+
+# over_gate CRATE: everything that it is built on lies there as `rt ci` proved it. `rt lib` would prove all of that once more: it takes no library
+# of rt ci's, which have no stamp.
+over_gate() {
+    local dep
+    for dep in $(built_on "$1"); do
+        [ "$dep" = "$1" ] || [ ! -d "crates/$dep" ] && continue
+        [ ! -e "crates/$dep/out/rlib/stamp" ] && is_new "crates/$dep/out/rlib/$dep.rlib" || return 1
+    done
+}
+
+# static_words CRATE: what `rt lib` calls for a static library, over the libraries as they lie there: it proves the crate from nothing and writes the archive
+static_words() (
+    kit=$(kit_home)
+    words=(--crate-name "$1" src/lib.rt --extern "std=$kit/rlibs/std.rlib" -L "dependency=$kit/rlibs")
+    for dep in $(needs_of "$1"); do
+        if [ -d "crates/$dep" ]; then words+=(--extern "$dep=../$dep/out/rlib/$dep.rlib"); else words+=(--extern "$dep=$kit/rlibs/$dep.rlib"); fi
+    done
+    for dep in $(built_on "$1"); do
+        [ "$dep" = "$1" ] || words+=(-L "dependency=../$dep/out/rlib")
+    done
+    words+=(--antt-project "$kit/rattle/logic/antt-project.json" --logic-built "$kit/logic_built" --jobs 1 --links "$1=" --crate-type staticlib)
+    cd "crates/$1" && mkdir -p out && "$kit/bin/rattle" build "${words[@]}" --toolchain "$kit/toolchain" --backend llvm -o "out/lib$1.a"
+)
 
 # build_host: host/build/host, the example in C, linked with the proved library
 build_host() {
     need_x86_c
-    prove target/staticlib/libhost.a staticlib host
+    build_archive host
     make_x86 -C host
 }
 
 # build_words: host/build/terminal and host/build/monitor, the examples on bus words, each linked with its proved library
 build_words() {
     need_x86_c
-    prove target/staticlib/libterminal.a staticlib terminal
-    prove target/staticlib/libhost.a staticlib host
+    build_archive terminal
+    build_archive host
     make_x86 -C host words
 }
 
@@ -186,31 +263,24 @@ needed_by_archive() {
     $(x86_tool nm) -u "$1" | awk '$1 == "U" { print $2 }' | sort -u
 }
 
-# tools_of_kit: the folder of the kit's own tools for this processor
-tools_of_kit() {
+# kit_home: the kit's folder
+kit_home() {
     need_kit
-    local home=${RATTLE_HOME:-$(cd "$(dirname "$(readlink -f "$(command -v rt)")")/.." && pwd -P)}
-    echo "$home/on/$(uname -m)/toolchain"
+    (cd "$(dirname "$(readlink -f "$(command -v rt)")")/.." && pwd -P)
 }
 
-# command_of NAME: the words that run target/bin/NAME here, from the top of the repository
+# command_of NAME: the words that run the program here, from the top of the repository
 command_of() {
-    local tools
+    local libraries
     if is_x86_64; then
-        echo "target/bin/$1"
+        program_of "$1"
         return
     fi
-    tools=$(tools_of_kit)
-    echo "$tools/bin/qemu-x86_64 $tools/lib/ld-linux-x86-64.so.2 --library-path $tools/lib target/bin/$1"
+    libraries=$(kit_home)/toolchain/lib
+    echo "qemu-x86_64 $libraries/ld-linux-x86-64.so.2 --library-path $libraries $(program_of "$1")"
 }
 
 # command_of_c FILE: the words that run a program of make_x86 here
 command_of_c() {
-    local tools
-    if is_x86_64; then
-        echo "$1"
-        return
-    fi
-    tools=$(tools_of_kit)
-    echo "$tools/bin/qemu-x86_64 $1"
+    if is_x86_64; then echo "$1"; else echo "qemu-x86_64 $1"; fi
 }

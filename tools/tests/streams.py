@@ -3,9 +3,9 @@
 
 usage: tools/tests/streams.py [--patience SECONDS] [--panel] COMMAND [WORD ...]
 
-COMMAND reads a rig, the line RUN and a script from standard input and prints the answers (target/bin/runner, the example
+COMMAND reads a rig, the line RUN and a script from standard input and prints the answers (crates/runner/out/runner, the example
 host, ./bench); it gets so many seconds for each answer, 30 if not given. With --panel it answers the panel's verbs too, as
-target/bin/panel does; without, it must not. A failure must be told on standard error; a run that goes well prints nothing
+crates/panel/out/panel does; without, it must not. A failure must be told on standard error; a run that goes well prints nothing
 there. One line for each test; the last line is `streams: N passed, M failed`. Exit status 0 if all passed, 1 if one failed,
 2 for misuse.
 """
