@@ -1,8 +1,8 @@
 -- Bytes that a writer holds, where the first of some bytes went out to it.
 use Rattle.std.proofs.Common.{◌≡◌, ◌≤◌, ℕ, ◌+◌, ◌-◌, List, Option, ◌++◌, length, take, drop, sym, ap, subst, ◌∙◌, arith, length-take}
 use Rattle.std.proofs.Math.Seq.{take-add, take-take}
-use Rattle.std.specs.Io.KnownBytes.{Appends, Keeps}
-use Rattle.std.proofs.KnownBytes.{Appends-trans, Appends-kept}
+use Rattle.std.specs.Io.KnownBytes.{Appends}
+use Rattle.std.proofs.KnownBytes.{Appends-trans}
 
 module _ (a b c : Option (List ℕ)) (xs : List ℕ) (done : ℕ) (before : Appends a b (take done xs)) where
   -- a write took so many of those that follow
@@ -13,7 +13,3 @@ module _ (a b c : Option (List ℕ)) (xs : List ℕ) (done : ℕ) (before : Appe
       let joined : take done xs ++ take n (take (length xs - done) (drop done xs)) ≡ take (done + n) xs =
       ap (λ l. take done xs ++ l) (take-take n (length xs - done) (drop done xs) (omega (arith, fits, most))) ∙ sym (take-add done n xs) in
       subst (λ i. Appends a c (take i xs)) (sym e) (subst (Appends a c) joined (Appends-trans a b c _ _ before after))
-
-  -- a write failed
-  pub appends_same : (k : ℕ) → k ≡ done → Keeps b c → Appends a c (take k xs)
-  appends_same k e kept = subst (λ i. Appends a c (take i xs)) (sym e) (Appends-kept a b c (take done xs) before kept)

@@ -9,7 +9,7 @@ use std::io::{Error, ErrorKind, Read, Write};
 use std::thread;
 
 // What a read brought: so many bytes, the end of the input, or a failure.
-#[derive(Drop)]
+#[derive(Clone, Copy)]
 pub enum Input {
     Bytes(usize),
     End,
@@ -17,7 +17,7 @@ pub enum Input {
 }
 
 // What became of a write: how many of the bytes went out, and why not all.
-#[derive(Drop)]
+#[derive(Clone, Copy)]
 pub struct Output {
     pub count: usize,
     pub failure: Option<Error>,
@@ -54,20 +54,22 @@ pub fn read_in<R: Read>(from: &mut R, input: &mut [u8]) -> Input
     Input::Failed(Error::from(ErrorKind::WouldBlock))
 }
 
-// How many of the bytes went out, from the first on, each once. They are fewer than all only where a write failed.
+// How many of the bytes went out, from the first on, each once. They are fewer than all only where a write failed, or would have to wait for ever.
 pub fn write_out<W: Write>(to: &mut W, out: &[u8]) -> Output
     ensures bound { result.count ≤ length out.now }
     ensures all { IfNone result.failure (result.count ≡ length out.now) }
     ensures bytes { Appends (W.contents to.old) (W.contents to.new) (take result.count out.now) }
 {
+    let mut turns = u64::MAX;
     let mut done: usize = 0;
-    for _ in 0..u64::MAX {
-        if done == out.len() {
+    while done < out.len() {
+        if turns == 0 {
             return Output {
                 count: done,
-                failure: None,
+                failure: Some(Error::from(ErrorKind::WouldBlock)),
             };
         }
+        turns -= 1;
         match to.write(&out[done..]) {
             Ok(n) => done += n,
             Err(e) => {
@@ -82,6 +84,6 @@ pub fn write_out<W: Write>(to: &mut W, out: &[u8]) -> Output
     }
     Output {
         count: done,
-        failure: Some(Error::from(ErrorKind::WouldBlock)),
+        failure: None,
     }
 }

@@ -16,14 +16,22 @@ use std::io::{Error, ErrorKind, Read, Write};
 const PIECE: usize = 65536;
 
 // A failure is told; but where nobody reads what goes out any more the run ends without a word.
-fn tell(rt: &impl Eprint, what: &str, e: Error) {
-    if e.kind() != ErrorKind::BrokenPipe {
-        let _ = eprintln!(rt; "{what}: {e}");
+fn tell(rt: &impl Eprint, what: &[u8], e: Error) {
+    if e.kind() == ErrorKind::BrokenPipe {
+        return;
+    }
+    match str::from_utf8(what) {
+        Ok(what) => {
+            let _ = eprintln!(rt; "{what}: {e}");
+        }
+        Err(_) => {
+            let _ = eprintln!(rt; "{e}");
+        }
     }
 }
 
 // A failure is told; nothing more is to be said.
-fn failed(rt: &impl Eprint, what: &str, e: Error) -> Stream
+fn failed(rt: &impl Eprint, what: &[u8], e: Error) -> Stream
     ensures { result ≡ nothing_more }
 {
     tell(rt, what, e);
@@ -38,7 +46,7 @@ fn take<W: Write>(
     keep: &mut [u8],
     piece: &[u8],
     out: &mut [u8],
-    output: &str,
+    output: &[u8],
 ) -> Stream
     requires { HoldsIn s (length keep.old) × (turn_room ≤ length out.old) }
     ensures { HoldsIn result (length keep.new) }
@@ -64,7 +72,7 @@ fn finish<W: Write>(
     s: Stream,
     keep: &[u8],
     out: &mut [u8],
-    output: &str,
+    output: &[u8],
 ) {
     let n = bench_stream::end(s, keep, &mut *out);
     if let Some(e) = bench_io::write_out(to, &out[..n]).failure {
@@ -79,8 +87,8 @@ fn go_on<R: io::Input + Print + Eprint>(
     keep: &mut [u8],
     piece: &mut [u8],
     out: &mut [u8],
-    input: &str,
-    output: &str,
+    input: &[u8],
+    output: &[u8],
 )
     requires { (full ≤ length keep.old) × (turn_room ≤ length out.old) }
 {
@@ -119,7 +127,7 @@ fn go_on<R: io::Input + Print + Eprint>(
 }
 
 // The whole program, with the panel's verbs on or off, and what it calls its input and its output where one of them fails.
-pub fn run<R: io::Input + Print + Eprint>(rt: &R, panel: bool, input: &str, output: &str)
+pub fn run<R: io::Input + Print + Eprint>(rt: &R, panel: bool, input: &[u8], output: &[u8])
     ensures { result ≡ tt }
 {
     let mut keep = [0u8; bench_input::KEEP];

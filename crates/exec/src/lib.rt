@@ -73,6 +73,7 @@ pub fn none() -> Exec
 }
 
 // "Start: count 0, flags and conditions off, all tasks uninvoked; then task 1 is scheduled."
+// It stays a call of its own: inlined, a start would need more stack than the header states.
 #[inline(never)]
 pub fn start(rig: Rig, cycles: [[u8; CYCLE_FLAGS]; CYCLES]) -> Step
     ensures { Starts rig cycles result }

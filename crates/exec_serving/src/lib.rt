@@ -44,8 +44,8 @@ fn count_soon<'a>(
     }
 }
 
-// The last queued is taken off and served, until the queue is empty. The states are a local: two fields of one struct cannot
-// be lent at once, and a call by value would copy the state for each flag. The links are copied only where somebody waits.
+// The last queued is taken off and served, until the queue is empty. The states are a local, lent beside other fields of the state:
+// a call by value would copy the state for each flag. The links are copied only where somebody waits.
 // The rig's tables are lent: the rig by value would be copied twice.
 pub fn serve<'a>(
     mut st: State,

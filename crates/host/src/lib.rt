@@ -1,4 +1,4 @@
-// What a host in C calls. It keeps one record in its own memory and lends it to each entry, "to be changed where it stands".
+// What a host in C calls, by the exports of crate host_c. It keeps one record in its own memory and lends it to each entry, "to be changed where it stands".
 // Each entry calls the method by value of its name, has its step told in numbers, stores the record over the lent one, and replies.
 #![tactic(auto)]
 

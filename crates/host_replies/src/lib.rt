@@ -1,5 +1,5 @@
-// What a host in C is told of each call: the record after it, and its answer put into the numbers that C reads. Crate host has the entries that
-// C sees; each makes its call and has the step told here.
+// What a host in C is told of each call: the record after it, and its answer put into the numbers that C reads. Crate host has the entries,
+// which crate host_c exports to C; each makes its call and has the step told here.
 #![tactic(auto)]
 
 mod calls;

@@ -2,5 +2,10 @@
 #![tactic(auto)]
 
 fn main(rt: HostRuntime) {
-    bench_run::run(&rt, true, "panel: standard input", "panel: standard output");
+    bench_run::run(
+        &rt,
+        true,
+        b"panel: standard input",
+        b"panel: standard output",
+    );
 }

@@ -79,6 +79,7 @@ fn read_lines(s: &[u8]) -> rig_build::Answer
 }
 
 // Reads a rig file. A file that is too long is refused before anything else is looked at.
+// It stays a call of its own: inlined, a start would need more stack than the header states.
 #[inline(never)]
 pub fn read(s: &[u8]) -> rig_build::Answer
     ensures { result ≡ read_of s.now }

@@ -1,2 +1,2 @@
-// What follows from the rules of the executive: theorems in specs/; no code.
+// What follows from the rules of the executive: theorems in specs/ and proofs/; no code.
 #![tactic(auto)]

@@ -5,7 +5,7 @@ fn main(rt: HostRuntime) {
     bench_run::run(
         &rt,
         false,
-        "runner: standard input",
-        "runner: standard output",
+        b"runner: standard input",
+        b"runner: standard output",
     );
 }

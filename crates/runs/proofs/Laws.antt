@@ -57,7 +57,7 @@ use Rattle.rules_laws.specs.WayThere.{way_there}
 use Rattle.rules_laws.specs.Activation.{BySchedule, ByService, activated_by_lem}
 use Rattle.rules_laws.specs.AtMost.{finish_most, terminate_most}
 use Rattle.rules_laws.specs.NobodyLeft as NL
-use Rattle.rules_laws.proofs.NobodyLeft.{nobody_left as never-left}
+use Rattle.rules_laws.proofs.NobodyLeft.{nobody_left as never_left}
 use Rattle.rules_laws.specs.Heard.{WaitedOn, by_test, says, heard_few, signal_leaves, signal_untested, start_heard}
 use Rattle.exec_family.specs.Anchors.{anchor_of}
 use Rattle.exec_family.proofs.Laws.Anchors.{anchor_low, anchor_high}
@@ -534,7 +534,7 @@ module _ (g : Rig) (table : List (List ℕ)) (x : Exec) (s : AcceptedStart g tab
     pub nobody_left : NobodyLeft y
     nobody_left =
         subst (λ (g : G.Rig). NL.NobodyLeft g (view y)) (sym there.rig)
-        (subst (NL.NobodyLeft (rig_in x)) (sym there.state) (never-left (rig_in x) rig_right (calls_of ms) (ran_proper x ms y ran)))
+        (subst (NL.NobodyLeft (rig_in x)) (sym there.state) (never_left (rig_in x) rig_right (calls_of ms) (ran_proper x ms y ran)))
 
     -- L3: the true bound of a finish and of a terminate
     pub at_most : (m : Made) → MadeOn y m → AtMost y m

@@ -1,4 +1,4 @@
-// What a terminal board in C calls: the sending side. Nothing that it is built on has a table.
+// What a terminal board in C calls, by the exports of crate terminal_c: the sending side. Nothing that it is built on has a table.
 #![tactic(auto)]
 
 ghost use Rattle.std.specs.Prelude.{◌≡◌};

@@ -1,7 +1,7 @@
 -- The first faulty line, as `fault_of` computes it, is the one that `FirstFaulty` (Words) says: nothing is wrong with the lines before it, and the
 -- number is the smallest that is due to it.
 --     first_faulty    fault_of s ≡ fault (suc j) (suc n) ↔ FirstFaulty s n (suc j)
---     none_faulty     fault_of s .no ≡ 0 ↔ nothing is wrong with any line
+--     none_faulty     (fault_of s).no ≡ 0 ↔ nothing is wrong with any line
 -- Assumes nothing.
 use Rattle.std.specs.Prelude.{ℕ, zero, suc, ◌+◌, ◌≤◌, ◌<◌, ◌≡◌, refl, ◌⊎◌, ◌↔◌, Bool, true, false, cond, ◌&&◌, List, [], ◌∷◌, ltb, eqb, length, get_or}
 use Rattle.std.proofs.Common.{sym, ap, ◌∙◌, inl, inr, ⊎_elim, arith, ltb-true, ltb-false, lt-ltb, le-ltb, eqb-true}

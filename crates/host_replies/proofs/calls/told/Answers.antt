@@ -1,6 +1,5 @@
 use mathlib.Core.Path.{ap}
 use Rattle.host_replies.specs.Told.{coded_of}
-use Rattle.host_replies.proofs.calls.reply_of.Reads as reply-of-reads
 use Rattle.host_replies.proofs.calls.told.Goals as goal
 
 -- src/calls.rt:39:1

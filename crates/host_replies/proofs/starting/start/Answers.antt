@@ -1,10 +1,5 @@
 use Rattle.host_replies.specs.Laws.Beginning.{line_fits, file_refused_lem, file_started}
 use borrow.Author.Rules.{rules}
-use Rattle.exec.proofs.start.Reads as start-reads
-use Rattle.host_replies.proofs.calls.told.Reads as told-reads
-use Rattle.host_replies.proofs.starting.refused.Reads as refused-reads
-use Rattle.rig.proofs.table_of.Reads as table-of-reads
-use Rattle.rig_read.proofs.read.Reads as read-reads
 use Rattle.host_replies.proofs.starting.start.Goals as goal
 
 -- src/starting.rt:28:37
