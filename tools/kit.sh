@@ -123,48 +123,61 @@ make_x86() {
     fi
 }
 
-# is_new PATH: it is there and newer than every source
+# is_new FILE: it is there and newer than every source
 is_new() {
     [ -e "$1" ] && [ -z "$(find crates.txt crates/*/src crates/*/specs crates/*/proofs -newer "$1" 2>/dev/null | head -1)" ]
 }
 
-# prove FILE CRATE VERB: unless FILE is new, make it by `rt VERB` in the crate's folder, with a line for each crate on standard error
-prove() {
-    is_new "$1" && return 0
+# make_new FILE NAME COMMAND...: unless FILE is new, the command writes it under the name that it is given last. FILE is then as new as the
+# moment when that began, so that what was changed meanwhile is newer.
+make_new() {
+    local file=$1 name=$2
+    shift 2
+    is_new "$file" && return 0
     need_kit
-    echo "proving $2 and what it is built on, one crate after the other: the first time takes long (rt ci proves side by side)" >&2
-    mkdir -p target
-    rt_in "$2" "$3" | tee target/build.log | prove_lines || true
-    if ! grep -qE '^rt: running out/|^rt ended with status 0$' target/build.log || [ ! -f "$1" ]; then
-        echo "${0##*/}: $2 could not be built; target/build.log says why" >&2
+    mkdir -p target "${file%/*}"
+    : >"$file.begun"
+    if ! "$@" "$PWD/$file.part"; then
+        rm -f "$file.begun" "$file.part"
+        echo "${0##*/}: $name could not be built; target/build.log says why" >&2
         exit 2
     fi
-    touch "$1" # rt makes nothing anew where only times have changed
+    touch -r "$file.begun" "$file.part"
+    mv "$file.part" "$file"
+    rm "$file.begun"
 }
 
-# rt_in CRATE VERB: what rt says, and how it ended. `rt run` builds a program and runs it: here on no input, and what it prints is nobody's.
-rt_in() {
-    cd "crates/$1" || return
-    case $2 in
-        run) rt run </dev/null 2>&1 >/dev/null ;;
-        *) rt "$2" </dev/null 2>&1 ;;
-    esac
-    echo "rt ended with status $?"
-}
-
-prove_lines() {
-    awk '/^crate [a-z_0-9]+:/ { crate = $2; sub(/:$/, "", crate) }
-        /^logic=/ { print "rt: " crate (/^logic=proved/ ? " proved" : " NOT proved"); fflush() }' >&2
-}
-
-# program_of NAME: where `rt ci` and `rt run` leave the program, proved
+# program_of NAME: where `rt ci` leaves the program, proved
 program_of() {
     echo "crates/$1/out/$1"
 }
 
-# build NAME: the program and all that it needs proved. After `rt ci` nothing is left to do.
+# build NAME: the program, it and all that it needs proved. After a passed `rt ci` here nothing is left to do.
 build() {
-    prove "$(program_of "$1")" "$1" run
+    make_new "$(program_of "$1")" "$1" program_into "$1"
+}
+
+program_into() {
+    in_copy "$1" cp "crates/$1/out/$1" "$2"
+}
+
+# archive_of NAME: where the library for C of crate NAME is written. Its exports are crate NAME_c, a static library, of which `rt ci` leaves nothing.
+archive_of() {
+    echo "target/staticlib/lib$1.a"
+}
+
+# build_archive NAME: the archive, it and all that it needs proved. After a passed `rt ci` here only crate NAME_c is proved, once more.
+build_archive() {
+    make_new "$(archive_of "$1")" "lib$1.a" archive_into "$1_c"
+}
+
+archive_into() {
+    if is_proved_below "$1"; then
+        echo "${0##*/}: proving $1, over the libraries that rt ci proved here" >&2
+        archive_over_libraries "$1" "$2" >target/build.log 2>&1
+    else
+        in_copy "$1" archive_over_libraries "$1" "$2"
+    fi
 }
 
 # needs_of CRATE: the libraries that crates.txt lists for it
@@ -172,7 +185,7 @@ needs_of() {
     awk -v crate="$1" -F: '{ sub(/#.*/, "") } split($1, words, " ") && words[1] == crate { print $2; found = 1 } END { exit !found }' crates.txt
 }
 
-# built_on CRATE: it, and every crate that crates.txt leads to from it
+# built_on CRATE: it, and every crate that crates.txt leads to from it; some are the kit's
 built_on() {
     awk -v first="$1" -F: '{ sub(/#.*/, "") } NF > 1 { split($1, words, " "); needs[words[1]] = $2 }
         END {
@@ -186,47 +199,71 @@ built_on() {
         }' crates.txt
 }
 
-# archive_of NAME: where the library for C of crate NAME is written. Its exports are crate NAME_c, a static library.
-archive_of() {
-    echo "target/staticlib/lib$1.a"
-}
-
-# build_archive NAME: the archive, all that it needs proved
-build_archive() {
-    local file made="crates/$1_c/out/lib$1_c.a"
-    file=$(archive_of "$1")
-    is_new "$file" && return 0
-    mkdir -p "${file%/*}"
-    if ! is_new "$made" && over_gate "$1_c"; then
-        echo "proving $1_c over what rt ci proved" >&2
-        static_words "$1_c" >target/build.log 2>&1 || rm -f "$made"
-    fi
-    prove "$made" "$1_c" lib
-    cp "$made" "$file"
-}
-
-# over_gate CRATE: everything that it is built on lies there as `rt ci` proved it. `rt lib` would prove all of that once more: it takes no library
-# of rt ci's, which have no stamp.
-over_gate() {
-    local dep
-    for dep in $(built_on "$1"); do
-        [ "$dep" = "$1" ] || [ ! -d "crates/$dep" ] && continue
-        [ ! -e "crates/$dep/out/rlib/stamp" ] && is_new "crates/$dep/out/rlib/$dep.rlib" || return 1
+# crates_of CRATE: those of them that are this repository's
+crates_of() {
+    local name
+    for name in $(built_on "$1"); do
+        [ ! -d "crates/$name" ] || echo "$name"
     done
 }
 
-# static_words CRATE: what `rt lib` calls for a static library, over the libraries as they lie there: it proves the crate from nothing and writes the archive
-static_words() (
+# in_copy CRATE COMMAND...: proves the crate and what it is built on by `rt ci`, in a copy of these crates, and runs the command at the copy's top.
+# So the libraries are proved side by side, what was proved on this machine is taken up, and what is proved now is kept for the gate; `rt run` and
+# `rt lib` do neither. The copy has no must-fail edits: they are the gate's, which ./check runs.
+in_copy() (
+    set -o pipefail
+    copy=$(mktemp -d) || exit
+    trap 'rm -rf "$copy"' EXIT
+    trap 'exit 130' INT TERM
+    mkdir "$copy/.git" || exit # rt ci takes the folder above its crates for the whole repository
+    [ ! -f HANDLES ] || cp HANDLES "$copy"
+    many=0
+    for name in $(crates_of "$1"); do
+        grep -E "^${name}[ :]" crates.txt >>"$copy/crates.txt" && mkdir -p "$copy/crates/$name" || exit
+        for part in "crates/$name"/*; do
+            case ${part##*/} in
+                out | must-fail) ;;
+                *) cp -R "$part" "$copy/crates/$name/" || exit ;;
+            esac
+        done
+        many=$((many + 1))
+    done
+    echo "${0##*/}: proving $1 and what it is built on, $many crates; what rt ci proved on this machine is taken up, the rest takes some minutes" >&2
+    (cd "$copy" && rt ci </dev/null 2>&1) | tee target/build.log | tell_proved "$many" >&2 || exit
+    shift
+    cd "$copy" && "$@" >>"$OLDPWD/target/build.log" 2>&1
+)
+
+# tell_proved MANY: of what `rt ci` says a line for each crate that is done
+tell_proved() {
+    awk -v many="$1" '/^rt: [a-z_0-9]+ (proved|is kept:|NOT PROVED)/ {
+            sub(/^rt: /, ""); sub(/is kept:.*/, "is proved already")
+            print ++done " of " many ": " $0; fflush()
+        }'
+}
+
+# is_proved_below CRATE: every library that it is built on lies here as `rt ci` proved it: it has no stamp, as those of other commands do
+is_proved_below() {
+    local name
+    for name in $(crates_of "$1"); do
+        [ "$name" = "$1" ] && continue
+        [ ! -e "crates/$name/out/rlib/stamp" ] && is_new "crates/$name/out/rlib/$name.rlib" || return 1
+    done
+}
+
+# archive_over_libraries CRATE FILE: proves the static library from nothing and writes its archive, over the libraries below it as they lie there. The
+# words are those of `rt lib`, which takes no library of `rt ci`'s: it would prove each once more.
+archive_over_libraries() (
     kit=$(kit_home)
     words=(--crate-name "$1" src/lib.rt --extern "std=$kit/rlibs/std.rlib" -L "dependency=$kit/rlibs")
-    for dep in $(needs_of "$1"); do
-        if [ -d "crates/$dep" ]; then words+=(--extern "$dep=../$dep/out/rlib/$dep.rlib"); else words+=(--extern "$dep=$kit/rlibs/$dep.rlib"); fi
+    for name in $(needs_of "$1"); do
+        if [ -d "crates/$name" ]; then words+=(--extern "$name=../$name/out/rlib/$name.rlib"); else words+=(--extern "$name=$kit/rlibs/$name.rlib"); fi
     done
-    for dep in $(built_on "$1"); do
-        [ "$dep" = "$1" ] || words+=(-L "dependency=../$dep/out/rlib")
+    for name in $(crates_of "$1"); do
+        [ "$name" = "$1" ] || words+=(-L "dependency=../$name/out/rlib")
     done
     words+=(--antt-project "$kit/rattle/logic/antt-project.json" --logic-built "$kit/logic_built" --jobs 1 --links "$1=" --crate-type staticlib)
-    cd "crates/$1" && mkdir -p out && "$kit/bin/rattle" build "${words[@]}" --toolchain "$kit/toolchain" --backend llvm -o "out/lib$1.a"
+    cd "crates/$1" && "$kit/bin/rattle" build "${words[@]}" --toolchain "$kit/toolchain" --backend llvm -o "$2"
 )
 
 # build_host: host/build/host, the example in C, linked with the proved library
