@@ -29,6 +29,7 @@ ask() {
     for verb; do
         grep "^$verb"$'\t' $list >>"$room/asked" || fail "word_list has no line $verb"
     done
+    # shellcheck disable=SC2094 # both read the file
     $command <"$room/asked" | cmp - "$room/asked" >&2 || fail "word_list and $command differ"
     wc -l <"$room/asked"
 }
@@ -56,7 +57,7 @@ manners() {
     local status=0
     $1 --help | grep -q '^usage:' || fail "$1 --help says no usage"
     $1 --none 2>"$room/said" >/dev/null || status=$?
-    [ "$status" -eq 2 ] && grep -q '^usage:' "$room/said" || fail "$1 --none: status $status, or no usage"
+    { [ "$status" -eq 2 ] && grep -q '^usage:' "$room/said"; } || fail "$1 --none: status $status, or no usage"
     status=0
     $1 --all 2>/dev/null >/dev/full || status=$?
     [ "$status" -eq 1 ] || fail "$1 --all into a full device: status $status"
@@ -64,6 +65,7 @@ manners() {
 
 questions=$(wc -l <$list)
 [ "$questions" -ge 39 ] || fail "word_list prints $questions lines only"
+# shellcheck disable=SC2094 # both read the file
 $second --words <$list | cmp - $list || fail "word_list and the second program differ"
 $second --sums | cmp - $sums || fail "word_sums and the second program differ"
 echo "words: $questions answers of word_list, and the sums over all 65,536 words and all images at every address, are the same"

@@ -1,15 +1,16 @@
 #!/usr/bin/env python3
-"""tools/walks/walks.py: writes the laws of crate lent_walks, one walk for each kind of entry over a lent record.
+"""Writes the laws of crate lent_walks, one walk for each kind of entry over a lent record.
+
+usage: tools/walks/walks.py
 
 Rattle proves the entries by itself, and no proof cites the laws; they stand as theorems on such code, over any record, any values and any callee.
-Run from the top of the repository. Written: crates/lent_walks/proofs/LAW.antt for each of KINDS, and proofs/Lib.antt. The text around the places is
-in law.txt.
+Written: crates/lent_walks/proofs/LAW.antt for each of KINDS, and proofs/Lib.antt. The text around the places is in law.txt.
 """
 import re
 import sys
 from pathlib import Path
 
-HERE = Path(__file__).parent
+HERE = Path(__file__).resolve().parent
 
 LAWS = 'lent_walks'
 
@@ -431,10 +432,11 @@ KINDS = [
 
 def main():
     if len(sys.argv) != 1:
-        sys.exit(__doc__)
+        print(__doc__.strip())
+        sys.exit(0 if sys.argv[1] in ('-h', '--help') else 2)
     text = (HERE / 'law.txt').read_text()
     laws = [Law(*kind) for kind in KINDS]
-    folder = Path('crates') / LAWS / 'proofs'
+    folder = HERE.parent.parent / 'crates' / LAWS / 'proofs'
     for law in laws:
         write(folder / f'{law.name}.antt', fill(text, law.holes()))
     write(folder / 'Lib.antt', ''.join(f'pub mod {name}\n' for name in ['Lent', *sorted(law.name for law in laws)]))
