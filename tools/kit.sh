@@ -234,12 +234,11 @@ in_copy() (
     cd "$copy" && "$@" >>"$OLDPWD/target/build.log" 2>&1
 )
 
-# tell_proved MANY: of what `rt ci` says a line for each crate that is done
+# tell_proved MANY: of what `rt ci` says a line for each crate that it proves, or does not; how many were proved already
 tell_proved() {
-    awk -v many="$1" '/^rt: [a-z_0-9]+ (proved|is kept:|NOT PROVED)/ {
-            sub(/^rt: /, ""); sub(/is kept:.*/, "is proved already")
-            print ++done " of " many ": " $0; fflush()
-        }'
+    awk -v many="$1" '/^rt: [a-z_0-9]+ is kept:/ { done++; kept++ }
+        /^rt: [a-z_0-9]+ (proved$|NOT PROVED)/ { print ++done " of " many ": " substr($0, 5); fflush() }
+        END { if (kept) print kept " of " many " were proved already" }'
 }
 
 # is_proved_below CRATE: every library that it is built on lies here as `rt ci` proved it: it has no stamp, as those of other commands do
