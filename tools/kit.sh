@@ -229,7 +229,7 @@ in_copy() (
         many=$((many + 1))
     done
     echo "${0##*/}: proving $1 and what it is built on, $many crates; what rt ci proved on this machine is taken up, the rest takes some minutes" >&2
-    (cd "$copy" && rt ci </dev/null 2>&1) | tee target/build.log | tell_proved "$many" >&2 || exit
+    (cd "$copy" && rt ci </dev/null 2>&1) | sed -u "s#$copy/##g" | tee target/build.log | tell_proved "$many" >&2 || exit
     shift
     cd "$copy" && "$@" >>"$OLDPWD/target/build.log" 2>&1
 )
