@@ -131,20 +131,20 @@ is_new() {
 # make_new FILE NAME COMMAND...: unless FILE is new, the command writes it under the name that it is given last. FILE is then as new as the
 # moment when that began, so that what was changed meanwhile is newer.
 make_new() {
-    local file=$1 name=$2
+    local file=$1 name=$2 part=$1.$$
     shift 2
     is_new "$file" && return 0
     need_kit
     mkdir -p target "${file%/*}"
-    : >"$file.begun"
-    if ! "$@" "$PWD/$file.part"; then
-        rm -f "$file.begun" "$file.part"
+    : >"$part.begun"
+    if ! "$@" "$PWD/$part"; then
+        rm -f "$part" "$part.begun"
         echo "${0##*/}: $name could not be built; target/build.log says why" >&2
         exit 2
     fi
-    touch -r "$file.begun" "$file.part"
-    mv "$file.part" "$file"
-    rm "$file.begun"
+    touch -r "$part.begun" "$part"
+    rm "$part.begun"
+    mv "$part" "$file"
 }
 
 # program_of NAME: where `rt ci` leaves the program, proved
