@@ -3,7 +3,7 @@
 
 usage: tools/walks/walks.py
 
-Rattle proves the entries by itself, and no proof cites the laws; they stand as theorems on such code, over any record, any values and any callee.
+Rattle proves the entries by itself, and no proof of a function cites the laws; they stand as theorems on such code, over any record, any values and any callee.
 Written: crates/lent_walks/proofs/LAW.antt for each of KINDS, and proofs/Lib.antt. The text around the places is in law.txt.
 """
 import re
