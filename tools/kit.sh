@@ -251,7 +251,8 @@ is_proved_below() {
 }
 
 # archive_over_libraries CRATE FILE: proves the static library from nothing and writes its archive, over the libraries below it as they lie there. The
-# words are those of `rt lib`, which takes no library of `rt ci`'s: it would prove each once more.
+# words are those of `rt lib`, which takes no library of `rt ci`'s: it would prove each once more; and plain x86-64, as the archives are for any such
+# processor, while the kit's default needs SSE4.2 and POPCNT, and an archive does not look for them.
 archive_over_libraries() (
     kit=$(kit_home)
     words=(--crate-name "$1" src/lib.rt --extern "std=$kit/rlibs/std.rlib" -L "dependency=$kit/rlibs")
@@ -261,7 +262,7 @@ archive_over_libraries() (
     for name in $(crates_of "$1"); do
         [ "$name" = "$1" ] || words+=(-L "dependency=../$name/out/rlib")
     done
-    words+=(--antt-project "$kit/rattle/logic/antt-project.json" --logic-built "$kit/logic_built" --jobs 1 --links "$1=" --crate-type staticlib)
+    words+=(--antt-project "$kit/rattle/logic/antt-project.json" --logic-built "$kit/logic_built" --jobs 1 --links "$1=" --crate-type staticlib --cpu x86-64)
     cd "crates/$1" && "$kit/bin/rattle" build "${words[@]}" --toolchain "$kit/toolchain" --backend llvm -o "$2"
 )
 
