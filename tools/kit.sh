@@ -95,6 +95,7 @@ is_x86_64() {
 
 need_kit() {
     command -v rt >/dev/null || missing "rt" "It comes with the Rattle kit: put the kit's bin folder on PATH."
+    need_python # rt runs on it
 }
 
 need_c() {
