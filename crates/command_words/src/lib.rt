@@ -5,24 +5,16 @@ ghost use Rattle.std.specs.Prelude.{◌≡◌};
 ghost use Rattle.word_answers.specs.Answers.{encoded_report};
 ghost use Rattle.command_words.specs.Command.{command_report, command_in_size, command_fields, last_in_size, last_of};
 
-use word_answers::{Encoded, one_bit};
-use word_parts::packed;
+use word_answers::OutsideSize;
+use word_parts::packed::{self, LAST_OF_FIVE, PAST_ELEVEN, PAST_FIVE, PAST_TEN};
 
 // "sub-address 0 makes it a mode command"
 const MODE_SUB: u32 = 0;
-// the last address, sub-address and mode number; the most words
-const LAST_OF_FIVE: u32 = 31;
-
+// the most words of a message
 const MOST_WORDS: u32 = 32;
-// what a field was multiplied by that stands above eleven bits, above ten, above five
-const PAST_ELEVEN: u32 = 2048;
-
-const PAST_TEN: u32 = 1024;
-
-const PAST_FIVE: u32 = 32;
 
 // A command by its fields. `last` is the number of words or, at sub-address 0, the number of the mode command.
-#[derive(Clone, Copy)]
+#[derive(Clone, Copy, Debug, PartialEq, Eq)]
 pub struct Command {
     pub address: u32,
     pub transmit: bool,
@@ -31,13 +23,13 @@ pub struct Command {
 }
 
 // The word of a command, refused exactly when a field is outside its size.
-pub fn word(c: Command) -> Encoded
+pub fn word(c: Command) -> Result<u16, OutsideSize>
     ensures { encoded_report result ≡ command_report c }
 {
     if in_size(c) {
-        Encoded::Word(packed::command(c.address, one_bit(c.transmit), c.sub, c.last))
+        Ok(packed::command(c.address, c.transmit as u32, c.sub, c.last))
     } else {
-        Encoded::OutsideSize
+        Err(OutsideSize)
     }
 }
 
@@ -55,39 +47,32 @@ pub fn fields(word: u16) -> Command
     }
 }
 
+#[tactic(auto, unfolding(crate::specs::Command::command_in_size, laws::specs::All::all_of))]
 fn in_size(c: Command) -> bool
     ensures { result ≡ command_in_size c }
 {
-    if LAST_OF_FIVE < c.address {
-        return false;
-    }
-    if LAST_OF_FIVE < c.sub {
-        return false;
-    }
-    last_in_size(c.sub == MODE_SUB, c.last)
+    c.address <= LAST_OF_FIVE && c.sub <= LAST_OF_FIVE && last_in_size(c.sub == MODE_SUB, c.last)
 }
 
+#[tactic(auto, unfolding(crate::specs::Command::last_in_size))]
 fn last_in_size(mode: bool, last: u32) -> bool
     ensures { result ≡ last_in_size mode last }
 {
     if mode {
-        return last <= LAST_OF_FIVE;
+        last <= LAST_OF_FIVE
+    } else {
+        1 <= last && last <= MOST_WORDS
     }
-    if last == 0 {
-        return false;
-    }
-    last <= MOST_WORDS
 }
 
 // What the last five bits say.
+#[tactic(auto, unfolding(crate::specs::Command::last_of))]
 fn last_of(mode: bool, field: u32) -> u32
     ensures { result ≡ last_of mode field }
 {
-    if mode {
-        return field;
+    if !mode && field == 0 {
+        MOST_WORDS
+    } else {
+        field
     }
-    if field == 0 {
-        return MOST_WORDS;
-    }
-    field
 }

@@ -5,25 +5,16 @@ ghost use Rattle.std.specs.Prelude.{◌≡◌};
 ghost use Rattle.word_answers.specs.Answers.{encoded_report};
 ghost use Rattle.status_words.specs.Status.{status_report, status_in_size, status_fields};
 
-use word_answers::{Encoded, one_bit};
-use word_parts::packed;
+use word_answers::OutsideSize;
+use word_parts::packed::{self, LAST_OF_FIVE, PAST_ELEVEN, PAST_ONE, PAST_TEN};
 
-// the last address and status field
-const LAST_OF_FIVE: u32 = 31;
-
+// the last status field, and what a field would be multiplied by that stood above it
 const LAST_OF_NINE: u32 = 511;
-
-// what a field was multiplied by that stands above eleven bits, above ten, above one
-const PAST_ELEVEN: u32 = 2048;
-
-const PAST_TEN: u32 = 1024;
-
-const PAST_ONE: u32 = 2;
 
 const PAST_NINE: u32 = 512;
 
 // A status word by its fields: message error, the nine status bits, terminal failure.
-#[derive(Clone, Copy)]
+#[derive(Clone, Copy, Debug, PartialEq, Eq)]
 pub struct Status {
     pub address: u32,
     pub error: bool,
@@ -32,13 +23,13 @@ pub struct Status {
 }
 
 // The word of a status, refused exactly when a field is outside its size.
-pub fn word(s: Status) -> Encoded
+pub fn word(s: Status) -> Result<u16, OutsideSize>
     ensures { encoded_report result ≡ status_report s }
 {
     if in_size(s) {
-        Encoded::Word(packed::status(s.address, one_bit(s.error), s.status, one_bit(s.failure)))
+        Ok(packed::status(s.address, s.error as u32, s.status, s.failure as u32))
     } else {
-        Encoded::OutsideSize
+        Err(OutsideSize)
     }
 }
 
@@ -56,11 +47,9 @@ pub fn fields(word: u16) -> Status
     }
 }
 
+#[tactic(auto, unfolding(crate::specs::Status::status_in_size, laws::specs::All::all_of))]
 fn in_size(s: Status) -> bool
     ensures { result ≡ status_in_size s }
 {
-    if LAST_OF_FIVE < s.address {
-        return false;
-    }
-    s.status <= LAST_OF_NINE
+    s.address <= LAST_OF_FIVE && s.status <= LAST_OF_NINE
 }

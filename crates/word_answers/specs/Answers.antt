@@ -1,7 +1,6 @@
 -- ANSWERS: the paper's number and values for each case of what a word entry answers.
-use Rattle.std.specs.Prelude.{Bool, cond, List, [], ◌∷◌, ℕ}
-use Rattle.word_answers.specs.declared.Encoded.{Encoded}
-use Rattle.word_answers.specs.declared.Encoded.TheVariants as encoded
+use Rattle.std.specs.Prelude.{Bool, cond, List, [], ◌∷◌, ℕ, Result, Ok, Err}
+use Rattle.word_answers.specs.declared.OutsideSize.{OutsideSize}
 
 -- number: 0 accepted, else the refusal's number; values: what is answered with it
 pub record WordReport (A : Type 0) : Type 0 where
@@ -23,6 +22,10 @@ outside_size = 11
 unfoldable pub if_in_size : {A : Type 0} → Bool → A → WordReport A
 if_in_size is_in_size value = cond is_in_size (word_answered value) (word_refused outside_size)
 
-abbrev pub encoded_report : Encoded → WordReport ℕ
-encoded_report (encoded.Word w) = word_answered w
-encoded_report encoded.OutsideSize = word_refused outside_size
+abbrev pub report : {A : Type 0} → Result A OutsideSize → WordReport A
+report (Ok value) = word_answered value
+report (Err _) = word_refused outside_size
+
+-- of an entry that makes a word of fields
+abbrev pub encoded_report : Result ℕ OutsideSize → WordReport ℕ
+encoded_report answer = report answer

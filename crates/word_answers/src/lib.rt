@@ -1,35 +1,23 @@
-// What the word entries answer when they make a word of fields, and a field of one bit.
+// What the word entries answer.
 #![tactic(auto)]
 
 ghost use Rattle.std.specs.Prelude.{◌≡◌};
-ghost use Rattle.laws.specs.Bits.{bit};
-ghost use Rattle.word_answers.specs.Answers.{encoded_report};
+ghost use Rattle.word_answers.specs.Answers.{report};
 
 // the refusal's number
 pub const OUTSIDE_SIZE: u32 = 11;
 
-// The answer of an entry that makes a word of fields: the word, or that a field is outside its size (refusal 11).
-#[derive(Clone, Copy)]
-pub enum Encoded {
-    Word(u16),
-    OutsideSize,
-}
+// That a field, an expected address or a status image is outside its size: the one refusal of a word entry. The entry
+// answers `Result<T, OutsideSize>`: the word made of fields, or the verdict on an image.
+#[derive(Clone, Copy, Debug, PartialEq, Eq)]
+pub struct OutsideSize;
 
-impl Encoded {
-    // The paper's number of the answer: 0 accepted, else the refusal's.
-    pub fn number(self) -> u32
-        ensures { result ≡ (encoded_report self).number }
-    {
-        match self {
-            Encoded::Word(_) => 0,
-            Encoded::OutsideSize => OUTSIDE_SIZE,
-        }
-    }
-}
-
-// A field of one bit.
-pub fn one_bit(on: bool) -> u32
-    ensures { result ≡ bit on }
+// The paper's number of an answer: 0 accepted, else the refusal's.
+pub fn number<T: Copy>(answer: Result<T, OutsideSize>) -> u32
+    ensures { result ≡ (report answer).number }
 {
-    if on { 1 } else { 0 }
+    match answer {
+        Ok(_) => 0,
+        Err(_) => OUTSIDE_SIZE,
+    }
 }

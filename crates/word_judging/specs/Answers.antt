@@ -1,14 +1,12 @@
 -- The paper's number and values for each case of what judging answers, and what C is told of them.
-use Rattle.std.specs.Prelude.{List, [], ◌∷◌, ℕ}
-use Rattle.word_answers.specs.Answers.{WordReport, word_answered, word_refused, outside_size}
+use Rattle.std.specs.Prelude.{List, [], ◌∷◌, ℕ, Result}
+use Rattle.word_answers.specs.Answers.{WordReport, report}
+use Rattle.word_answers.specs.declared.OutsideSize.{OutsideSize}
 use Rattle.word_judging.specs.declared.Verdict.{Verdict}
 use Rattle.word_judging.specs.declared.Verdict.TheVariants as verdict
-use Rattle.word_judging.specs.declared.Judged.{Judged}
-use Rattle.word_judging.specs.declared.Judged.TheVariants as judged
 
-abbrev pub judged_report : Judged → WordReport Verdict
-judged_report (judged.As v) = word_answered v
-judged_report judged.OutsideSize = word_refused outside_size
+abbrev pub judged_report : Result Verdict OutsideSize → WordReport Verdict
+judged_report answer = report answer
 
 -- a verdict as a number
 abbrev pub verdict_number : Verdict → ℕ

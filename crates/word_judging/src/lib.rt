@@ -2,80 +2,64 @@
 #![tactic(auto)]
 
 ghost use Rattle.std.specs.Prelude.{◌≡◌, ◌<◌};
-ghost use Rattle.word_judging.specs.Answers.{judged_report, number_told};
+ghost use Rattle.word_judging.specs.Answers.{judged_report, number_told, verdict_number};
 ghost use Rattle.word_judging.specs.Judging.{judged_as, is_exception, verdict_of};
 
 use status_words::Status;
-use word_answers::OUTSIDE_SIZE;
+use word_answers::{OUTSIDE_SIZE, OutsideSize};
+use word_parts::packed::{LAST_OF_FIVE, PAST_ONE};
 
 pub mod parity;
 
-// the last address and image
-const LAST_OF_FIVE: u32 = 31;
-
+// the last image
 const LAST_OF_SEVENTEEN: u32 = 131071;
 
-// what the word was multiplied by that stands above the parity bit
-const PAST_ONE: u32 = 2;
-
-#[derive(Clone, Copy)]
+#[derive(Clone, Copy, Debug, PartialEq, Eq)]
 pub enum Verdict {
     Error,
     Exception,
     Clean,
 }
 
-// The answer to an image: the verdict, or that the image or the expected address is outside its size (refusal 11).
-#[derive(Clone, Copy)]
-pub enum Judged {
-    As(Verdict),
-    OutsideSize,
-}
-
-impl Judged {
-    // The paper's number of the answer: 0 accepted, else the refusal's.
+impl Verdict {
+    // A verdict as a number: 0 clean, 1 exception, 2 error.
     pub fn number(self) -> u32
-        ensures { result ≡ (judged_report self).number }
+        ensures { result ≡ verdict_number self }
     {
         match self {
-            Judged::As(_) => 0,
-            Judged::OutsideSize => OUTSIDE_SIZE,
+            Verdict::Clean => 0,
+            Verdict::Exception => 1,
+            Verdict::Error => 2,
         }
     }
+}
 
-    // The answer as one number, for C: 0 clean, 1 exception, 2 error, 11 refused.
-    pub fn told(self) -> u32
-        ensures { result ≡ number_told (judged_report self) }
-    {
-        match self {
-            Judged::OutsideSize => OUTSIDE_SIZE,
-            Judged::As(v) => match v {
-                Verdict::Clean => 0,
-                Verdict::Exception => 1,
-                Verdict::Error => 2,
-            },
-        }
+// An answer as one number, for C: the verdict's, or 11 refused.
+pub fn told(answer: Result<Verdict, OutsideSize>) -> u32
+    ensures { result ≡ number_told (judged_report answer) }
+{
+    match answer {
+        Ok(verdict) => verdict.number(),
+        Err(_) => OUTSIDE_SIZE,
     }
 }
 
 // An image judged against the expected address, refused exactly when one of the two is outside its size.
-pub fn judge(image: u32, address: u32) -> Judged
+#[tactic(auto, unfolding(crate::specs::Judging::judged_as, word_answers::specs::Answers::if_in_size, laws::specs::All::all_of))]
+pub fn judge(image: u32, address: u32) -> Result<Verdict, OutsideSize>
     ensures { judged_report result ≡ judged_as image address }
 {
-    if LAST_OF_SEVENTEEN < image {
-        return Judged::OutsideSize;
+    if LAST_OF_SEVENTEEN < image || LAST_OF_FIVE < address {
+        return Err(OutsideSize);
     }
-    if LAST_OF_FIVE < address {
-        return Judged::OutsideSize;
-    }
-    Judged::As(verdict_on(image, address))
+    Ok(verdict_on(image, address))
 }
 
 // The same, told as one number.
 pub fn judge_told(image: u32, address: u32) -> u32
     ensures { result ≡ number_told (judged_as image address) }
 {
-    judge(image, address).told()
+    told(judge(image, address))
 }
 
 fn verdict_on(image: u32, address: u32) -> Verdict
@@ -96,14 +80,9 @@ fn verdict_on(image: u32, address: u32) -> Verdict
     Verdict::Clean
 }
 
+#[tactic(auto, unfolding(crate::specs::Judging::is_exception))]
 fn exception(s: Status) -> bool
     ensures { result ≡ is_exception s }
 {
-    if s.error {
-        return true;
-    }
-    if s.status != 0 {
-        return true;
-    }
-    s.failure
+    s.error || s.status != 0 || s.failure
 }

@@ -11,12 +11,13 @@
 
 use command_words::Command;
 use status_words::Status;
-use word_answers::Encoded;
-use word_judging::{Judged, Verdict, parity};
+use word_answers::number;
+use word_judging::{Verdict, parity};
 
 // Standard output.
 const STDOUT: i32 = 1;
 
+// By crate io: a `println!` would make the program stand on more of the C library than its `write`.
 fn text(t: &[u8]) {
     io::write_all(STDOUT, t);
 }
@@ -27,8 +28,12 @@ fn field(n: u32) {
     io::print_decimal(STDOUT, n as u64);
 }
 
-fn flag(on: bool) {
-    field(if on { 1 } else { 0 });
+// The verb, and the numbers after it.
+fn begin(verb: &[u8], numbers: &[u32]) {
+    text(verb);
+    for n in numbers {
+        field(*n);
+    }
 }
 
 fn end() {
@@ -36,49 +41,43 @@ fn end() {
 }
 
 fn ask_command(address: u32, transmit: bool, sub: u32, last: u32) {
-    text(b"command");
-    field(address);
-    flag(transmit);
-    field(sub);
-    field(last);
     let answer = command_words::word(Command {
         address,
         transmit,
         sub,
         last,
     });
-    field(answer.number());
-    if let Encoded::Word(w) = answer {
+    begin(
+        b"command",
+        &[address, transmit as u32, sub, last, number(answer)],
+    );
+    if let Ok(w) = answer {
         field(w as u32);
     }
     end();
 }
 
 fn ask_fields(word: u16) {
-    text(b"fields");
-    field(word as u32);
     let c = command_words::fields(word);
-    field(c.address);
-    flag(c.transmit);
-    field(c.sub);
-    field(c.last);
+    begin(
+        b"fields",
+        &[word as u32, c.address, c.transmit as u32, c.sub, c.last],
+    );
     end();
 }
 
 fn ask_status(address: u32, error: bool, bits: u32, failure: bool) {
-    text(b"status");
-    field(address);
-    flag(error);
-    field(bits);
-    flag(failure);
     let answer = status_words::word(Status {
         address,
         error,
         status: bits,
         failure,
     });
-    field(answer.number());
-    if let Encoded::Word(w) = answer {
+    begin(
+        b"status",
+        &[address, error as u32, bits, failure as u32, number(answer)],
+    );
+    if let Ok(w) = answer {
         field(w as u32);
         field(word_sending::image(w));
     }
@@ -86,39 +85,38 @@ fn ask_status(address: u32, error: bool, bits: u32, failure: bool) {
 }
 
 fn ask_bits(word: u16) {
-    text(b"bits");
-    field(word as u32);
     let s = status_words::fields(word);
-    field(s.address);
-    flag(s.error);
-    field(s.status);
-    flag(s.failure);
+    begin(
+        b"bits",
+        &[
+            word as u32,
+            s.address,
+            s.error as u32,
+            s.status,
+            s.failure as u32,
+        ],
+    );
     end();
 }
 
 fn ask_parity(word: u16) {
-    text(b"parity");
-    field(word as u32);
-    field(parity::of_word(word) as u32);
+    begin(b"parity", &[word as u32, parity::of_word(word) as u32]);
     end();
 }
 
-fn verdict_text(v: Verdict) {
+fn verdict_text(v: Verdict) -> &'static [u8] {
     match v {
-        Verdict::Error => text(b"\terror"),
-        Verdict::Exception => text(b"\texception"),
-        Verdict::Clean => text(b"\tclean"),
+        Verdict::Error => b"\terror",
+        Verdict::Exception => b"\texception",
+        Verdict::Clean => b"\tclean",
     }
 }
 
 fn ask_judge(image: u32, address: u32) {
-    text(b"judge");
-    field(image);
-    field(address);
     let answer = word_judging::judge(image, address);
-    field(answer.number());
-    if let Judged::As(v) = answer {
-        verdict_text(v);
+    begin(b"judge", &[image, address, number(answer)]);
+    if let Ok(v) = answer {
+        text(verdict_text(v));
     }
     end();
 }

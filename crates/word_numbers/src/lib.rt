@@ -9,14 +9,14 @@ ghost use Rattle.word_numbers.specs.Numbers.{command_answer, status_answer, made
 
 use command_words::Command;
 use status_words::Status;
-use word_answers::{Encoded, OUTSIDE_SIZE, one_bit};
+use word_answers::{OUTSIDE_SIZE, OutsideSize};
 
 // the last number of a field of one bit
 const LAST_OF_ONE: u32 = 1;
 
 // What is answered to fields: the refusal's number, 0 for none, and the word, 0 after a refusal.
 #[repr(C)]
-#[derive(Clone, Copy)]
+#[derive(Clone, Copy, Debug, PartialEq, Eq)]
 pub struct Made {
     pub refusal: u32,
     pub word: u16,
@@ -24,7 +24,7 @@ pub struct Made {
 
 // A command word's fields.
 #[repr(C)]
-#[derive(Clone, Copy)]
+#[derive(Clone, Copy, Debug, PartialEq, Eq)]
 pub struct CommandNumbers {
     pub address: u32,
     pub transmit: u32,
@@ -34,7 +34,7 @@ pub struct CommandNumbers {
 
 // A status word's fields.
 #[repr(C)]
-#[derive(Clone, Copy)]
+#[derive(Clone, Copy, Debug, PartialEq, Eq)]
 pub struct StatusNumbers {
     pub address: u32,
     pub error: u32,
@@ -47,7 +47,7 @@ pub fn command_word(address: u32, transmit: u32, sub: u32, last: u32) -> Made
     ensures { result ≡ made_of (command_answer address transmit sub last) }
 {
     if LAST_OF_ONE < transmit {
-        return made_of(Encoded::OutsideSize);
+        return made_of(Err(OutsideSize));
     }
     made_of(command_words::word(Command {
         address,
@@ -62,10 +62,10 @@ pub fn status_word(address: u32, error: u32, status: u32, failure: u32) -> Made
     ensures { result ≡ made_of (status_answer address error status failure) }
 {
     if LAST_OF_ONE < error {
-        return made_of(Encoded::OutsideSize);
+        return made_of(Err(OutsideSize));
     }
     if LAST_OF_ONE < failure {
-        return made_of(Encoded::OutsideSize);
+        return made_of(Err(OutsideSize));
     }
     made_of(status_words::word(Status {
         address,
@@ -82,7 +82,7 @@ pub fn command_fields(word: u16) -> CommandNumbers
     let c = command_words::fields(word);
     CommandNumbers {
         address: c.address,
-        transmit: one_bit(c.transmit),
+        transmit: c.transmit as u32,
         sub: c.sub,
         last: c.last,
     }
@@ -95,18 +95,18 @@ pub fn status_fields(word: u16) -> StatusNumbers
     let s = status_words::fields(word);
     StatusNumbers {
         address: s.address,
-        error: one_bit(s.error),
+        error: s.error as u32,
         status: s.status,
-        failure: one_bit(s.failure),
+        failure: s.failure as u32,
     }
 }
 
-fn made_of(answer: Encoded) -> Made
+fn made_of(answer: Result<u16, OutsideSize>) -> Made
     ensures { result ≡ made_of (encoded_report answer) }
 {
     match answer {
-        Encoded::Word(word) => Made { refusal: 0, word },
-        Encoded::OutsideSize => Made {
+        Ok(word) => Made { refusal: 0, word },
+        Err(_) => Made {
             refusal: OUTSIDE_SIZE,
             word: 0,
         },

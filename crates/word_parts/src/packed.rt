@@ -3,13 +3,16 @@ ghost use Rattle.std.specs.Prelude.{◌≡◌, ◌<◌};
 ghost use Rattle.word_parts.specs.Packed.{command_word, status_word};
 
 // What a field is multiplied by that stands above eleven bits, above ten, above five, above one.
-const PAST_ELEVEN: u32 = 2048;
+pub const PAST_ELEVEN: u32 = 2048;
 
-const PAST_TEN: u32 = 1024;
+pub const PAST_TEN: u32 = 1024;
 
-const PAST_FIVE: u32 = 32;
+pub const PAST_FIVE: u32 = 32;
 
-const PAST_ONE: u32 = 2;
+pub const PAST_ONE: u32 = 2;
+
+// The last number of five bits: of addresses, sub-addresses and mode commands.
+pub const LAST_OF_FIVE: u32 = 31;
 
 // The command word; of `last` the five low bits.
 #[tactic(auto, unfolding(crate::specs::Packed::command_word))]

@@ -5,8 +5,7 @@
 ghost use Rattle.std.specs.Prelude.{◌≡◌};
 ghost use Rattle.word_parts.specs.Parity.{parity_bit, image_of};
 
-// what the word is multiplied by that stands above the parity bit
-const PAST_ONE: u32 = 2;
+use word_parts::packed::PAST_ONE;
 
 // The parity bit of a word: its ones and this bit are odd in number.
 pub fn parity(word: u16) -> u32

@@ -21,7 +21,7 @@
 
 use command_words::Command;
 use status_words::Status;
-use word_answers::Encoded;
+use word_answers::OutsideSize;
 
 // Standard output.
 const STDOUT: i32 = 1;
@@ -30,23 +30,19 @@ fn mixed(sum: u32, value: u32) -> u32 {
     (((sum as u64) * 31 + (value as u64)) % 65521) as u32
 }
 
-fn mixed_bit(sum: u32, on: bool) -> u32 {
-    mixed(sum, if on { 1 } else { 0 })
-}
-
 // The number of an answer, and the word if it is accepted.
-fn mixed_answer(sum: u32, answer: Encoded) -> u32 {
-    let sum = mixed(sum, answer.number());
+fn mixed_answer(sum: u32, answer: Result<u16, OutsideSize>) -> u32 {
+    let sum = mixed(sum, word_answers::number(answer));
     match answer {
-        Encoded::Word(w) => mixed(sum, w as u32),
-        Encoded::OutsideSize => sum,
+        Ok(w) => mixed(sum, w as u32),
+        Err(_) => sum,
     }
 }
 
 fn mixed_command(sum: u32, word: u16) -> u32 {
     let c = command_words::fields(word);
     let sum = mixed(sum, c.address);
-    let sum = mixed_bit(sum, c.transmit);
+    let sum = mixed(sum, c.transmit as u32);
     let sum = mixed(sum, c.sub);
     let sum = mixed(sum, c.last);
     mixed_answer(sum, command_words::word(c))
@@ -55,9 +51,9 @@ fn mixed_command(sum: u32, word: u16) -> u32 {
 fn mixed_status(sum: u32, word: u16) -> u32 {
     let s = status_words::fields(word);
     let sum = mixed(sum, s.address);
-    let sum = mixed_bit(sum, s.error);
+    let sum = mixed(sum, s.error as u32);
     let sum = mixed(sum, s.status);
-    let sum = mixed_bit(sum, s.failure);
+    let sum = mixed(sum, s.failure as u32);
     let sum = mixed_answer(sum, status_words::word(s));
     mixed(sum, word_sending::image(word))
 }
@@ -71,68 +67,50 @@ struct Sums {
 
 fn block_sums(block: u32) -> Sums {
     let first = block % 16 * 4096;
-    let mut command: u32 = 0;
-    let mut status: u32 = 0;
-    let mut i: u32 = 0;
-    while i < 4096 {
-        let word = (first + i) as u16;
-        command = mixed_command(command, word);
-        status = mixed_status(status, word);
-        i += 1;
-    }
-    Sums { command, status }
-}
-
-fn mixed_fields(sum: u32, address: u32, sub: u32, last: u32, transmit: bool) -> u32 {
-    let c = Command {
-        address,
-        transmit,
-        sub,
-        last,
+    let mut sums = Sums {
+        command: 0,
+        status: 0,
     };
-    mixed_answer(sum, command_words::word(c))
-}
-
-fn mixed_lasts(start: u32, address: u32, sub: u32) -> u32 {
-    let mut sum = start;
-    let mut last: u32 = 0;
-    while last < 35 {
-        sum = mixed_fields(sum, address, sub, last, false);
-        sum = mixed_fields(sum, address, sub, last, true);
-        last += 1;
+    for i in 0..4096 {
+        let word = (first + i) as u16;
+        sums.command = mixed_command(sums.command, word);
+        sums.status = mixed_status(sums.status, word);
     }
-    sum
+    sums
 }
 
 fn all_fields(address: u32) -> u32 {
-    let mut sum: u32 = 0;
-    let mut sub: u32 = 0;
-    while sub < 34 {
-        sum = mixed_lasts(sum, address, sub);
-        sub += 1;
+    let mut sum = 0;
+    for sub in 0..34 {
+        for last in 0..35 {
+            for transmit in [false, true] {
+                let c = Command {
+                    address,
+                    transmit,
+                    sub,
+                    last,
+                };
+                sum = mixed_answer(sum, command_words::word(c));
+            }
+        }
     }
     sum
 }
 
-fn mixed_bits(sum: u32, address: u32, bits: u32, error: bool, failure: bool) -> u32 {
-    let s = Status {
-        address,
-        error,
-        status: bits,
-        failure,
-    };
-    mixed_answer(sum, status_words::word(s))
-}
-
 fn all_bits(address: u32) -> u32 {
-    let mut sum: u32 = 0;
-    let mut bits: u32 = 0;
-    while bits < 520 {
-        sum = mixed_bits(sum, address, bits, false, false);
-        sum = mixed_bits(sum, address, bits, false, true);
-        sum = mixed_bits(sum, address, bits, true, false);
-        sum = mixed_bits(sum, address, bits, true, true);
-        bits += 1;
+    let mut sum = 0;
+    for status in 0..520 {
+        for error in [false, true] {
+            for failure in [false, true] {
+                let s = Status {
+                    address,
+                    error,
+                    status,
+                    failure,
+                };
+                sum = mixed_answer(sum, status_words::word(s));
+            }
+        }
     }
     sum
 }
@@ -148,11 +126,7 @@ struct Tally {
 }
 
 fn counted(count: u32, value: u32, wanted: u32) -> u32 {
-    if value == wanted {
-        std::num::wrapping_add_u32(count, 1)
-    } else {
-        count
-    }
+    count.wrapping_add((value == wanted) as u32)
 }
 
 fn with_judged(t: Tally, value: u32) -> Tally {
@@ -173,14 +147,13 @@ fn all_images(address: u32) -> Tally {
         exception: 0,
         clean: 0,
     };
-    let mut image: u32 = 0;
-    while image < 131076 {
+    for image in 0..131076 {
         t = with_judged(t, word_judging::judge_told(image, address));
-        image += 1;
     }
     t
 }
 
+// By crate io: a `println!` would make the program stand on more of the C library than its `write`.
 fn text(t: &[u8]) {
     io::write_all(STDOUT, t);
 }
@@ -191,56 +164,36 @@ fn field(n: u32) {
     io::print_decimal(STDOUT, n as u64);
 }
 
-// The verb, the block or address, and its sum.
-fn line(verb: &[u8], at: u32, sum: u32) {
+// The verb, and the numbers after it.
+fn line(verb: &[u8], numbers: &[u32]) {
     text(verb);
-    field(at);
-    field(sum);
-}
-
-fn end() {
+    for n in numbers {
+        field(*n);
+    }
     text(b"\n");
 }
 
 fn block_lines(block: u32) {
     let sums = block_sums(block);
-    line(b"command", block, sums.command);
-    end();
-    line(b"status", block, sums.status);
-    end();
+    line(b"command", &[block, sums.command]);
+    line(b"status", &[block, sums.status]);
 }
 
 fn address_lines(address: u32) {
-    line(b"fields", address, all_fields(address));
-    end();
-    line(b"bits", address, all_bits(address));
-    end();
+    line(b"fields", &[address, all_fields(address)]);
+    line(b"bits", &[address, all_bits(address)]);
     let t = all_images(address);
-    line(b"judge", address, t.sum);
-    field(t.refused);
-    field(t.error);
-    field(t.exception);
-    field(t.clean);
-    end();
-}
-
-fn blocks() {
-    let mut block: u32 = 0;
-    while block < 16 {
-        block_lines(block);
-        block += 1;
-    }
-}
-
-fn addresses() {
-    let mut address: u32 = 0;
-    while address < 34 {
-        address_lines(address);
-        address += 1;
-    }
+    line(
+        b"judge",
+        &[address, t.sum, t.refused, t.error, t.exception, t.clean],
+    );
 }
 
 fn main() {
-    blocks();
-    addresses();
+    for block in 0..16 {
+        block_lines(block);
+    }
+    for address in 0..34 {
+        address_lines(address);
+    }
 }

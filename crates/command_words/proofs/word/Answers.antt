@@ -1,8 +1,6 @@
 -- `word` makes the word of fields in their sizes, and refuses all others.
-use mathlib.Core.Path.{sym, ap, ◌∙◌}
-use Prim.Native.Nat.{ℕ}
+use mathlib.Core.Path.{sym, ◌∙◌}
 use Rattle.laws.specs.Laws.Bits.{bit_below}
-use Rattle.word_parts.specs.Packed.{command_word}
 use Rattle.command_words.specs.Command.{word_of_command, command_report}
 use Rattle.command_words.specs.Laws.Command.{in_size}
 use Rattle.word_answers.specs.Laws.Answers.{sized_yes, sized_no}
@@ -10,13 +8,11 @@ use Rattle.command_words.proofs.word.Goals as goal
 
 pub command-requires : goal.command-requires
 command-requires c = let h = in_size c.args.c (sym c.in_size.ensures ∙ c.if-in_size.true) in
-    (h.address, rw c.one_bit.ensures (bit_below c.args.c.transmit), h.sub)
+    (h.address, bit_below c.args.c.transmit, h.sub)
 
 pub returns-then-in_size : goal.returns-then-in_size
 unfolding command_report
-returns-then-in_size c = let k = c.args.c in
-    sized_yes (sym c.in_size.ensures ∙ c.if-in_size.true)
-    (c.command.ensures ∙ ap (λ (t : ℕ). command_word k.address t k.sub k.last) c.one_bit.ensures)
+returns-then-in_size c = sized_yes (sym c.in_size.ensures ∙ c.if-in_size.true) c.command.ensures
 
 pub returns-else-in_size : goal.returns-else-in_size
 unfolding command_report

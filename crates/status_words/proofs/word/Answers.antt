@@ -1,7 +1,6 @@
 -- `word` makes the word of fields in their sizes, and refuses all others.
-use Rattle.std.proofs.Common.{sym, ap₂, ◌∙◌, ℕ}
+use Rattle.std.proofs.Common.{sym, ◌∙◌}
 use Rattle.laws.specs.Laws.Bits.{bit_below}
-use Rattle.word_parts.specs.Packed.{status_word}
 use Rattle.status_words.specs.Status.{word_of_status, status_report}
 use Rattle.status_words.specs.Laws.Status.{in_size}
 use Rattle.word_answers.specs.Laws.Answers.{sized_yes, sized_no}
@@ -11,14 +10,11 @@ pub status-requires : goal.status-requires
 status-requires c =
     let s = c.args.s in
     let h = in_size s (sym c.in_size.ensures ∙ c.if-in_size.true) in
-    (h.address, rw c.one_bit.ensures (bit_below s.error), h.status, rw c.one_bit-then-in_size.ensures (bit_below s.failure))
+    (h.address, bit_below s.error, h.status, bit_below s.failure)
 
 pub returns-then-in_size : goal.returns-then-in_size
 unfolding status_report
-returns-then-in_size c =
-    let s = c.args.s in
-    sized_yes (sym c.in_size.ensures ∙ c.if-in_size.true)
-    (c.status.ensures ∙ ap₂ (λ (e f : ℕ). status_word s.address e s.status f) c.one_bit.ensures c.one_bit-then-in_size.ensures)
+returns-then-in_size c = sized_yes (sym c.in_size.ensures ∙ c.if-in_size.true) c.status.ensures
 
 pub returns-else-in_size : goal.returns-else-in_size
 unfolding status_report

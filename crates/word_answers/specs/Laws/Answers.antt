@@ -1,9 +1,8 @@
 -- An answer is fixed by its number and values, and 11 is given exactly when something is outside its size.
-use Rattle.std.specs.Prelude.{◌≡◌, refl, ◌↔◌, Bool, true, false, [], ◌∷◌, ℕ}
+use Rattle.std.specs.Prelude.{◌≡◌, refl, ◌↔◌, Bool, true, false, [], ◌∷◌, ℕ, Result, Ok, Err}
 use Rattle.std.proofs.Common.{sym, ap, arith}
-use Rattle.word_answers.specs.declared.Encoded.{Encoded}
-use Rattle.word_answers.specs.declared.Encoded.TheVariants as encoded
-use Rattle.word_answers.specs.Answers.{WordReport, word_answered, word_refused, if_in_size, encoded_report}
+use Rattle.word_answers.specs.declared.OutsideSize.{OutsideSize}
+use Rattle.word_answers.specs.Answers.{WordReport, word_answered, word_refused, if_in_size, report, encoded_report}
 
 pub refused_exactly : {A : Type 0} (is_in_size : Bool) (value : A) → ((if_in_size is_in_size value).number ≡ 11) ↔ (is_in_size ≡ false)
 unfolding if_in_size
@@ -33,8 +32,11 @@ sized_accepted true x y e = (refl, accepted_same x y e)
 sized_accepted false x y e = absurd (accepted_never y (sym e))
 
 -- two answers with one report are one answer
-pub encoded_same : (a b : Encoded) → encoded_report a ≡ encoded_report b → a ≡ b
-encoded_same (encoded.Word v) (encoded.Word w) e = ap (λ (x : ℕ). encoded.Word x) (accepted_same v w e)
-encoded_same (encoded.Word v) encoded.OutsideSize e = absurd (accepted_never v e)
-encoded_same encoded.OutsideSize (encoded.Word w) e = absurd (accepted_never w (sym e))
-encoded_same encoded.OutsideSize encoded.OutsideSize e = refl
+pub report_same : {A : Type 0} (a b : Result A OutsideSize) → report a ≡ report b → a ≡ b
+report_same (Ok v) (Ok w) e = ap Ok (accepted_same v w e)
+report_same (Ok v) (Err _) e = absurd (accepted_never v e)
+report_same (Err _) (Ok w) e = absurd (accepted_never w (sym e))
+report_same (Err x) (Err y) e = refl
+
+pub encoded_same : (a b : Result ℕ OutsideSize) → encoded_report a ≡ encoded_report b → a ≡ b
+encoded_same a b e = report_same a b e
