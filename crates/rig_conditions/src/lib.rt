@@ -2,115 +2,78 @@
 // condition goes by a table of marks.
 #![tactic(auto)]
 
-ghost use Rattle.std.specs.Prelude.{◌≡◌, ◌≤◌};
+ghost use Rattle.std.specs.Prelude.{◌≡◌, ◌+◌, ◌*◌, ◌≤◌};
 ghost use Rattle.laws.specs.All.{all};
-ghost use Rattle.rig_tables.specs.Tests.{named_b, small_one, conditions_b};
+ghost use Rattle.rig_tables.specs.Tests.{named_b, conditions_b};
 ghost use Rattle.rig_tables.specs.Lines.{Placed};
 ghost use Rattle.rig_conditions.specs.Tables.{ZeroFrom, place_marks, matched_b};
 ghost use Rattle.rig_conditions.specs.Passes.{under_one};
 
-use rig_tables::{CONDITIONS, LINES};
+use rig::Rig;
+use rig_tables::{CONDITIONS, POSITIONS};
 
-// Here and below a loop over a long table marks what fails and goes on: one that does not leave early tests many entries at
-// once. Each entry is at most top.
-fn at_most(l: &[u8; CONDITIONS], top: u8) -> bool
-    ensures { result ≡ all 1040 (small_one l.now top) }
-{
-    let mut bad: u8 = 0;
-    let mut i: usize = 0;
-    while i < CONDITIONS {
-        if top < l[i] {
-            bad = 1;
-        }
-        i = i + 1;
-    }
-    bad == 0
-}
-
-// Each entry is at most the other table's at its place.
-fn under<'a>(a: &'a [u8; CONDITIONS], b: &'a [u8; CONDITIONS]) -> bool
+// Each entry is at most the other table's at its place. Here and below a loop over a long table marks what fails and goes on: one
+// that does not leave early tests many entries at once. An index: two tables are read at the same place.
+#[tactic(auto, using(rig_tables::specs::Laws::Passes::steps))]
+fn under(a: &[u8; CONDITIONS], b: &[u8; CONDITIONS]) -> bool
     ensures { result ≡ all 1040 (under_one a.now b.now) }
 {
     let mut bad: u8 = 0;
-    let mut i: usize = 0;
-    while i < CONDITIONS {
+    for i in 0..CONDITIONS {
         if b[i] < a[i] {
             bad = 1;
         }
-        i = i + 1;
     }
     bad == 0
 }
 
-pub fn conditions<'a>(
-    present: &'a [u8; CONDITIONS],
-    latched: &'a [u8; CONDITIONS],
-    desired: &'a [u8; CONDITIONS],
-) -> bool
-    ensures { result ≡ conditions_b present.now latched.now desired.now }
+#[tactic(auto, using(crate::specs::Passes::conditions_each))]
+pub fn conditions(rig: &Rig) -> bool
+    ensures { result ≡ conditions_b rig.now.present rig.now.latched rig.now.desired }
 {
-    if !at_most(present, 1) {
-        return false;
-    }
-    if !under(latched, present) {
-        return false;
-    }
-    under(desired, present)
+    rig_tables::at_most(&rig.present, 1)
+        && under(&rig.latched, &rig.present)
+        && under(&rig.desired, &rig.present)
 }
 
 // The conditions that A lines name, marked by 1.
-pub fn place_marks<'a>(
-    n: usize,
-    line_task: &'a [u8; LINES],
-    line_pos: &'a [u8; LINES],
-) -> [u8; CONDITIONS]
-    requires { Placed n line_task.now line_pos.now }
-    ensures { result ≡ place_marks n line_task.now line_pos.now }
+#[tactic(auto, using(laws::specs::Laws::Iter::iter_zero, laws::specs::Laws::Iter::iter_step), unfolding(crate::specs::Tables::place_marks, laws::specs::Owners::marks))]
+pub fn place_marks(rig: &Rig) -> [u8; CONDITIONS]
+    requires { Placed rig.now.lines rig.now.line_task rig.now.line_pos }
+    ensures { result ≡ place_marks rig.now.lines rig.now.line_task rig.now.line_pos }
 {
     let mut table = [0u8; CONDITIONS];
-    let mut k: usize = 0;
-    while k < n {
-        let p = rig_tables::place_of(line_task[k], line_pos[k]);
-        table[p] = 1;
-        k = k + 1;
+    for k in 0..rig.lines as usize {
+        table[rig_tables::place_of(rig.line_task[k], rig.line_pos[k])] = 1;
     }
     table
 }
 
 // The marked places are the conditions: each condition that an A line names has a C line, and each condition has an A line.
-// From `end` on there is neither.
-pub fn matched<'a>(end: usize, present: &'a [u8; CONDITIONS], table: &'a [u8; CONDITIONS]) -> bool
-    requires { (end ≤ 1040) × (ZeroFrom end present.now × ZeroFrom end table.now) }
-    ensures { result ≡ matched_b present.now table.now }
+// Behind the last task's places there is neither.
+#[tactic(auto, using(rig_tables::specs::Laws::Passes::steps, crate::specs::Laws::matched_end))]
+pub fn matched(rig: &Rig, table: &[u8; CONDITIONS]) -> bool
+    requires { (16 * (rig.now.tasks + 1) ≤ 1040)
+        × (ZeroFrom (16 * (rig.now.tasks + 1)) rig.now.present
+        × ZeroFrom (16 * (rig.now.tasks + 1)) table.now) }
+    ensures { result ≡ matched_b rig.now.present table.now }
 {
     let mut bad: u8 = 0;
-    let mut p: usize = 0;
-    while p < end {
-        if present[p] != table[p] {
+    for p in 0..POSITIONS * (rig.tasks as usize + 1) {
+        if rig.present[p] != table[p] {
             bad = 1;
         }
-        p = p + 1;
     }
     bad == 0
 }
 
 // Each condition that an A line names has a C line: which of the two rules is broken, where the marks are not the conditions.
-pub fn names_present<'a>(
-    n: usize,
-    present: &'a [u8; CONDITIONS],
-    line_task: &'a [u8; LINES],
-    line_pos: &'a [u8; LINES],
-) -> bool
-    requires { Placed n line_task.now line_pos.now }
-    ensures { result ≡ named_b n present.now line_task.now line_pos.now }
+pub fn names_present(rig: &Rig) -> bool
+    requires { Placed rig.now.lines rig.now.line_task rig.now.line_pos }
+    ensures { result ≡ named_b rig.now.lines rig.now.present rig.now.line_task rig.now.line_pos }
 {
-    let mut k: usize = 0;
-    while k < n {
-        let p = rig_tables::place_of(line_task[k], line_pos[k]);
-        if present[p] != 1 {
-            return false;
-        }
-        k = k + 1;
-    }
-    true
+    (0..rig.lines as usize).all(|k| {
+        let p = rig_tables::place_of(rig.line_task[k], rig.line_pos[k]);
+        rig.present[p] == 1
+    })
 }

@@ -5,6 +5,7 @@ ghost use Rattle.std.specs.Prelude.{◌≡◌, ◌&&◌, not, ◌+◌, ◌-◌, 
 ghost use Rattle.rig_tables.specs.Tests.{at, climb, controllers_b};
 ghost use Rattle.rig_controllers.specs.Laws.Climb.{Low};
 
+use rig::Rig;
 use rig_tables::TASK_PLACES;
 
 // Up from task x, controller by controller, while the number is above c. Over all tasks of a right rig this takes no more
@@ -15,7 +16,7 @@ fn climbed(controller: &[u8; TASK_PLACES], c: usize, x: usize) -> usize
 {
     let mut y = x;
     while c < y {
-        y = rig_tables::wide(controller[y]);
+        y = controller[y] as usize;
     }
     y
 }
@@ -26,27 +27,23 @@ fn controller_ok(controller: &[u8; TASK_PLACES], t: usize) -> bool
         ≡ (not (eqb (at controller.now t) 0)
         && eqb (climb (at controller.now) (at controller.now t) 64 (t - 1)) (at controller.now t)) }
 {
-    let c = rig_tables::wide(controller[t]);
-    if c == 0 {
-        return false;
-    }
-    climbed(controller, c, t - 1) == c
+    let c = controller[t] as usize;
+    c != 0 && climbed(controller, c, t - 1) == c
 }
 
-// Task 1 has controller 0; every other controller is the previous task or one of that task's ancestors.
-pub fn controllers(tasks: usize, controller: &[u8; TASK_PLACES]) -> bool
-    requires { (1 ≤ tasks) × (tasks ≤ 64) }
-    ensures { result ≡ controllers_b tasks controller.now }
+// Task 1 has controller 0; every other controller is the previous task or one of that task's ancestors. A loop, no `all`: that the
+// climb from a task ends rests on the tasks before it.
+pub fn controllers(rig: &Rig) -> bool
+    requires { (1 ≤ rig.now.tasks) × (rig.now.tasks ≤ 64) }
+    ensures { result ≡ controllers_b rig.now.tasks rig.now.controller }
 {
-    if controller[1] != 0 {
+    if rig.controller[1] != 0 {
         return false;
     }
-    let mut t: usize = 2;
-    while t < tasks + 1 {
-        if !controller_ok(controller, t) {
+    for t in 2..=rig.tasks as usize {
+        if !controller_ok(&rig.controller, t) {
             return false;
         }
-        t = t + 1;
     }
     true
 }

@@ -1,11 +1,14 @@
 -- Lines of one condition stand together, so that the tests by neighbours say what the test of rig_tables says.
-use Rattle.std.specs.Prelude.{◌≡◌, refl, Bool, ◌&&◌, true, false, List, ℕ, ◌+◌, ◌-◌, ◌≤◌, ◌<◌, zero, suc, ltb, ◌≢◌}
+use Rattle.std.specs.Prelude.{◌≡◌, refl, Bool, ◌&&◌, ◌||◌, true, false, List, ℕ, ◌+◌, ◌-◌, ◌≤◌, ◌<◌, zero, suc, length, take, drop, ltb, ◌≢◌}
 use Rattle.std.proofs.Math.Bool.{not}
 use Rattle.std.proofs.Math.Dec.{eqb}
 use Rattle.laws.specs.All.{all}
 use Rattle.rig_tables.specs.Tests.{at, place_of, is_only_one, minor_condition_one, marked}
-use Rattle.std.proofs.Common.{arith, eq-eqb, ne_eqb, ltb-true, ltb-false}
-use Rattle.laws.specs.Cases.{by}
+use Rattle.std.proofs.lemmas.List.{get_or-take, get_or-drop, length-take-le, length-drop}
+use Rattle.laws.specs.Laws.All.{all_same}
+use Rattle.std.proofs.Common.{sym, ◌∙◌, ap, arith, eqb-true, eq-eqb, ne_eqb, ltb-true, ltb-false}
+use Rattle.std.proofs.lemmas.Bool.{eqb-false}
+use Rattle.laws.specs.Cases.{by, or_yes, or_skip}
 use Rattle.laws.specs.Laws.Decides.{is_eqb, is_ltb, is_and, is_not, is_then, is_all, is_said, is_same}
 use Rattle.rig_tables.specs.Lines.{Together}
 use Rattle.rig_minor.specs.Neighbours.{same_before, same_behind, minor_ok_b}
@@ -15,6 +18,19 @@ and_swap true true = refl
 and_swap true false = refl
 and_swap false true = refl
 and_swap false false = refl
+
+-- a line's flag, taken out with others
+pub flag_at : (line_flag : List ℕ) (k m i : ℕ) → i < m → at (take m (drop k line_flag)) i ≡ at line_flag (k + i)
+flag_at line_flag k m i h = get_or-take m (drop k line_flag) i 0 h ∙ get_or-drop k line_flag i 0
+
+-- no flag of m lines from line k on is marked, as those lines' flags are taken out of the table
+pub flags_at : (flags line_flag : List ℕ) (k m : ℕ) → k + m ≤ length line_flag
+    → all (length (take m (drop k line_flag))) (λ i. eqb (at flags (at (take m (drop k line_flag)) i)) 0) ≡ all m (λ i. eqb (at flags (at line_flag (k + i))) 0)
+flags_at flags line_flag k m h =
+    let e : length (take m (drop k line_flag)) ≡ m = length-take-le m (drop k line_flag) (omega (arith, length-drop k line_flag, h)) in
+    ap (λ (n : ℕ). all n (λ i. eqb (at flags (at (take m (drop k line_flag)) i)) 0)) e
+    ∙ all_same m (λ i. eqb (at flags (at (take m (drop k line_flag)) i)) 0) (λ i. eqb (at flags (at line_flag (k + i))) 0)
+    (λ i j. ap (λ (f : ℕ). eqb (at flags f) 0) (flag_at line_flag k m i j))
 
 module _ (n : ℕ) (line_task line_pos : List ℕ) where
   module _ (together : Together n line_task line_pos) where
@@ -86,3 +102,12 @@ module _ (n : ℕ) (line_task line_pos : List ℕ) where
             rw (ne_eqb (at flags (at line_flag k)) 0 e, alone_law)
             (and_swap (not (same_before line_task line_pos k) && not (same_behind n line_task line_pos k))
             (eqb (at latched (place_of line_task line_pos k)) 0 && eqb (at desired (place_of line_task line_pos k)) 1))
+
+        -- so in either case
+        pub minor_either : (eqb (at flags (at line_flag k)) 0 || minor_ok_b n latched desired line_task line_pos k)
+            ≡ minor_condition_one n latched desired line_task line_pos line_flag (marked flags) k
+        minor_either =
+            let f = at flags (at line_flag k) in
+            let right = minor_ok_b n latched desired line_task line_pos k in
+            by (eqb f 0) (λ e. sym (or_yes (eqb f 0) right e) ∙ sym (minor_not (eqb-true f 0 e)))
+            (λ e. sym (or_skip (eqb f 0) right e) ∙ sym (minor_so (eqb-false f 0 e)))

@@ -1,11 +1,10 @@
 use borrow.Author.Rules.{rules}
-use mathlib.Core.Path.{◌≡◌, refl, sym, ◌∙◌, ap}
-use Prim.Native.Nat.{ℕ, ◌-◌}
+use mathlib.Core.Path.{◌≡◌}
+use Prim.Native.Nat.{◌-◌, ◌+◌}
 use native.Mathlib.Omega.{arith}
-use lib.Dec.{eqb}
 use Rattle.laws.specs.Laws.All.{passed_none}
-use Rattle.laws.specs.Faults.{or_next, bit_passes}
-use Rattle.rig_tables.specs.Tests.{line_rises, lines_rise_b}
+use Rattle.rig_tables.specs.Tests.{lines_rise_b}
+use Rattle.rig_a_lines.specs.Laws.Passes.{faults_next}
 use Rattle.rig_a_lines.proofs.lines_rise.Goals as goal
 
 pub loop-k-init : goal.loop-k-init
@@ -13,13 +12,12 @@ loop-k-init c = (passed_none _, search rules)
 
 pub loop-k-preserved : goal.loop-k-preserved
 loop-k-preserved c =
-    let s = c.args in
+    let s = c.args.rig.now in
     let l = c.loop-k in
-    let test = line_rises s.line_task.now s.line_pos.now s.line_flag.now in
-    (or_next l.faults l.k test c.fault-x.result l.invariant.0 (bit_passes (test l.k) ∙ ap (λ (x : ℕ). eqb x 0) (sym c.fault-x.ensures)) refl, search rules)
+    (faults_next s.line_task s.line_pos s.line_flag l.faults c.fault-faults.result (l.k - 1) l.k (l.k + 1 - 1) (omega (arith, l.invariant.1.0)) (omega arith) l.invariant.0 c.fault-faults.ensures, search rules)
 
 pub returns : goal.returns
 unfolding lines_rise_b
 returns c =
-    let e : c.loop-k.k ≡ c.args.n - 1 = omega arith in
+    let e : c.loop-k.k - 1 ≡ c.args.rig.now.lines - 1 = omega arith in
     rw e at c.loop-k.invariant.0

@@ -1,15 +1,16 @@
 -- The tests of A lines table by table, as the loops that do not leave early compute them, and the fault of a line.
-use Rattle.std.specs.Prelude.{◌≡◌, Bool, not, cond, ◌&&◌, ◌||◌, List, ℕ, eqb, ltb}
-use Rattle.std.proofs.Common.{◌∙◌, ap, arith, eqb-true, ltb-true, ltb-false, lt-ltb, le-ltb}
+use Rattle.std.specs.Prelude.{◌≡◌, refl, Bool, not, cond, ◌&&◌, ◌||◌, List, ℕ, ◌+◌, ◌≤◌, length, take, eqb, ltb}
+use Rattle.std.proofs.Common.{sym, ◌∙◌, ap, subst, arith, eqb-true, ltb-true, ltb-false, lt-ltb, le-ltb}
 use Rattle.std.specs.Int.Bits.{bit_or, bit_and, bit_xor}
 use Rattle.std.proofs.Math.Dec.{leb-zero}
 use Rattle.std.proofs.lemmas.Bool.{eqb-false}
+use Rattle.std.proofs.lemmas.List.{get_or-take, length-take-le}
 use Rattle.laws.specs.Cases.{by, or_no}
-use Rattle.laws.specs.All.{all}
+use Rattle.laws.specs.All.{all, Passed}
 use Rattle.laws.specs.Laws.All.{all_same, all_three}
 use Rattle.laws.specs.Bits.{bit}
-use Rattle.laws.specs.Faults.{bit_or_lem, bit_and_lem, bit_not}
-use Rattle.rig_tables.specs.Tests.{at, within, rises_test, line_one, lines_b}
+use Rattle.laws.specs.Faults.{bit_or_lem, bit_and_lem, bit_not, or_next, bit_passes}
+use Rattle.rig_tables.specs.Tests.{at, within, rises_test, line_rises, line_one, lines_b}
 
 abbrev pub between_one : ℕ → ℕ → List ℕ → ℕ → Bool
 between_one low high l k = within low (at l k) high
@@ -22,6 +23,12 @@ lines_each n tasks flags line_task line_pos line_flag =
     all_same n (line_one tasks flags line_task line_pos line_flag) (λ k. between_one 1 tasks line_task k && (between_one 0 15 line_pos k && between_one 1 flags line_flag k))
     (λ k h. rw (leb-zero (at line_pos k)))
     ∙ all_three n (between_one 1 tasks line_task) (between_one 0 15 line_pos) (between_one 1 flags line_flag)
+
+-- the first n entries, taken out of their table
+pub between_first : (low high n : ℕ) (l : List ℕ) → n ≤ length l → all (length (take n l)) (between_one low high (take n l)) ≡ all n (between_one low high l)
+between_first low high n l h =
+    ap (λ (m : ℕ). all m (between_one low high (take n l))) (length-take-le n l h)
+    ∙ all_same n (between_one low high (take n l)) (between_one low high l) (λ k g. ap (λ (x : ℕ). within low x high) (get_or-take n l k 0 g))
 
 -- ---- lines one after the other
 
@@ -47,3 +54,15 @@ fault_is t p f u q h a b c d e =
       bit_or_lem (ltb u t) (eqb t u && not (cond (eqb p q) (ltb f h) (ltb p q))),
     )
     (ap bit (later t u (cond (eqb p q) (ltb f h) (ltb p q))))))
+
+-- what the loop keeps from a line j to the line k behind it
+pub faults_next : (line_task line_pos line_flag : List ℕ) (faults fault j k m : ℕ) → j + 1 ≡ k → m ≡ k
+    → Passed faults j (line_rises line_task line_pos line_flag)
+    → fault ≡ bit (not (rises_test (at line_task j) (at line_pos j) (at line_flag j) (at line_task k) (at line_pos k) (at line_flag k)))
+    → Passed (bit_or faults fault) m (line_rises line_task line_pos line_flag)
+faults_next line_task line_pos line_flag faults fault j k m q r g e =
+    let test = line_rises line_task line_pos line_flag in
+    let s : fault ≡ bit (not (test j)) =
+    e ∙ ap (λ (x : ℕ). bit (not (rises_test (at line_task j) (at line_pos j) (at line_flag j) (at line_task x) (at line_pos x) (at line_flag x)))) (sym q) in
+    subst (λ (x : ℕ). Passed (bit_or faults fault) x test) (q ∙ sym r)
+    (or_next faults j test fault g (bit_passes (test j) ∙ ap (λ (x : ℕ). eqb x 0) (sym s)) refl)

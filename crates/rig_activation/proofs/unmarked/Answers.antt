@@ -1,33 +1,19 @@
-use borrow.Author.Rules.{rules}
-use mathlib.Core.Path.{◌≡◌, sym, ◌∙◌, ap}
-use mathlib.Core.Bool.{true, not}
-use borrow.Author.Tests.{ne_eqb, eq-eqb}
-use Prim.Native.Nat.{ℕ, ◌-◌}
+use Rattle.std.proofs.Common.{rules, tests, ◌∙◌, eqb}
 use native.Mathlib.Omega.{arith}
-use lib.Dec.{eqb}
-use Rattle.laws.specs.Laws.All.{all_zero, all_next, all_not}
-use Rattle.rig_tables.specs.Tests.{at, not_minor_b}
+use Rattle.std.proofs.lemmas.List.{get_or_default}
+use Rattle.std.proofs.lemmas.Iterator.{YieldsList-from_slice}
+use Rattle.std.proofs.lemmas.Iterator.Adapters.{serves_from_places}
+use Rattle.std.proofs.lemmas.Iterator.Search.{all_from_yields_List}
+use Rattle.rig_tables.specs.Tests.{at}
+use Rattle.rig_activation.specs.Laws.Served.{unmarked_each}
 use Rattle.rig_activation.proofs.unmarked.Goals as goal
 
-pub loop-t-init : goal.loop-t-init
-loop-t-init c = (all_zero _, search rules)
-
-pub bounds-table-f : goal.bounds-table-f
-bounds-table-f c = omega (arith, c.wide-f.ensures, c.requires c.loop-t.t c.loop-t-test.true)
-
-pub returns-then-table-f-ne0 : goal.returns-then-table-f-ne0
-unfolding not_minor_b
-returns-then-table-f-ne0 c =
-    let d = c in
-    sym (all_not _ _ d.loop-t.t c.loop-t-test.true (ap (λ (p : ℕ). not (not (eqb (at d.args.table.now p) 0))) (sym c.wide-f.ensures) ∙ simp (ne_eqb _ _ c.if-table-f-ne0.true)))
-
-pub loop-t-preserved : goal.loop-t-preserved
-loop-t-preserved c =
-    let d = c in
-    (all_next _ _ d.loop-t.invariant.0 (ap (λ (p : ℕ). not (not (eqb (at d.args.table.now p) 0))) (sym c.wide-f.ensures) ∙ simp (eq-eqb _ _ c.if-table-f-ne0.false)), search rules)
+pub all-requires-clause-callable : goal.all-requires-clause-callable
+all-requires-clause-callable c =
+    let l = c.args.activation.now in
+    serves_from_places (YieldsList-from_slice l (search rules)) (λ x q r. search rules) (λ x k h e _ _ _ _ _ _. omega (arith, e, get_or_default l k x.now 0 h, c.requires k (search rules)))
 
 pub returns : goal.returns
-unfolding not_minor_b
 returns c =
-    let e : c.loop-t.t ≡ 65 = omega arith in
-    sym (rw e at c.loop-t.invariant.0)
+    all_from_yields_List (λ f. eqb (at c.args.table.now f) 0) _ _ _ c.all.ensures.ran (YieldsList-from_slice c.args.activation.now cc) (λ x b q k. search (rules, tests))
+    ∙ unmarked_each c.args.activation.now c.args.table.now (search rules)

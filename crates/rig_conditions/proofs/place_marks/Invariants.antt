@@ -1,5 +1,5 @@
 use mathlib.Core.Path.{◌≡◌}
-use Prim.Native.Nat.{◌≤◌, ◌-◌}
+use Prim.Native.Nat.{◌≤◌}
 use lib.ListN.{replicate}
 use Rattle.laws.specs.Iter.{iter}
 use Rattle.laws.specs.Owners.{mark_one}
@@ -7,7 +7,4 @@ use Rattle.rig_tables.specs.Tests.{place_of}
 use Rattle.rig_conditions.proofs.place_marks.Given as goal
 
 abbrev pub invariant-loop-k : goal.invariant-loop-k
-invariant-loop-k l = (l.table ≡ iter l.k (mark_one (place_of l.line_task l.line_pos)) (replicate 1040 0)) × (l.k ≤ l.n)
-
-abbrev pub decreases-loop-k : goal.decreases-loop-k
-decreases-loop-k l = l.n - l.k
+invariant-loop-k l = (l.table ≡ iter l.k (mark_one (place_of l.rig.line_task l.rig.line_pos)) (replicate 1040 0)) × (l.k ≤ l.rig.lines)

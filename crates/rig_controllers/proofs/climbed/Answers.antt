@@ -1,7 +1,5 @@
-use mathlib.Core.Path.{sym, ◌∙◌, ap}
-use Prim.Native.Nat.{◌-◌}
+use mathlib.Core.Path.{sym, ◌∙◌}
 use native.Mathlib.Omega.{arith}
-use Rattle.rig_tables.specs.Tests.{at, climb}
 use Rattle.rig_controllers.specs.Laws.Climb.{climb_turn, climb_stop}
 use Rattle.rig_controllers.proofs.climbed.Goals as goal
 
@@ -9,7 +7,7 @@ pub loop-y-preserved : goal.loop-y-preserved
 loop-y-preserved c =
     let d = c in
     let a = d.args in
-    (ap (climb (at a.controller.now) a.c 64) c.wide-y.ensures ∙ climb_turn a.controller.now a.c d.loop-y.y c.loop-y-test.true (omega arith) (λ t i j. d.requires.1 t i (omega arith)) ∙ d.loop-y.invariant.0, omega (arith, c.wide-y.ensures, c.requires.1 c.loop-y.y (omega arith) (omega arith)))
+    (climb_turn a.controller.now a.c d.loop-y.y c.loop-y-test.true (omega arith) (λ t i j. d.requires.1 t i (omega arith)) ∙ d.loop-y.invariant.0, omega (arith, c.requires.1 c.loop-y.y (omega arith) (omega arith)))
 
 pub returns : goal.returns
 returns c = sym (climb_stop c.args.controller.now c.args.c 64 c.loop-y.y c.loop-y-test.false) ∙ c.loop-y.invariant.0

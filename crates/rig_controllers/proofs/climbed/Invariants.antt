@@ -1,5 +1,5 @@
 use mathlib.Core.Path.{◌≡◌}
-use Prim.Native.Nat.{◌≤◌, ◌-◌}
+use Prim.Native.Nat.{◌≤◌}
 use Rattle.rig_tables.specs.Tests.{at, climb}
 use Rattle.rig_controllers.proofs.climbed.Given as goal
 

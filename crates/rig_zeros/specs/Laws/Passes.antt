@@ -1,14 +1,15 @@
 -- The tests of zeros table by table, as the loops that do not leave early compute them.
-use Rattle.std.specs.Prelude.{◌≡◌, refl, ◌⊎◌, Bool, true, false, ◌&&◌, ◌||◌, List, ℕ, ◌+◌, ◌-◌, ◌*◌, ◌≤◌, ◌<◌, eqb, leb, ltb}
+use Rattle.std.specs.Prelude.{◌≡◌, refl, ◌⊎◌, Bool, true, false, ◌&&◌, ◌||◌, List, ℕ, ◌+◌, ◌-◌, ◌*◌, ◌≤◌, ◌<◌, length, take, drop, eqb, leb, ltb}
 use Rattle.std.proofs.Common.{sym, ◌∙◌, arith, eqb-true, leb-true, leb-false, ltb-true, ltb-false}
 use Rattle.std.proofs.Math.Path.{ap}
 use Rattle.std.proofs.lemmas.Bool.{eqb-false}
+use Rattle.std.proofs.lemmas.List.{get_or-take, get_or-drop, length-take-le, length-drop, take_rest}
 use Rattle.laws.specs.Cases.{by, or_skip}
 use Rattle.laws.specs.All.{all, since}
-use Rattle.laws.specs.Laws.All.{all_same, all_and, all_three}
+use Rattle.laws.specs.Laws.All.{all_same, all_and, all_three, since_start}
 use Rattle.laws.specs.Largest.{zero_next}
 use Rattle.laws.specs.Laws.Decides.{is_eqb, is_leb, is_ltb, is_and, is_else, is_all, is_said, is_same}
-use Rattle.rig_tables.specs.Tests.{at, within, condition_tasks_b, task_zero_one, task_zeros_b, line_zero_one, line_zeros_b}
+use Rattle.rig_tables.specs.Tests.{at, within, small_one, condition_tasks_b, task_zero_one, task_zeros_b, line_zero_one, line_zeros_b}
 use Rattle.rig_tables.specs.Laws.Passes.{zero_one, within_above}
 
 -- 0 from a place on
@@ -58,11 +59,56 @@ module _ (tasks : ℕ) (present : List ℕ) where
       (is_all 16 (λ i h. is_else (is_ltb i 0) (is_eqb (at present i) 0)))
       (is_all 1040 (λ i h. is_else (is_ltb i (16 * (tasks + 1))) (is_eqb (at present i) 0))))
 
+-- from one place on the table is 0 where what stands from there is
+pub zeros_rest : (from : ℕ) (l : List ℕ)
+    → all (length (take (length l - from) (drop from l))) (small_one (take (length l - from) (drop from l)) 0) ≡ all (length l) (zero_from from l)
+zeros_rest from l =
+    ap (λ (d : List ℕ). all (length d) (small_one d 0)) (take_rest l from)
+    ∙ is_same
+    (is_said (is_all (length (drop from l)) (λ k h. is_leb (at (drop from l) k) 0)) there back)
+    (is_all (length l) (λ i h. is_else (is_ltb i from) (is_eqb (at l i) 0)))
+  where
+    there : ((k : ℕ) → k < length (drop from l) → at (drop from l) k ≤ 0) → (i : ℕ) → i < length l → (i < from → ⊥) → at l i ≡ 0
+    there f i h n =
+        let g : from ≤ i = by (ltb i from) (λ e. absurd (n (ltb-true i from e))) (ltb-false i from) in
+        let e : from + (i - from) ≡ i = omega (arith, g) in
+        omega (arith, f (i - from) (omega (arith, length-drop from l, g, h)), get_or-drop from l (i - from) 0, ap (at l) e)
+
+    back : ((i : ℕ) → i < length l → (i < from → ⊥) → at l i ≡ 0) → (k : ℕ) → k < length (drop from l) → at (drop from l) k ≤ 0
+    back f k h =
+        omega (arith, f (from + k) (omega (arith, length-drop from l, h)) (λ z. omega (arith, z)), get_or-drop from l k 0)
+
+pub past_zeros : (from : ℕ) (l : List ℕ) → length l ≤ from → all (length l) (zero_from from l) ≡ true
+past_zeros from l h = since_start from (zero_one l) (length l) h
+
+-- the first n entries, taken out of their table
+pub zeros_first : (n from : ℕ) (l : List ℕ) → n ≤ length l → all (length (take n l)) (zero_from from (take n l)) ≡ all n (zero_from from l)
+zeros_first n from l h =
+    ap (λ (m : ℕ). all m (zero_from from (take n l))) (length-take-le n l h)
+    ∙ all_same n (zero_from from (take n l)) (zero_from from l) (λ k g. ap (λ (x : ℕ). ltb k from || eqb x 0) (get_or-take n l k 0 g))
+
 -- at 0 and above the last task, an entry is 0
 abbrev pub beyond_one : ℕ → List ℕ → ℕ → Bool
 beyond_one tasks l t = within 1 t tasks || eqb (at l t) 0
 
 module _ (tasks : ℕ) (l : List ℕ) where
+  pub beyond_each : all 65 (beyond_one tasks l) ≡ (eqb (at l 0) 0 && all 65 (zero_from (tasks + 1) l))
+  beyond_each =
+      is_same
+      (is_said (is_all 65 (λ t h. is_else (is_and (is_leb 1 t) (is_leb t tasks)) (is_eqb (at l t) 0))) there back)
+      (is_and (is_eqb (at l 0) 0) (is_all 65 (λ t h. is_else (is_ltb t (tasks + 1)) (is_eqb (at l t) 0))))
+    where
+      there : ((t : ℕ) → t < 65 → ((1 ≤ t) × (t ≤ tasks) → ⊥) → at l t ≡ 0)
+          → (at l 0 ≡ 0) × ((t : ℕ) → t < 65 → (t < tasks + 1 → ⊥) → at l t ≡ 0)
+      there f = (f 0 (omega arith) (λ w. omega (arith, w.0)), (λ t h n. f t h (λ w. n (omega (arith, w.1)))))
+
+      back : (at l 0 ≡ 0) × ((t : ℕ) → t < 65 → (t < tasks + 1 → ⊥) → at l t ≡ 0)
+          → (t : ℕ) → t < 65 → ((1 ≤ t) × (t ≤ tasks) → ⊥) → at l t ≡ 0
+      back w t h n =
+          by (eqb t 0) (λ e. rw (eqb-true t 0 e) w.0)
+          (λ e. w.1 t h (λ z. n (omega (arith, eqb-false t 0 e), omega (arith, z))))
+
+  -- the same by the largest entry so far, as a loop that keeps it has it
   abbrev pub Beyond : ℕ → ℕ → Type 0
   Beyond most i = eqb most 0 ≡ all i (beyond_one tasks l)
 
@@ -97,7 +143,7 @@ or_four true a b c d = refl
 or_four false a b c d = refl
 
 module _ (tasks : ℕ) (controller priority privileged activation : List ℕ) where
-  task_zeros_each : task_zeros_b tasks controller priority privileged activation
+  pub task_zeros_each : task_zeros_b tasks controller priority privileged activation
       ≡ (all 65 (beyond_one tasks controller)
       && (all 65 (beyond_one tasks priority) && (all 65 (beyond_one tasks privileged) && all 65 (beyond_one tasks activation))))
   unfolding task_zeros_b
@@ -110,7 +156,7 @@ module _ (tasks : ℕ) (controller priority privileged activation : List ℕ) wh
       ∙ ap (λ (x : Bool). all 65 (beyond_one tasks controller) && x)
       (all_three 65 (beyond_one tasks priority) (beyond_one tasks privileged) (beyond_one tasks activation))
 
-  -- what the loop over the four tables keeps: the largest entry of each
+  -- of four tables at once: the largest entry of each
   abbrev pub Largest : ℕ → ℕ → ℕ → ℕ → ℕ → Type 0
   Largest a b c d i = Beyond tasks controller a i × (Beyond tasks priority b i × (Beyond tasks privileged c i × Beyond tasks activation d i))
 
