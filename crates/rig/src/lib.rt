@@ -8,7 +8,7 @@ use rig_tables::{CONDITIONS, CYCLE_FLAGS, CYCLES, LINES, ROWS, TASK_PLACES};
 
 // A B line: sender and receiver with their sub-addresses, words, period and phase.
 #[repr(C)]
-#[derive(Clone, Copy)]
+#[derive(Clone, Copy, Debug, PartialEq, Eq)]
 pub struct Row {
     pub sender: u8,
     pub sender_sub: u8,
@@ -19,17 +19,31 @@ pub struct Row {
     pub phase: u8,
 }
 
+impl Row {
+    // The row of all zeros.
+    pub const NONE: Row = Row {
+        sender: 0,
+        sender_sub: 0,
+        receiver: 0,
+        receiver_sub: 0,
+        words: 0,
+        period: 0,
+        phase: 0,
+    };
+}
+
 // The flags of one minor cycle in file order, and 0 behind the last.
 #[repr(C)]
-#[derive(Clone, Copy)]
+#[derive(Clone, Copy, Debug, PartialEq, Eq)]
 pub struct Cycle {
     pub flags: [u8; CYCLE_FLAGS],
 }
 
 // Tasks and flags stand at their number, place 0 unused; a condition at 16 * task + position, present 1 where it has a
-// C line; A lines and rows in file order. The cycles stand beside the rig.
+// C line; A lines and rows in file order. The cycles stand beside the rig. Numbers only, and arrays side by side: C lends the
+// record, and any bytes are a rig.
 #[repr(C)]
-#[derive(Clone, Copy)]
+#[derive(Clone, Copy, Debug, PartialEq, Eq)]
 pub struct Rig {
     pub tasks: u8,
     pub flags: u8,
@@ -53,15 +67,6 @@ pub struct Rig {
 pub fn none() -> Rig
     ensures { result ≡ no_rig }
 {
-    let b = Row {
-        sender: 0,
-        sender_sub: 0,
-        receiver: 0,
-        receiver_sub: 0,
-        words: 0,
-        period: 0,
-        phase: 0,
-    };
     Rig {
         tasks: 0,
         flags: 0,
@@ -78,7 +83,7 @@ pub fn none() -> Rig
         line_task: [0; LINES],
         line_pos: [0; LINES],
         line_flag: [0; LINES],
-        row: [b; ROWS],
+        row: [Row::NONE; ROWS],
     }
 }
 
@@ -92,16 +97,13 @@ pub fn no_cycles() -> [Cycle; CYCLES]
     [c; CYCLES]
 }
 
-// The cycles as row structs, from an array of arrays.
+// The cycles as row structs, from an array of arrays. Both forms go by value, and each way has its function, as the paper names them.
 pub fn cycles_of(table: [[u8; CYCLE_FLAGS]; CYCLES]) -> [Cycle; CYCLES]
     ensures { result ≡ cycles_of table }
 {
     let mut cycles = no_cycles();
-    let mut c: usize = 0;
-    while c < CYCLES {
-        let flags = table[c];
-        cycles[c] = Cycle { flags };
-        c = c + 1;
+    for c in 0..CYCLES {
+        cycles[c] = Cycle { flags: table[c] };
     }
     cycles
 }
@@ -111,12 +113,8 @@ pub fn table_of(cycles: [Cycle; CYCLES]) -> [[u8; CYCLE_FLAGS]; CYCLES]
     ensures { result ≡ table_of cycles }
 {
     let mut table = [[0u8; CYCLE_FLAGS]; CYCLES];
-    let mut c: usize = 0;
-    while c < CYCLES {
-        let cycle = cycles[c];
-        let flags = cycle.flags;
-        table[c] = flags;
-        c = c + 1;
+    for c in 0..CYCLES {
+        table[c] = cycles[c].flags;
     }
     table
 }

@@ -1,7 +1,7 @@
 // The tests of minor cycles: the flags of each rise and are small enough, and the marks of minor-cycle flags.
 #![tactic(auto)]
 
-ghost use Rattle.std.specs.Prelude.{◌≡◌, true, not, ℕ, ◌≤◌, ◌<◌, length};
+ghost use Rattle.std.specs.Prelude.{◌≡◌, true, not, ℕ, ◌≤◌, ◌<◌};
 ghost use Rattle.laws.specs.Bits.{bit};
 ghost use Rattle.laws.specs.Owners.{marks};
 ghost use Rattle.rig_tables.specs.Tests.{at, flag_test, cycle_rises, cycle_small};
@@ -20,45 +20,30 @@ const PAIRS: usize = CYCLE_FLAGS - 1;
 fn fault(f: u8, h: u8) -> u8
     ensures { result ≡ bit (not (flag_test f h)) }
 {
-    let some = rig_tables::below(0, h);
-    let none_before = rig_tables::same(f, 0);
-    let rises = rig_tables::below(f, h);
+    let some = u8::from(0 < h);
+    let none_before = u8::from(f == 0);
+    let rises = u8::from(f < h);
     some & (none_before | (1 ^ rises))
 }
 
 // The flags of one cycle rise, and nothing stands behind the last.
 pub fn cycle_rises(flags: &[u8; CYCLE_FLAGS]) -> bool
-    requires { length flags.now ≡ 15 }
     ensures { result ≡ cycle_rises flags.now }
 {
     let mut faults: u8 = 0;
-    let mut i: usize = 0;
-    while i < PAIRS {
-        let x = fault(flags[i], flags[i + 1]);
-        faults = faults | x;
-        i = i + 1;
+    for i in 0..PAIRS {
+        faults |= fault(flags[i], flags[i + 1]);
     }
     faults == 0
 }
 
-// No flag of a cycle is above top: the largest is not. A cycle that rises and begins with 0 has no flag.
+// No flag of a cycle is above top. A cycle that rises and begins with 0 has no flag.
+#[tactic(auto, using(crate::specs::Laws::Cycles::small_table, crate::specs::Laws::Cycles::small_empty))]
 pub fn cycle_small(top: u8, flags: &[u8; CYCLE_FLAGS]) -> bool
     requires { cycle_rises flags.now ≡ true }
     ensures { result ≡ cycle_small top flags.now }
 {
-    if flags[0] == 0 {
-        return true;
-    }
-    let mut most: u8 = 0;
-    let mut i: usize = 0;
-    while i < CYCLE_FLAGS {
-        let x = flags[i];
-        if most < x {
-            most = x;
-        }
-        i = i + 1;
-    }
-    most <= top
+    flags[0] == 0 || rig_tables::at_most(flags, top)
 }
 
 // Marks each flag of one cycle that rises, up to its first 0. No flag has the number 0, so what is said of the table leaves
@@ -67,59 +52,42 @@ pub fn mark_cycle(flags: &[u8; CYCLE_FLAGS], table: &mut [u8; FLAG_PLACES])
     requires { (cycle_rises flags.now ≡ true) × ((i : ℕ) → i < 15 → at flags.now i ≤ 128) }
     ensures { flags_only table.new ≡ flags_only (marks 15 (at flags.now) table.old) }
 {
-    let mut i: usize = 0;
-    while i < CYCLE_FLAGS {
-        let f = rig_tables::wide(flags[i]);
-        if f == 0 {
+    for f in flags {
+        if *f == 0 {
             break;
         }
-        table[f] = 1;
-        i = i + 1;
+        table[*f as usize] = 1;
     }
 }
 
 // The flags of each cycle rise, and nothing stands behind its last.
-pub fn cycles_rise(cycles: [Cycle; CYCLES]) -> bool
-    ensures { result ≡ cycles_rise_b cycles }
+pub fn cycles_rise(cycles: &[Cycle; CYCLES]) -> bool
+    ensures { result ≡ cycles_rise_b cycles.now }
 {
-    let mut c: usize = 0;
-    while c < CYCLES {
-        let cycle = cycles[c];
-        if !cycle_rises(&cycle.flags) {
-            return false;
-        }
-        c = c + 1;
-    }
-    true
+    cycles.iter().all(|c| cycle_rises(&c.flags))
 }
 
 // No flag of a cycle is above top; the cycles rise, so that each is looked at up to its last flag only.
-pub fn cycles_small(top: u8, cycles: [Cycle; CYCLES]) -> bool
-    requires { cycles_rise_b cycles ≡ true }
-    ensures { result ≡ cycles_small_b top cycles }
+pub fn cycles_small(top: u8, cycles: &[Cycle; CYCLES]) -> bool
+    requires { cycles_rise_b cycles.now ≡ true }
+    ensures { result ≡ cycles_small_b top cycles.now }
 {
-    let mut c: usize = 0;
-    while c < CYCLES {
-        let cycle = cycles[c];
-        if !cycle_small(top, &cycle.flags) {
+    for c in cycles {
+        if !cycle_small(top, &c.flags) {
             return false;
         }
-        c = c + 1;
     }
     true
 }
 
 // The minor-cycle flags, marked by 1.
-pub fn minor_marks(cycles: [Cycle; CYCLES]) -> [u8; FLAG_PLACES]
-    requires { (cycles_rise_b cycles ≡ true) × ((c : ℕ) → c < 64 → (i : ℕ) → i < 15 → flag_at cycles c i ≤ 128) }
-    ensures { result ≡ minor_marks cycles }
+pub fn minor_marks(cycles: &[Cycle; CYCLES]) -> [u8; FLAG_PLACES]
+    requires { (cycles_rise_b cycles.now ≡ true) × ((c : ℕ) → c < 64 → (i : ℕ) → i < 15 → flag_at cycles.now c i ≤ 128) }
+    ensures { result ≡ minor_marks cycles.now }
 {
     let mut table = [0u8; FLAG_PLACES];
-    let mut c: usize = 0;
-    while c < CYCLES {
-        let cycle = cycles[c];
-        mark_cycle(&cycle.flags, &mut table);
-        c = c + 1;
+    for c in cycles {
+        mark_cycle(&c.flags, &mut table);
     }
     table[0] = 0;
     table

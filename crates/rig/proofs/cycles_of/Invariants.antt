@@ -1,5 +1,5 @@
 use mathlib.Core.Path.{◌≡◌}
-use Prim.Native.Nat.{◌≤◌, ◌-◌}
+use Prim.Native.Nat.{◌≤◌}
 use mathlib.Core.List.{[]}
 use lib.ListN.{length}
 use Rattle.laws.specs.Mapped.{Mapped}
@@ -8,6 +8,3 @@ use Rattle.rig.proofs.cycles_of.Given as goal
 
 abbrev pub invariant-loop-c : goal.invariant-loop-c
 invariant-loop-c l = Mapped cycle_of [] l.table l.c l.cycles × ((length l.table ≡ 64) × (l.c ≤ 64))
-
-abbrev pub decreases-loop-c : goal.decreases-loop-c
-decreases-loop-c l = 64 - l.c

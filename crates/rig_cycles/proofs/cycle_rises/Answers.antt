@@ -2,7 +2,7 @@ use borrow.Author.Rules.{rules}
 use mathlib.Core.Path.{◌≡◌, refl, sym, ◌∙◌, ap}
 use mathlib.Core.Bool.{Bool, ◌&&◌}
 use borrow.Author.Tests.{eq-eqb}
-use Prim.Native.Nat.{ℕ, ◌-◌}
+use Prim.Native.Nat.{ℕ}
 use native.Mathlib.Omega.{arith}
 use lib.Dec.{eqb}
 use lib.ListN.{length}
@@ -20,11 +20,12 @@ loop-i-preserved c =
     let s = c.args in
     let l = c.loop-i in
     let test = flag_rises s.flags.now in
-    (or_next l.faults l.i test c.fault-x.result l.invariant.0 (bit_passes (test l.i) ∙ ap (λ (x : ℕ). eqb x 0) (sym c.fault-x.ensures)) refl, search rules)
+    (or_next l.faults l.i test c.fault-faults.result l.invariant.0 (bit_passes (test l.i) ∙ ap (λ (x : ℕ). eqb x 0) (sym c.fault-faults.ensures)) refl, search rules)
 
 pub returns : goal.returns
 unfolding cycle_rises
 returns c =
-    let s = c in
+    let flags = c.args.flags.now in
+    let long : length flags ≡ 15 = search rules in
     let e : c.loop-i.i ≡ 14 = omega arith in
-    (rw e at c.loop-i.invariant.0) ∙ sym (ap (λ (b : Bool). b && all 14 (flag_rises s.args.flags.now)) (eq-eqb (length s.args.flags.now) 15 s.requires))
+    (rw e at c.loop-i.invariant.0) ∙ sym (ap (λ (b : Bool). b && all 14 (flag_rises flags)) (eq-eqb (length flags) 15 long))

@@ -9,7 +9,7 @@ use Rattle.std.proofs.lemmas.List.{set_comm}
 use borrow.Author.Tests.{eqb-true, eqb-false, le-leb, ltb-true, ltb-false, lt-ltb, le-ltb}
 use Rattle.laws.specs.Cases.{by}
 use Rattle.laws.specs.All.{all}
-use Rattle.laws.specs.Laws.All.{all_at, all_all, and_right}
+use Rattle.laws.specs.Laws.All.{all_zero, all_at, all_all, and_right}
 use Rattle.laws.specs.Bits.{bit}
 use Rattle.laws.specs.Faults.{bit_or_lem, bit_and_lem, bit_not}
 use Rattle.laws.specs.Iter.{iter}
@@ -92,3 +92,11 @@ module _ (flags : List ℕ) (rises : cycle_rises flags ≡ true) (i : ℕ) (z : 
   pub marks_up_to : (l : List ℕ) → i < 15 → flags_only (iter i (mark_one (at flags)) l) ≡ flags_only (marks 15 (at flags) l)
   unfolding marks
   marks_up_to l h = marks_on l 15 (omega (arith, h)) (omega arith)
+
+-- a cycle that has a flag is small where its largest is, one that has none always
+pub small_table : (top : ℕ) (flags : List ℕ) → length flags ≡ 15 → all (length flags) (small_one flags top) ≡ cycle_small top flags
+unfolding cycle_small
+small_table top flags z = ap (λ (n : ℕ). all n (small_one flags top)) z
+
+pub small_empty : (top : ℕ) (flags : List ℕ) → cycle_rises flags ≡ true → at flags 0 ≡ 0 → cycle_small top flags ≡ true
+small_empty top flags rises z = small_up_to flags rises 0 z top (all_zero (small_one flags top))

@@ -1,14 +1,16 @@
 -- The cycles one by one, and the table of minor-cycle flags, which says of each flag what `minor_b` says.
-use Rattle.std.specs.Prelude.{Bool, not, true, List, ℕ, suc, ◌≤◌, ◌<◌, eqb, length, get_or, replicate, ◌≡◌, ◌≢◌, ◌↔◌}
-use Rattle.std.proofs.lemmas.List.{length-replicate}
+use Rattle.std.specs.Prelude.{Bool, not, true, ◌&&◌, List, ℕ, zero, suc, ◌≤◌, ◌<◌, eqb, length, get_or, replicate, take, ◌≡◌, ◌≢◌, ◌↔◌}
+use Rattle.std.proofs.lemmas.List.{length-replicate, take_all}
+use Rattle.std.proofs.lemmas.List.Folds.{list_all_more}
+use Rattle.std.specs.List.{list_all}
 use Rattle.laws.specs.Iter.{iter}
 use Rattle.laws.specs.Laws.Iter.{iter_ind}
 use Rattle.laws.specs.All.{all}
 use Rattle.laws.specs.Laws.All.{all_at, all_same, and_right}
 use Rattle.rig_tables.specs.Tests.{at, cycle_rises, in_cycle, not_minor_b, minor_conditions_b, not_minor_one, minor_condition_one, minor_condition_test, is_only_one, place_of, marked}
-use Rattle.std.proofs.Common.{sym, ◌∙◌, ap, inl, inr, ⊎_elim, arith, get_or-set_other}
+use Rattle.std.proofs.Common.{refl, add-one, eq-eqb, sym, ◌∙◌, ap, inl, inr, ⊎_elim, arith, get_or-set_other}
 use borrow.Author.Tests.{eqb-true, eqb-false}
-use Rattle.laws.specs.Cases.{by, below_but}
+use Rattle.laws.specs.Cases.{and_go, by, below_but}
 use Rattle.laws.specs.Laws.Tables.{set_zero, zeros}
 use Rattle.laws.specs.Decides.{Is}
 use Rattle.laws.specs.Laws.Decides.{is_eqb, is_and, is_not, is_any, is_said, is_same}
@@ -90,3 +92,17 @@ minor_conditions_law n latched desired line_task line_pos line_flag cycles small
     ap
     (λ (b : Bool). minor_condition_test b (all n (is_only_one line_task line_pos k)) (at latched (place_of line_task line_pos k)) (at desired (place_of line_task line_pos k)))
     (marks_law cycles (at line_flag k) (small k h)))
+
+-- the loop over the cycles computes the test
+first_cycles : (cycles : List Cycle) (n : ℕ) → n ≤ length cycles → list_all (λ (c : Cycle). cycle_rises c.flags) (take n cycles) ≡ all n (cycle_rises_one cycles)
+unfolding all
+first_cycles cycles zero h = refl
+first_cycles cycles (suc n) h =
+    rw add-one at (list_all_more (λ (c : Cycle). cycle_rises c.flags) cycles n no_cycle (omega arith))
+    ∙ ap (λ (b : Bool). b && cycle_rises_one cycles n) (first_cycles cycles n (omega arith))
+
+pub cycles_rise_law : (cycles : List Cycle) → length cycles ≡ 64 → list_all (λ (c : Cycle). cycle_rises c.flags) cycles ≡ cycles_rise_b cycles
+unfolding cycles_rise_b
+cycles_rise_law cycles z =
+    ap (list_all (λ (c : Cycle). cycle_rises c.flags)) (sym (take_all 64 cycles (omega (arith, z))))
+    ∙ first_cycles cycles 64 (omega (arith, z)) ∙ sym (and_go (eq-eqb (length cycles) 64 z) refl)

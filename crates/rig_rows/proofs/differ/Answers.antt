@@ -1,25 +1,18 @@
-use borrow.Author.Rules.{rules}
-use mathlib.Core.Path.{◌≡◌, sym, ap}
-use mathlib.Core.Bool.{true, not}
-use borrow.Author.Tests.{ne_eqb, eq-eqb}
-use Prim.Native.Nat.{◌-◌}
-use native.Mathlib.Omega.{arith}
-use Rattle.laws.specs.Laws.All.{all_zero, all_next, all_not}
-use Rattle.rig_rows.specs.Tests.{differ_b}
+use Rattle.std.proofs.Common.{rules, ◌≡◌, ◌∙◌, length, arith}
+use borrow.Author.Tests.{tests}
+use Rattle.std.specs.Prelude.{not, eqb, take}
+use Rattle.std.specs.List.{list_all}
+use Rattle.std.proofs.lemmas.Iterator.{YieldsList-from_slice}
+use Rattle.std.proofs.lemmas.Iterator.Search.{all_from_yields_List}
+use Rattle.std.proofs.lemmas.Iterator.{YieldsList-from_take}
+use Rattle.rig.specs.declared.Row.{Row}
+use Rattle.rig_rows.specs.Laws.{differ_rows}
 use Rattle.rig_rows.proofs.differ.Goals as goal
 
-pub loop-k-init : goal.loop-k-init
-loop-k-init c = (all_zero _, search rules)
-
-pub returns-then-b : goal.returns-then-b
-unfolding differ_b
-returns-then-b c = sym (all_not _ _ c.loop-k.k c.loop-k-test.true (ap not (eq-eqb _ _ c.if-b.true)))
-
-pub loop-k-preserved : goal.loop-k-preserved
-loop-k-preserved c = (all_next _ _ c.loop-k.invariant.0 (ap not (ne_eqb _ _ c.if-b.false)), search rules)
-
 pub returns : goal.returns
-unfolding differ_b
 returns c =
-    let e : c.loop-k.k ≡ c.args.n = omega arith in
-    sym (rw e at c.loop-k.invariant.0)
+    let rig = c.args.rig.now in
+    let long : length rig.row ≡ 64 = search rules in
+    let each : c.all.result ≡ list_all (λ (b : Row). not (eqb b.sender b.receiver)) (take rig.rows rig.row) =
+    all_from_yields_List (λ (b : Row). not (eqb b.sender b.receiver)) _ _ _ c.all.ensures.ran (YieldsList-from_take rig.rows (YieldsList-from_slice rig.row cc) cc) (λ x b q k. search (rules, tests)) in
+    each ∙ differ_rows rig.rows rig.row (omega arith)

@@ -1,31 +1,20 @@
-use borrow.Author.Rules.{rules}
-use mathlib.Core.Path.{◌≡◌, sym, ◌∙◌}
-use mathlib.Core.Bool.{true}
-use borrow.Author.Tests.{not-true, not-false, le-ltb}
-use Prim.Native.Nat.{◌-◌}
-use native.Mathlib.Omega.{arith}
-use Rattle.laws.specs.Cases.{or_skip}
-use Rattle.laws.specs.Laws.All.{all_next, all_not}
-use Rattle.rig_rows.specs.Tests.{row_zeros_b}
-use Rattle.rig_rows.specs.Laws.{rows_start}
+use Rattle.std.proofs.Common.{rules, ◌≡◌, ◌∙◌, length, arith}
+use borrow.Author.Tests.{tests}
+use Rattle.std.specs.Prelude.{drop}
+use Rattle.std.specs.List.{list_all}
+use Rattle.std.proofs.lemmas.Iterator.{YieldsList-from_slice}
+use Rattle.std.proofs.lemmas.Iterator.Search.{all_from_yields_List}
+use Rattle.std.proofs.lemmas.Iterator.Adapters.{YieldsList-from_skip}
+use Rattle.rig_rows.specs.Tests.{row_zero, row_zero_tests}
+use Rattle.laws.specs.All.{all_of}
+use Rattle.rig_rows.specs.Laws.{zero_rows}
 use Rattle.rig_rows.proofs.row_zeros.Goals as goal
 
-pub loop-k-init : goal.loop-k-init
-loop-k-init c = (rows_start c.args.n c.args.row, search rules)
-
-pub returns-then-not-row_zero : goal.returns-then-not-row_zero
-unfolding row_zeros_b
-returns-then-not-row_zero c =
-    let d = c in
-    sym (all_not 64 _ d.loop-k.k c.loop-k-test.true (sym (or_skip _ _ (le-ltb d.loop-k.k d.args.n d.loop-k.invariant.1.0)) ∙ sym c.row_zero.ensures ∙ not-true _ c.if-not-row_zero.true-raw))
-
-pub loop-k-preserved : goal.loop-k-preserved
-loop-k-preserved c =
-    let d = c in
-    (all_next _ _ d.loop-k.invariant.0 (sym (or_skip _ _ (le-ltb d.loop-k.k d.args.n d.loop-k.invariant.1.0)) ∙ sym c.row_zero.ensures ∙ not-false _ c.if-not-row_zero.false-raw), search rules)
-
 pub returns : goal.returns
-unfolding row_zeros_b
+unfolding row_zero row_zero_tests all_of
 returns c =
-    let e : c.loop-k.k ≡ 64 = omega arith in
-    sym (rw e at c.loop-k.invariant.0)
+    let rig = c.args.rig.now in
+    let long : length rig.row ≡ 64 = search rules in
+    let each : c.all.result ≡ list_all (row_zero) (drop rig.rows rig.row) =
+    all_from_yields_List (row_zero) _ _ _ c.all.ensures.ran (YieldsList-from_skip rig.rows (YieldsList-from_slice rig.row cc) cc) (λ x b q k. search (rules, tests)) in
+    each ∙ zero_rows rig.rows rig.row (omega arith) long

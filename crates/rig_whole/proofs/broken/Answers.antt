@@ -1,16 +1,9 @@
-use mathlib.Core.Path.{◌≡◌}
-use mathlib.Core.Bool.{true}
-use Rattle.laws.specs.All.{all_of}
-use Rattle.rig_whole.specs.Tests.{shaped_tests}
-use Rattle.rig_whole.specs.Laws.Whole.{lengths_hold}
+use Rattle.std.proofs.Common.{◌∙◌}
 use Rattle.rig_whole.specs.Laws.Which.{broken_is}
-use borrow.Author.Rules.{rules}
 use Rattle.rig_whole.proofs.broken.Goals as goal
 
-pub broken_in-requires : goal.broken_in-requires
-broken_in-requires c =
-    let shape_at : all_of (shaped_tests c.args.rig) ≡ true = (lengths_hold c.args.rig (search rules) (search rules) (search rules) (search rules) (search rules) (search rules) (search rules) (search rules) (search rules) (search rules)) in
-    shape_at
+pub returns-in-Ok : goal.returns-in-Ok
+returns-in-Ok c = broken_is c.args.rig c.args.cycles 0 (c.in-Ok.ensures)
 
-pub returns : goal.returns
-returns c = broken_is _ _ _ c.broken_in.ensures
+pub returns-in-Err : goal.returns-in-Err
+returns-in-Err c = broken_is c.args.rig c.args.cycles c.number.result (c.number.ensures ∙ c.in-Err.ensures)

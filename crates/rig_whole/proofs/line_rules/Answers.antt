@@ -25,8 +25,8 @@ matched-requires c =
       omega (arith, s.requires.1.1.few),
       (
         s.requires.1.1.conditions,
-        subst (λ (l : List ℕ). ZeroFrom (16 * (s.args.tasks + 1)) l) (sym c.place_marks-table.ensures)
-            (marks_end s.args.lines s.args.line_task.now s.args.line_pos.now s.requires.0.placed (16 * (s.args.tasks + 1)) s.requires.1.1.lines),
+        subst (λ (l : List ℕ). ZeroFrom (16 * (s.args.rig.now.tasks + 1)) l) (sym c.place_marks-table.ensures)
+            (marks_end s.args.rig.now.lines s.args.rig.now.line_task s.args.rig.now.line_pos s.requires.0.placed (16 * (s.args.rig.now.tasks + 1)) s.requires.1.1.lines),
       ),
     )
 
@@ -38,12 +38,12 @@ returns-then-not-names_present c = sym (first_here 19 _ _ (sym c.names_present.e
 
 pub returns-then-not-matched : goal.returns-then-not-matched
 returns-then-not-matched c =
-    let both_at : (named_b c.args.lines c.args.present.now c.args.line_task.now c.args.line_pos.now && used_b c.args.lines c.args.present.now c.args.line_task.now c.args.line_pos.now) ≡ c.matched.result = (let s = c in sym (matched_law s.args.lines s.args.line_task.now s.args.line_pos.now s.requires.0.placed s.args.present.now) ∙ ap (matched_b s.args.present.now) (sym c.place_marks-table.ensures) ∙ sym c.matched.ensures) in
+    let both_at : (named_b c.args.rig.now.lines c.args.rig.now.present c.args.rig.now.line_task c.args.rig.now.line_pos && used_b c.args.rig.now.lines c.args.rig.now.present c.args.rig.now.line_task c.args.rig.now.line_pos) ≡ c.matched.result = (let s = c in sym (matched_law s.args.rig.now.lines s.args.rig.now.line_task s.args.rig.now.line_pos s.requires.0.placed s.args.rig.now.present) ∙ ap (matched_b s.args.rig.now.present) (sym c.place_marks-table.ensures) ∙ sym c.matched.ensures) in
     let s = c in
     let a = sym c.names_present.ensures ∙ not-false _ c.if-not-names_present.false-raw in
     sym
     (first_skip 19 _ _ a
-    ∙ first_here 20 _ _ (second (named_b s.args.lines s.args.present.now s.args.line_task.now s.args.line_pos.now) (used_b s.args.lines s.args.present.now s.args.line_task.now s.args.line_pos.now) a (both_at ∙ not-true _ c.if-not-matched.true-raw)))
+    ∙ first_here 20 _ _ (second (named_b s.args.rig.now.lines s.args.rig.now.present s.args.rig.now.line_task s.args.rig.now.line_pos) (used_b s.args.rig.now.lines s.args.rig.now.present s.args.rig.now.line_task s.args.rig.now.line_pos) a (both_at ∙ not-true _ c.if-not-matched.true-raw)))
 
 pub minor_conditions-requires : goal.minor_conditions-requires
 minor_conditions-requires c =
@@ -52,14 +52,14 @@ minor_conditions-requires c =
 
 pub returns-then-not-minor_conditions : goal.returns-then-not-minor_conditions
 returns-then-not-minor_conditions c =
-    let both_at : (named_b c.args.lines c.args.present.now c.args.line_task.now c.args.line_pos.now && used_b c.args.lines c.args.present.now c.args.line_task.now c.args.line_pos.now) ≡ c.matched.result = (let s = c in sym (matched_law s.args.lines s.args.line_task.now s.args.line_pos.now s.requires.0.placed s.args.present.now) ∙ ap (matched_b s.args.present.now) (sym c.place_marks-table.ensures) ∙ sym c.matched.ensures) in
-    let both_hold : (named_b c.args.lines c.args.present.now c.args.line_task.now c.args.line_pos.now ≡ true) × (used_b c.args.lines c.args.present.now c.args.line_task.now c.args.line_pos.now ≡ true) = (let s = c in and_true (named_b s.args.lines s.args.present.now s.args.line_task.now s.args.line_pos.now) (used_b s.args.lines s.args.present.now s.args.line_task.now s.args.line_pos.now) (both_at ∙ not-false _ c.if-not-matched.false-raw)) in
+    let both_at : (named_b c.args.rig.now.lines c.args.rig.now.present c.args.rig.now.line_task c.args.rig.now.line_pos && used_b c.args.rig.now.lines c.args.rig.now.present c.args.rig.now.line_task c.args.rig.now.line_pos) ≡ c.matched.result = (let s = c in sym (matched_law s.args.rig.now.lines s.args.rig.now.line_task s.args.rig.now.line_pos s.requires.0.placed s.args.rig.now.present) ∙ ap (matched_b s.args.rig.now.present) (sym c.place_marks-table.ensures) ∙ sym c.matched.ensures) in
+    let both_hold : (named_b c.args.rig.now.lines c.args.rig.now.present c.args.rig.now.line_task c.args.rig.now.line_pos ≡ true) × (used_b c.args.rig.now.lines c.args.rig.now.present c.args.rig.now.line_task c.args.rig.now.line_pos ≡ true) = (let s = c in and_true (named_b s.args.rig.now.lines s.args.rig.now.present s.args.rig.now.line_task s.args.rig.now.line_pos) (used_b s.args.rig.now.lines s.args.rig.now.present s.args.rig.now.line_task s.args.rig.now.line_pos) (both_at ∙ not-false _ c.if-not-matched.false-raw)) in
     let b = both_hold in
     sym (first_skip 19 _ _ b.0 ∙ first_skip 20 _ _ b.1 ∙ first_here 21 _ _ (sym c.minor_conditions.ensures ∙ not-true _ c.if-not-minor_conditions.true-raw))
 
 pub returns : goal.returns
 returns c =
-    let both_at : (named_b c.args.lines c.args.present.now c.args.line_task.now c.args.line_pos.now && used_b c.args.lines c.args.present.now c.args.line_task.now c.args.line_pos.now) ≡ c.matched.result = (let s = c in sym (matched_law s.args.lines s.args.line_task.now s.args.line_pos.now s.requires.0.placed s.args.present.now) ∙ ap (matched_b s.args.present.now) (sym c.place_marks-table.ensures) ∙ sym c.matched.ensures) in
-    let both_hold : (named_b c.args.lines c.args.present.now c.args.line_task.now c.args.line_pos.now ≡ true) × (used_b c.args.lines c.args.present.now c.args.line_task.now c.args.line_pos.now ≡ true) = (let s = c in and_true (named_b s.args.lines s.args.present.now s.args.line_task.now s.args.line_pos.now) (used_b s.args.lines s.args.present.now s.args.line_task.now s.args.line_pos.now) (both_at ∙ not-false _ c.if-not-matched.false-raw)) in
+    let both_at : (named_b c.args.rig.now.lines c.args.rig.now.present c.args.rig.now.line_task c.args.rig.now.line_pos && used_b c.args.rig.now.lines c.args.rig.now.present c.args.rig.now.line_task c.args.rig.now.line_pos) ≡ c.matched.result = (let s = c in sym (matched_law s.args.rig.now.lines s.args.rig.now.line_task s.args.rig.now.line_pos s.requires.0.placed s.args.rig.now.present) ∙ ap (matched_b s.args.rig.now.present) (sym c.place_marks-table.ensures) ∙ sym c.matched.ensures) in
+    let both_hold : (named_b c.args.rig.now.lines c.args.rig.now.present c.args.rig.now.line_task c.args.rig.now.line_pos ≡ true) × (used_b c.args.rig.now.lines c.args.rig.now.present c.args.rig.now.line_task c.args.rig.now.line_pos ≡ true) = (let s = c in and_true (named_b s.args.rig.now.lines s.args.rig.now.present s.args.rig.now.line_task s.args.rig.now.line_pos) (used_b s.args.rig.now.lines s.args.rig.now.present s.args.rig.now.line_task s.args.rig.now.line_pos) (both_at ∙ not-false _ c.if-not-matched.false-raw)) in
     let b = both_hold in
     sym (first_skip 19 _ _ b.0 ∙ first_skip 20 _ _ b.1 ∙ first_skip 21 _ _ (sym c.minor_conditions.ensures ∙ not-false _ c.if-not-minor_conditions.false-raw) ∙ first_none 22)

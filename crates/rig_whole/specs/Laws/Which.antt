@@ -15,6 +15,10 @@ use Rattle.rig.specs.declared.Rig.{Rig}
 use Rattle.rig.specs.Rules.{Right}
 use Rattle.rig_whole.specs.Tests.{tests, first_broken}
 use Rattle.rig_whole.specs.Which.{rules, Rule, BrokenFirst}
+use Rattle.rig_whole.specs.declared.Rule.{Rule as Broken}
+use Rattle.rig_whole.specs.Numbers.{rule_report, some_rule}
+use Rattle.std.specs.Prelude.{Result, Ok, Err, ◌↔◌}
+use Rattle.std.specs.Result.{is_ok}
 use Rattle.rig_whole.specs.Laws.Tree.{controllers_is}
 use Rattle.rig_whole.specs.Laws.Whole.{broken_none}
 use Rattle.rig_whole.specs.Laws.Exact.{within_is, small_is, conditions_is, rows_is, line_order_is, cycle_order_is, condition_numbers_is, lines_is, cycle_numbers_is, serves_one_is, not_minor_is, line_has_condition_is, condition_has_line_is, minor_conditions_is, sender_differs_is, task_zeros_is, line_zeros_is, row_zeros_is}
@@ -163,3 +167,8 @@ module _ (g : Rig) (cycles : List Cycle) where
   broken_right n b =
       is_said (is_eqb n 0) b.none
       (λ r. broken_computed n b ∙ (broken_none g cycles).1 r)
+
+  -- so an answer with a rule in it says whether the rig is right
+  pub ok_right : (r : Result (Unit {0}) Broken) → rule_report r ≡ first_broken g cycles → (is_ok r ≡ true) ↔ Right g cycles
+  ok_right (Ok x) e = ((λ q. (broken_none g cycles).0 (sym e)), (λ h. refl))
+  ok_right (Err r) e = ((λ q. absurd (true≢false (sym q))), (λ h. absurd (some_rule r (e ∙ (broken_none g cycles).1 h))))
