@@ -19,8 +19,7 @@ use Rattle.chains.specs.Laws.Check.{stepb, step_out, ringb, marked, rings_start,
 use Rattle.chains.specs.Held.{at, HoldsChains}
 use Rattle.chains.specs.Laws.Held.{at_set}
 use Rattle.chains.specs.declared.Links.{Links}
-use Rattle.sound_chains.specs.declared.Ring.{Ring}
-use Rattle.sound_chains.specs.Post.{aloneb, RingsTo, Walked, WalkedFrom, AllWalked, TasksTested}
+use Rattle.sound_chains.specs.Post.{Ring, aloneb, RingsTo, Walked, WalkedFrom, AllWalked, TasksTested}
 
 -- the walk of a ring, at u with v behind it: what is left to test, and to mark
 pub record RingAt (l : Links) (s : ℕ) (seen m : List ℕ) (left u v : ℕ) : Type 0 where

@@ -1,14 +1,23 @@
 -- What the functions of the check answer.
-use Rattle.std.specs.Prelude.{◌≡◌, Bool, true, false, ◌&&◌, List, ℕ, ◌+◌, ◌≤◌, eqb, length}
+use Rattle.std.specs.Prelude.{◌≡◌, Bool, true, false, ◌&&◌, List, [], ℕ, ◌+◌, ◌≤◌, eqb, length, Option, None, Some}
 use Rattle.chains.specs.Ops.{walk}
 use Rattle.chains.specs.Laws.Check.{ringb, marked, Rings, Accepted, taskb}
 use Rattle.chains.specs.Held.{at}
 use Rattle.chains.specs.declared.Links.{Links}
-use Rattle.sound_chains.specs.declared.Ring.{Ring}
 
 -- the arrays as one value
 abbrev pub links_of : List ℕ → List ℕ → List ℕ → Links
 links_of n p o = record { next = n; prev = p; on = o }
+
+-- whether rings are right, and the tasks that were met on them
+pub record Ring : Type 0 where
+  pub ok : Bool
+  pub seen : List ℕ
+
+-- what `walk_all` answers, as such a record
+abbrev pub ring_of : Option (List ℕ) → Ring
+ring_of None = record { ok = false; seen = [] }
+ring_of (Some seen) = record { ok = true; seen = seen }
 
 -- the ring of s is tested, and its tasks are marked if it is accepted
 pub record Walked (l : Links) (s : ℕ) (seen : List ℕ) (r : Ring) : Type 0 where

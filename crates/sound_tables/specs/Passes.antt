@@ -1,11 +1,15 @@
 -- The tests of a table's entries part by part, as the loops compute them, and that together they say what the tests of
 -- Tests.antt say.
-use Rattle.std.specs.Prelude.{◌≡◌, refl, ◌≢◌, ◌⊎◌, Bool, true, false, cond, ◌&&◌, List, ℕ, ◌+◌, ◌≤◌, ◌<◌, eqb, leb, length, get_or}
-use Rattle.std.proofs.Common.{sym, arith, eqb-true}
+use Rattle.std.specs.Prelude.{◌≡◌, refl, ◌≢◌, ◌⊎◌, Bool, true, false, cond, ◌&&◌, List, ℕ, ◌+◌, ◌-◌, ◌≤◌, ◌<◌, eqb, leb, length, get_or, take, drop}
+use Rattle.std.proofs.Common.{sym, ◌∙◌, ap, arith, add-one, eqb-true}
+use Rattle.std.specs.Int.Bits.{bit_or}
+use Rattle.std.proofs.lemmas.List.{get_or-take, get_or-drop, length-drop, length-take-le}
 use Rattle.std.proofs.lemmas.Bool.{eqb-false}
-use Rattle.laws.specs.Cases.{by}
+use Rattle.laws.specs.Cases.{by, and_yes}
 use Rattle.laws.specs.All.{all, since}
-use Rattle.laws.specs.Laws.All.{since_at}
+use Rattle.laws.specs.Laws.All.{all_same, all_on, since_start, since_at}
+use Rattle.laws.specs.Faults.{or_zero}
+use Rattle.rig_tables.specs.Tests.{small_one}
 use Rattle.laws.specs.Largest.{top_next}
 use Rattle.laws.specs.Decides.{Is}
 use Rattle.laws.specs.Laws.Decides.{is_eqb, is_leb, is_ltb, is_and, is_else, is_then, is_all, is_said, is_same}
@@ -122,3 +126,57 @@ module _ (many : ℕ) where
     within_each =
         is_same (is_said (is_all (length l) (λ i h. is_within i)) within_parts parts_within)
         (is_and (is_part 0 first 0) (is_and (is_part first end top) (is_part end (length l) 0)))
+
+-- ---- the parts as slices
+
+ends_of : (n many first end : ℕ) → After 0 n first → After many n end → (0 < n → 0 < end) → first ≤ end
+ends_of n many first end s e f = by (eqb n 0) (λ q. omega (arith, s.inside, eqb-true n 0 q)) (λ q. omega (arith, s.most, f (omega (arith, eqb-false n 0 q))))
+
+-- the place after 0 is not behind the place after the last of 0 to many
+pub ends_rise : (n many first end : ℕ) → After 0 n first → After many n end → first ≤ end
+ends_rise n many first end s e = ends_of n many first end s e (λ h. e.next 0 h (omega arith))
+
+-- the entries of a slice, by their places in the table
+slice_is : (top a k to : ℕ) (l : List ℕ) → a + k ≡ to → to ≤ length l → all (length (take k (drop a l))) (small_one (take k (drop a l)) top) ≡ all to (since a (cap top l))
+slice_is top a k to l q h =
+    let part = take k (drop a l) in
+    let long : length part ≡ k = length-take-le k (drop a l) (omega (arith, h, length-drop a l)) in
+    ap (λ (n : ℕ). all n (small_one part top)) long
+    ∙ all_same k (small_one part top) (λ i. since a (cap top l) (a + i))
+    (λ i g. ap (λ (x : ℕ). leb x top) (get_or-take k (drop a l) i 0 g ∙ get_or-drop a l i 0) ∙ since_at a (cap top l) (a + i) (omega arith))
+    ∙ all_on a k (since a (cap top l)) (since_start a (cap top l) a (omega arith))
+    ∙ ap (λ (n : ℕ). all n (since a (cap top l))) q
+
+pub within_slices : (l : List ℕ) (many top first end : ℕ) → After 0 (length l) first → After many (length l) end
+    → within_b l many top
+    ≡ (all (length (take first l)) (small_one (take first l) 0)
+    && (all (length (take (end - first) (drop first l))) (small_one (take (end - first) (drop first l)) top)
+    && all (length (take (length l - end) (drop end l))) (small_one (take (length l - end) (drop end l)) 0)))
+within_slices l many top first end s e =
+    let rise = ends_rise (length l) many first end s e in
+    within_each many l top first end s e
+    ∙ sym (rw (slice_is 0 0 first first l (omega arith) s.inside, slice_is top first (end - first) end l (omega (arith, rise)) e.inside, slice_is 0 end (length l - end) (length l) l (omega (arith, e.inside)) (omega arith)) refl)
+
+-- ---- entries that are joined
+
+and_twice : (a b c : Bool) → ((a && b) && c) ≡ (a && (b && c))
+and_twice true b c = refl
+and_twice false b c = refl
+
+-- what is joined so far, place 0 with it, is 0 exactly when each entry is
+abbrev pub Joined : List ℕ → ℕ → ℕ → ℕ → Type 0
+Joined l from faults i = eqb faults 0 ≡ (eqb (get_or l 0 0) 0 && all i (since from (none l)))
+
+pub joined_none : (l : List ℕ) (from : ℕ) → Joined l from (get_or l 0 0) from
+joined_none l from = sym (ap (λ (b : Bool). eqb (get_or l 0 0) 0 && b) (since_start from (none l) from (omega arith)) ∙ and_yes (eqb (get_or l 0 0) 0))
+
+pub joined_next : (l : List ℕ) (from faults i : ℕ) → from ≤ i → Joined l from faults i → Joined l from (bit_or faults (get_or l i 0)) (i + 1)
+unfolding all
+joined_next l from faults i h p =
+    let z = eqb (get_or l 0 0) 0 in
+    let so_far = all i (since from (none l)) in
+    or_zero faults (get_or l i 0) ∙ ap (λ (b : Bool). b && none l i) p ∙ and_twice z so_far (none l i)
+    ∙ ap (λ (b : Bool). z && (so_far && b)) (since_at from (none l) i h) ∙ rw add-one refl
+
+pub joined_all : (l : List ℕ) (many from faults : ℕ) → After many 65 from → Joined l from faults 65 → eqb faults 0 ≡ empty_b l many
+joined_all l many from faults e p = p ∙ sym (empty_each many l from e)

@@ -3,29 +3,19 @@
 #![tactic(auto)]
 
 ghost use Rattle.std.specs.Prelude.{◌≡◌, not, ◌||◌, ℕ, ◌<◌, ◌≤◌, eqb, get_or};
-ghost use Rattle.laws.specs.Bits.{bit};
 ghost use Rattle.rules.specs.State.{active};
 ghost use Rattle.rules.specs.Soundness.{Within};
 ghost use Rattle.sound_tables.specs.Tests.{tree_b, waits_b, flags_b};
 
+use exec_running::{UNINVOKED, WAITING};
 use rig_tables::{FLAG_PLACES, TASK_PLACES};
-
-const UNINVOKED: u8 = 0;
-
-const WAITING: u8 = 2;
 
 const FIRST_TASK: usize = 1;
 
 fn tree_ok(t: usize, state: u8, above: u8) -> bool
     ensures { result ≡ (eqb t 1 || (eqb state 0 || not (eqb above 0))) }
 {
-    if t == FIRST_TASK {
-        return true;
-    }
-    if state == UNINVOKED {
-        return true;
-    }
-    above != UNINVOKED
+    t == FIRST_TASK || state == UNINVOKED || above != UNINVOKED
 }
 
 // Each invoked task but task 1 has an invoked controller. Beyond the last task none is invoked.
@@ -37,29 +27,12 @@ pub fn tree<'a>(
     requires { ((t : ℕ) → t < 65 → get_or controller.now t 0 < 65) × (Within many states.now × (many ≤ 64)) }
     ensures { result ≡ tree_b controller.now states.now }
 {
-    let mut t: usize = 0;
-    while t <= many {
-        let c = controller[t] as usize;
-        if !tree_ok(t, states[t], states[c]) {
+    for t in 0..many + 1 {
+        if !tree_ok(t, states[t], states[controller[t] as usize]) {
             return false;
         }
-        t = t + 1;
     }
     true
-}
-
-// 1 where a task with the state is waiting.
-fn waiting(state: u8) -> u16
-    ensures { result ≡ bit (eqb state 2) }
-{
-    if state == WAITING { 1 } else { 0 }
-}
-
-// 1 where a task is in a chain.
-fn chained(on: u16) -> u16
-    ensures { result ≡ bit (not (eqb on 0)) }
-{
-    if on == 0 { 0 } else { 1 }
 }
 
 // Who is waiting is in a chain, and no other is. What differs is joined and looked at once.
@@ -67,12 +40,10 @@ pub fn waits<'a>(states: &'a [u8; TASK_PLACES], on: &'a [u16; TASK_PLACES]) -> b
     ensures { result ≡ waits_b states.now on.now }
 {
     let mut faults: u16 = 0;
-    let mut t: usize = 0;
-    while t < TASK_PLACES {
-        let waits = waiting(states[t]);
-        let held = chained(on[t]);
-        faults = faults | (waits ^ held);
-        t = t + 1;
+    for t in 0..TASK_PLACES {
+        let waits = u16::from(states[t] == WAITING);
+        let held = u16::from(on[t] != 0);
+        faults |= waits ^ held;
     }
     faults == 0
 }
@@ -80,16 +51,13 @@ pub fn waits<'a>(states: &'a [u8; TASK_PLACES], on: &'a [u16; TASK_PLACES]) -> b
 fn active_of(state: u8) -> u8
     ensures { result ≡ active state }
 {
-    if state < WAITING { 0 } else { 1 }
+    u8::from(WAITING <= state)
 }
 
 fn flag_ok(activation: u8, value: u8, state: u8) -> bool
     ensures { result ≡ (eqb activation 0 || eqb value (active state)) }
 {
-    if activation == 0 {
-        return true;
-    }
-    value == active_of(state)
+    activation == 0 || value == active_of(state)
 }
 
 // An activation flag is on exactly when its task is active. Beyond the last task none has one.
@@ -102,13 +70,10 @@ pub fn flags<'a>(
     requires { ((t : ℕ) → t < 65 → get_or activation.now t 0 < 129) × (Within many activation.now × (many ≤ 64)) }
     ensures { result ≡ flags_b activation.now states.now values.now }
 {
-    let mut t: usize = 0;
-    while t <= many {
-        let f = activation[t] as usize;
-        if !flag_ok(activation[t], values[f], states[t]) {
+    for t in 0..many + 1 {
+        if !flag_ok(activation[t], values[activation[t] as usize], states[t]) {
             return false;
         }
-        t = t + 1;
     }
     true
 }

@@ -6,7 +6,7 @@ use Rattle.chain_tests.specs.Laws.Order.{Rising}
 use Rattle.chain_tests.proofs.in_order.Given as goal
 
 abbrev pub invariant-loop-v : goal.invariant-loop-v
-invariant-loop-v l = Rising (at l.next) (at l.wake) l.lo l.s l.u l.v l.w
+invariant-loop-v l = Rising (at l.links.next) (at l.wake) l.lo l.s l.u l.v l.w
 
 abbrev pub decreases-loop-v : goal.decreases-loop-v
-decreases-loop-v l = length (walk (at l.next) 64 64 l.u)
+decreases-loop-v l = length (walk (at l.links.next) 64 64 l.u)

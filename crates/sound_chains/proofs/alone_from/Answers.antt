@@ -1,6 +1,6 @@
 use borrow.Author.Rules.{rules}
 use mathlib.Core.Path.{◌≡◌, refl}
-use Prim.Native.Nat.{◌+◌, ◌-◌}
+use Prim.Native.Nat.{◌+◌}
 use native.Mathlib.Omega.{arith}
 use lib.Bits.{bit_or, bit_xor}
 use Rattle.laws.specs.Laws.All.{passed_none}
@@ -11,14 +11,14 @@ use Rattle.sound_chains.specs.Laws.{alone_fault}
 use Rattle.sound_chains.proofs.alone_from.Goals as goal
 
 pub loop-i-init : goal.loop-i-init
-loop-i-init c = (passed_none (λ k. aloneb (at c.args.next.now) (at c.args.prev.now) (c.args.s + k)), search rules)
+loop-i-init c = (passed_none (λ k. aloneb (at c.args.links.now.next) (at c.args.links.now.prev) (c.args.s + k)), search rules)
 
 pub loop-i-preserved : goal.loop-i-preserved
 loop-i-preserved c =
     let a = c.args in
     let l = c.loop-i in
-    let N = at a.next.now in
-    let P = at a.prev.now in
+    let N = at a.links.now.next in
+    let P = at a.links.now.prev in
     let own = a.s + l.i in
     (or_next l.faults l.i (λ k. aloneb N P (a.s + k)) (bit_or (bit_xor (N own) own) (bit_xor (P own) own)) l.invariant.0 (alone_fault N P own) refl, search rules)
 

@@ -1,5 +1,5 @@
+use borrow.Author.Rules.{rules}
 use mathlib.Core.Path.{sym, ◌∙◌}
-use Rattle.sound_chains.specs.Post.{links_of}
 use Rattle.sound_chains.specs.Laws.{from_alone}
 use Rattle.sound_chains.proofs.walk_block.Goals as goal
 
@@ -7,4 +7,4 @@ pub returns-then-alone_from : goal.returns-then-alone_from
 returns-then-alone_from c =
     let s = c in
     let a = s.args in
-    from_alone (links_of a.next.now a.prev.now a.on.now) a.s s.requires.0 a.seen.now 16 s.requires.2 (sym c.alone_from.ensures ∙ c.if-alone_from.true)
+    from_alone a.links.now a.s s.requires.0 a.seen.now 16 (search rules) (sym c.alone_from.ensures ∙ c.if-alone_from.true)

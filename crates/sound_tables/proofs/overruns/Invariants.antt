@@ -1,10 +1,6 @@
-use Prim.Native.Nat.{◌≤◌, ◌-◌}
-use Rattle.laws.specs.All.{Passed, since}
-use Rattle.sound_tables.specs.Passes.{none}
+use Prim.Native.Nat.{◌≤◌}
+use Rattle.sound_tables.specs.Passes.{Joined}
 use Rattle.sound_tables.proofs.overruns.Given as goal
 
 abbrev pub invariant-loop-i : goal.invariant-loop-i
-invariant-loop-i l = Passed l.faults l.i (since l.initial.i (none l.numbers)) × ((l.initial.i ≤ l.i) × (l.i ≤ 65))
-
-abbrev pub decreases-loop-i : goal.decreases-loop-i
-decreases-loop-i l = 65 - l.i
+invariant-loop-i l = Joined l.numbers l.initial.i l.faults l.i × ((l.initial.i ≤ l.i) × (l.i ≤ 65))

@@ -1,8 +1,7 @@
 use borrow.Author.Rules.{rules}
 use mathlib.Core.Path.{◌≡◌, sym, ◌∙◌}
-use mathlib.Core.Bool.{true}
 use borrow.Author.Tests.{not-true, not-false}
-use Prim.Native.Nat.{◌+◌, ◌-◌}
+use Prim.Native.Nat.{◌+◌}
 use native.Mathlib.Omega.{arith}
 use Rattle.laws.specs.Laws.All.{all_zero, all_next, all_not}
 use Rattle.sound_tables.specs.Exact.{flags_many}
@@ -11,11 +10,8 @@ use Rattle.sound_tasks.proofs.flags.Goals as goal
 pub loop-t-init : goal.loop-t-init
 loop-t-init c = (all_zero _, search rules)
 
-pub overflow_cast-f : goal.overflow_cast-f
-overflow_cast-f c = omega (arith, c.requires.0 c.loop-t.t (omega (arith, c.loop-t-test.true)))
-
-pub bounds-values-f : goal.bounds-values-f
-bounds-values-f c = omega (arith, c.requires.0 c.loop-t.t (omega (arith, c.loop-t-test.true)))
+pub bounds-values-activation : goal.bounds-values-activation
+bounds-values-activation c = omega (arith, c.requires.0 c.loop-t.t (omega (arith, c.loop-t-test.true)))
 
 pub returns-then-not-flag_ok : goal.returns-then-not-flag_ok
 returns-then-not-flag_ok c = sym (all_not _ _ c.loop-t.t (omega (arith, c.loop-t-test.true)) (sym c.flag_ok.ensures ∙ not-true _ c.if-not-flag_ok.true-raw))

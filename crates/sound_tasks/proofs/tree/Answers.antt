@@ -1,8 +1,7 @@
 use borrow.Author.Rules.{rules}
 use mathlib.Core.Path.{◌≡◌, sym, ◌∙◌}
-use mathlib.Core.Bool.{true}
 use borrow.Author.Tests.{not-true, not-false}
-use Prim.Native.Nat.{◌+◌, ◌-◌}
+use Prim.Native.Nat.{◌+◌}
 use native.Mathlib.Omega.{arith}
 use Rattle.laws.specs.Laws.All.{all_zero, all_next, all_not}
 use Rattle.sound_tables.specs.Exact.{tree_many}
@@ -11,11 +10,8 @@ use Rattle.sound_tasks.proofs.tree.Goals as goal
 pub loop-t-init : goal.loop-t-init
 loop-t-init c = (all_zero _, search rules)
 
-pub overflow_cast-c : goal.overflow_cast-c
-overflow_cast-c c = omega (arith, c.requires.0 c.loop-t.t (omega (arith, c.loop-t-test.true)))
-
-pub bounds-states-c : goal.bounds-states-c
-bounds-states-c c = omega (arith, c.requires.0 c.loop-t.t (omega (arith, c.loop-t-test.true)))
+pub bounds-states-controller : goal.bounds-states-controller
+bounds-states-controller c = omega (arith, c.requires.0 c.loop-t.t (omega (arith, c.loop-t-test.true)))
 
 pub returns-then-not-tree_ok : goal.returns-then-not-tree_ok
 returns-then-not-tree_ok c = sym (all_not _ _ c.loop-t.t (omega (arith, c.loop-t-test.true)) (sym c.tree_ok.ensures ∙ not-true _ c.if-not-tree_ok.true-raw))

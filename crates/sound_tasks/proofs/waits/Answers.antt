@@ -1,6 +1,8 @@
+use mathlib.Core.Bool.{not}
+use lib.Dec.{eqb}
+use Rattle.laws.specs.Bits.{bit}
 use borrow.Author.Rules.{rules}
 use mathlib.Core.Path.{◌≡◌, refl}
-use Prim.Native.Nat.{◌-◌}
 use native.Mathlib.Omega.{arith}
 use lib.Bits.{bit_xor}
 use lib.ListN.{get_or}
@@ -17,9 +19,11 @@ pub loop-t-preserved : goal.loop-t-preserved
 loop-t-preserved c =
     let a = c.args in
     let l = c.loop-t in
-    let w = c.waiting-waits in
-    let h = c.chained-held in
-    (or_next l.faults l.t (wait_one a.states.now a.on.now) (bit_xor w.result h.result) l.invariant.0 (wait_fault (get_or a.states.now l.t 0) (get_or a.on.now l.t 0) w.ensures h.ensures) refl, search rules)
+    let state = get_or a.states.now l.t 0 in
+    let chain = get_or a.on.now l.t 0 in
+    let w : c.from-waits.result ≡ bit (eqb state 2) = search rules in
+    let h : c.from-held.result ≡ bit (not (eqb chain 0)) = search rules in
+    (or_next l.faults l.t (wait_one a.states.now a.on.now) (bit_xor c.from-waits.result c.from-held.result) l.invariant.0 (wait_fault state chain w h) refl, search rules)
 
 pub returns : goal.returns
 returns c =
