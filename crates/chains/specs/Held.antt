@@ -1,5 +1,5 @@
 -- The chains that link arrays hold: 64 tasks, and the anchors 65 .. 321 of 257 chains.
-use Rattle.std.specs.Prelude.{◌≡◌, List, [], ◌∷◌, ◌++◌, ℕ, ◌+◌, ◌≤◌, ◌<◌, length}
+use Rattle.std.specs.Prelude.{◌≡◌, List, [], ◌∷◌, ◌++◌, ℕ, ◌≤◌, ◌<◌, length}
 pub use Rattle.laws.specs.Tables.{at}
 use Rattle.laws.specs.Sizes.{most_tasks, task_places}
 use Rattle.laws.specs.Functions.{upd}

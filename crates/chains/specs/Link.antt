@@ -1,5 +1,5 @@
 -- Doubly linked nodes, over any two link functions N (next) and P (previous).
-use Rattle.std.specs.Prelude.{◌≡◌, List, [], ◌∷◌, ◌++◌, ℕ, ◌+◌}
+use Rattle.std.specs.Prelude.{◌≡◌, List, [], ◌∷◌, ◌++◌, ℕ}
 
 -- from u forward: the next of each is the one after it, and its previous the one before
 abbrev pub Linked : (ℕ → ℕ) → (ℕ → ℕ) → ℕ → List ℕ → Type 0

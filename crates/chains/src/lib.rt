@@ -11,8 +11,9 @@ pub const FIRST_ANCHOR: usize = 65;
 
 pub const NODES: usize = 322;
 
+// Numbers only: C lends memory of any bytes. So that they hold chains is asked of each function, and is no invariant of the type.
 #[repr(C)]
-#[derive(Clone, Copy)]
+#[derive(Clone, Copy, Debug, PartialEq, Eq)]
 pub struct Links {
     pub next: [u16; NODES],
     pub prev: [u16; NODES],
@@ -21,56 +22,49 @@ pub struct Links {
 }
 
 // Task t leaves its chain.
-pub fn unlink(l: Links, t: usize) -> Links
-    requires holds_chains { HoldsChains l }
-    requires t_nonzero { (0 < t) × (t ≤ 64) × (at l.on t ≡ 0 → ⊥) }
-    ensures { Leaves l t result }
+pub fn unlink(l: &mut Links, t: usize)
+    requires holds_chains { HoldsChains l.old }
+    requires t_nonzero { (0 < t) × (t ≤ 64) × (at l.old.on t ≡ 0 → ⊥) }
+    ensures { Leaves l.old t l.new }
 {
-    let mut r = l;
-    let u = r.prev[t];
-    let v = r.next[t];
-    let ui = u as usize;
-    let vi = v as usize;
-    r.next[ui] = v;
-    r.next[t] = 0;
-    r.prev[vi] = u;
-    r.prev[t] = 0;
-    r.on[t] = 0;
-    r
+    let u = l.prev[t];
+    let v = l.next[t];
+    l.next[u as usize] = v;
+    l.next[t] = 0;
+    l.prev[v as usize] = u;
+    l.prev[t] = 0;
+    l.on[t] = 0;
 }
 
 // Task t goes behind the node u of the chain of anchor s.
-pub fn link_after(l: Links, s: usize, u: usize, t: usize) -> Links
-    requires holds_chains { HoldsChains l }
-    requires puts { Puts l s u t }
-    ensures { Inserts l s u t result }
+pub fn link_after(l: &mut Links, s: usize, u: usize, t: usize)
+    requires holds_chains { HoldsChains l.old }
+    requires puts { Puts l.old s u t }
+    ensures { Inserts l.old s u t l.new }
 {
-    let mut r = l;
-    let v = r.next[u];
-    let vi = v as usize;
-    r.next[u] = t as u16;
-    r.next[t] = v;
-    r.prev[vi] = t as u16;
-    r.prev[t] = u as u16;
-    r.on[t] = s as u16;
-    r
+    let v = l.next[u];
+    l.next[u] = t as u16;
+    l.next[t] = v;
+    l.prev[v as usize] = t as u16;
+    l.prev[t] = u as u16;
+    l.on[t] = s as u16;
 }
 
 // Task t goes to the end of the chain of anchor s.
-pub fn append(l: Links, s: usize, t: usize) -> Links
-    requires holds_chains { HoldsChains l }
-    requires puts { Puts l s s t }
-    ensures { Joins l s t result }
+pub fn append(l: &mut Links, s: usize, t: usize)
+    requires holds_chains { HoldsChains l.old }
+    requires puts { Puts l.old s s t }
+    ensures { Joins l.old s t l.new }
 {
     let u = l.prev[s] as usize;
-    link_after(l, s, u, t)
+    link_after(l, s, u, t);
 }
 
 // Task t goes to its place by waking count in the chain of anchor s, behind those with the same count.
-pub fn place(l: Links, wake: [u32; PLACES], s: usize, t: usize) -> Links
-    requires holds_chains { HoldsChains l }
-    requires puts { Puts l s s t }
-    ensures { Places l wake s t result }
+pub fn place(l: &mut Links, wake: &[u32; PLACES], s: usize, t: usize)
+    requires holds_chains { HoldsChains l.old }
+    requires puts { Puts l.old s s t }
+    ensures { Places l.old wake.now s t l.new }
 {
     let w = wake[t];
     let mut u = s;
@@ -82,7 +76,7 @@ pub fn place(l: Links, wake: [u32; PLACES], s: usize, t: usize) -> Links
         u = v;
         v = l.next[v] as usize;
     }
-    link_after(l, s, u, t)
+    link_after(l, s, u, t);
 }
 
 // No task is in a chain: each anchor is linked to itself.
@@ -91,11 +85,9 @@ pub fn fresh() -> Links
 {
     let mut next = [0u16; NODES];
     let mut prev = [0u16; NODES];
-    let mut i: usize = FIRST_ANCHOR;
-    while i < NODES {
+    for i in FIRST_ANCHOR..NODES {
         next[i] = i as u16;
         prev[i] = i as u16;
-        i += 1;
     }
     let on = [0u16; PLACES];
     Links { next, prev, on }

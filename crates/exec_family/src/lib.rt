@@ -7,19 +7,14 @@ ghost use Rattle.rules.specs.Family.{family, cleared};
 ghost use Rattle.exec_family.specs.Post.{Controllers, Left, Deserted};
 
 use chains::Links;
+use exec_running::UNINVOKED;
 use rig_tables::{TASK_PLACES, TASKS};
-
-const UNINVOKED: u8 = 0;
 
 // The mark of task u in the family of task t, by its controller's mark.
 pub fn mark(u: usize, t: usize, above: u8) -> u8
     ensures { result ≡ cond (eqb u t || eqb above 1) 1 0 }
 {
-    if u == t {
-        1
-    } else {
-        if above == 1 { 1 } else { 0 }
-    }
+    u8::from(u == t || above == 1)
 }
 
 // Task t and all its descendants are marked 1.
@@ -28,13 +23,11 @@ pub fn family(controller: &[u8; TASK_PLACES], t: usize) -> [u8; TASK_PLACES]
     ensures { result ≡ family (at controller.now) t }
 {
     let mut marks = [0u8; TASK_PLACES];
-    let mut i: usize = 0;
-    while i < TASKS {
+    for i in 0..TASKS {
         let u = i + 1;
         let c = controller[u] as usize;
         let above = marks[c];
         marks[u] = mark(u, t, above);
-        i = i + 1;
     }
     marks
 }
@@ -43,42 +36,34 @@ pub fn family(controller: &[u8; TASK_PLACES], t: usize) -> [u8; TASK_PLACES]
 pub fn uninvoke(marks: &[u8; TASK_PLACES], state: &mut [u8; TASK_PLACES])
     ensures { state.new ≡ cleared marks.now state.old }
 {
-    let mut i: usize = 0;
-    while i < TASKS {
+    for i in 0..TASKS {
         let t = i + 1;
         if marks[t] == 1 {
             state[t] = UNINVOKED;
         }
-        i = i + 1;
     }
 }
 
 // Task t is taken out of its chain, if it is in one.
-pub fn leave(l: Links, t: usize) -> Links
-    requires holds_chains { HoldsChains l }
+pub fn leave(l: &mut Links, t: usize)
+    requires holds_chains { HoldsChains l.old }
     requires t_nonzero { (0 < t) × (t ≤ 64) }
-    ensures { Left l t result }
+    ensures { Left l.old t l.new }
 {
-    if l.on[t] == 0 {
-        l
-    } else {
-        chains::unlink(l, t)
+    if l.on[t] != 0 {
+        chains::unlink(l, t);
     }
 }
 
 // The marked tasks leave their chains.
-pub fn desert(l: Links, marks: [u8; TASK_PLACES]) -> Links
-    requires { HoldsChains l }
-    ensures { Deserted l marks result }
+pub fn desert(l: &mut Links, marks: &[u8; TASK_PLACES])
+    requires { HoldsChains l.old }
+    ensures { Deserted l.old marks.now l.new }
 {
-    let mut k = l;
-    let mut i: usize = 0;
-    while i < TASKS {
+    for i in 0..TASKS {
         let t = i + 1;
         if marks[t] == 1 {
-            k = leave(k, t);
+            leave(l, t);
         }
-        i = i + 1;
     }
-    k
 }

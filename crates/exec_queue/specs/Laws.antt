@@ -1,2 +1,3 @@
 pub mod Queued
 pub mod Cycles
+pub mod Found

@@ -11,9 +11,9 @@ abbrev pub minor_of : List Cycle → ℕ → ℕ → ℕ
 minor_of cycles c = at (get_or cycles c no_cycle).flags
 
 -- the queue, the last queued first
-unfoldable pub entries : List ℕ → List ℕ → ℕ → List Entry
-entries flags values zero = []
-entries flags values (suc n) = record { flag = get_or flags n 0; value = get_or values n 0 } ∷ entries flags values n
+unfoldable pub entries : List (ℕ × ℕ) → ℕ → List Entry
+entries l zero = []
+entries l (suc n) = record { flag = (get_or l n (0, 0)).0; value = (get_or l n (0, 0)).1 } ∷ entries l n
 
 abbrev pub entries_of : Queue → List Entry
-entries_of q = entries q.flag q.value q.n
+entries_of q = entries q.entries q.n

@@ -1,19 +1,18 @@
 // Flags: which are activation or minor-cycle flags, and the queue of those to be served.
 #![tactic(auto)]
 
-ghost use Rattle.std.specs.Prelude.{◌≡◌, ◌&&◌, [], ◌<◌, eqb};
+ghost use Rattle.std.specs.Prelude.{◌≡◌, ◌&&◌, [], ◌<◌, ◌≤◌, eqb};
 ghost use Rattle.chains.specs.Held.{at};
 ghost use Rattle.rules.specs.Rig.{in_cycle, is_minor, is_activation};
 ghost use Rattle.rules.specs.Calls.{cycle_queue};
 ghost use Rattle.rules.specs.State.{active};
 ghost use Rattle.rules.specs.Family.{offs};
 ghost use Rattle.exec_queue.specs.View.{minor_of, entries_of};
-ghost use Rattle.exec_queue.specs.Post.{Pushed};
+ghost use Rattle.exec_queue.specs.Post.{Popped, Pushed};
 
+use exec_running::INACTIVE;
 use rig::Cycle;
-use rig_tables::{CYCLE_FLAGS, CYCLES, TASK_PLACES, TASKS};
-
-const INACTIVE: u8 = 1;
+use rig_tables::{CYCLES, TASK_PLACES, TASKS};
 
 // A call serves at most 79 flags.
 pub const QUEUED: usize = 80;
@@ -22,52 +21,29 @@ pub const QUEUED: usize = 80;
 pub fn is_activation(activation: &[u8; TASK_PLACES], f: u8) -> bool
     ensures { result ≡ is_activation (at activation.now) f }
 {
-    let mut i: usize = 0;
-    while i < TASKS {
-        let t = i + 1;
-        if activation[t] == f {
-            return true;
-        }
-        i = i + 1;
-    }
-    false
+    activation[1..].contains(&f)
 }
 
 // Whether flag f is on the list of a minor cycle.
-pub fn in_cycle(cycle: Cycle, f: u8) -> bool
-    ensures { result ≡ in_cycle (at cycle.flags) f }
+pub fn in_cycle(cycle: &Cycle, f: u8) -> bool
+    ensures { result ≡ in_cycle (at cycle.now.flags) f }
 {
-    let mut i: usize = 0;
-    while i < CYCLE_FLAGS {
-        if cycle.flags[i] == f {
-            return true;
-        }
-        i = i + 1;
-    }
-    false
+    cycle.flags.contains(&f)
 }
 
 // Whether f is a minor-cycle flag.
-pub fn is_minor(cycles: [Cycle; CYCLES], f: u8) -> bool
-    ensures { result ≡ is_minor (minor_of cycles) f }
+pub fn is_minor(cycles: &[Cycle; CYCLES], f: u8) -> bool
+    ensures { result ≡ is_minor (minor_of cycles.now) f }
 {
-    let mut c: usize = 0;
-    while c < CYCLES {
-        let cycle = cycles[c];
-        if in_cycle(cycle, f) {
-            return true;
-        }
-        c = c + 1;
-    }
-    false
+    cycles.iter().any(|cycle| in_cycle(cycle, f))
 }
 
-// What is queued: entries 0 to n - 1; the last is taken off first.
-#[derive(Clone, Copy)]
+// What is queued, each a flag and its value: entries 0 to n - 1; the last is taken off first. No equality is derived: it would
+// compare what is left behind the last entry too.
+#[derive(Clone, Copy, Debug)]
 pub struct Queue {
     pub n: usize,
-    pub flag: [u8; QUEUED],
-    pub value: [u8; QUEUED],
+    pub entries: [(u8, u8); QUEUED],
 }
 
 impl Queue {
@@ -76,57 +52,58 @@ impl Queue {
     {
         Queue {
             n: 0,
-            flag: [0; QUEUED],
-            value: [0; QUEUED],
+            entries: [(0, 0); QUEUED],
         }
     }
 
     // Flag 0 is none, and queues nothing.
-    pub fn push(mut self, f: u8, v: u8) -> Queue
-        requires { self.n < 80 }
-        ensures { Pushed self f v result }
+    pub fn push(&mut self, f: u8, v: u8)
+        requires { self.old.n < 80 }
+        ensures { Pushed self.old f v self.new }
     {
-        if f == 0 {
-            return self;
+        if f != 0 {
+            self.entries[self.n] = (f, v);
+            self.n += 1;
         }
-        let k = self.n;
-        self.flag[k] = f;
-        self.value[k] = v;
-        self.n = k + 1;
-        self
+    }
+
+    // The last queued is taken off: its flag and value.
+    pub fn pop(&mut self) -> Option<(u8, u8)>
+        requires { self.old.n ≤ 80 }
+        ensures { Popped self.old result self.new }
+    {
+        if self.n == 0 {
+            return None;
+        }
+        self.n -= 1;
+        Some(self.entries[self.n])
     }
 
     // The flags of a cycle's list, each on, in file order.
-    pub fn of_cycle(cycle: Cycle) -> Queue
-        ensures { entries_of result ≡ cycle_queue (at cycle.flags) }
+    pub fn of_cycle(cycle: &Cycle) -> Queue
+        ensures { entries_of result ≡ cycle_queue (at cycle.now.flags) }
     {
         let mut q = Queue::empty();
-        let mut i: usize = 0;
-        while i < CYCLE_FLAGS {
-            let f = cycle.flags[i];
-            q = q.push(f, 1);
-            i = i + 1;
+        for f in &cycle.flags {
+            q.push(*f, 1);
         }
         q
     }
 
     // The activation flags of those marked who are active, each off, by rising number.
-    pub fn of_offs<'a>(
-        activation: &'a [u8; TASK_PLACES],
-        marks: &'a [u8; TASK_PLACES],
-        state: &'a [u8; TASK_PLACES],
+    pub fn of_offs(
+        activation: &[u8; TASK_PLACES],
+        marks: &[u8; TASK_PLACES],
+        state: &[u8; TASK_PLACES],
     ) -> Queue
         ensures { entries_of result ≡ offs (at activation.now) marks.now state.now }
     {
         let mut q = Queue::empty();
-        let mut i: usize = 0;
-        while i < TASKS {
+        for i in 0..TASKS {
             let t = i + 1;
             if struck(marks[t], state[t]) {
-                let f = activation[t];
-                q = q.push(f, 0);
+                q.push(activation[t], 0);
             }
-            i = i + 1;
         }
         q
     }
@@ -136,5 +113,5 @@ impl Queue {
 pub fn struck(mark: u8, state: u8) -> bool
     ensures { result ≡ (eqb mark 1 && eqb (active state) 1) }
 {
-    if mark == 1 { INACTIVE < state } else { false }
+    mark == 1 && INACTIVE < state
 }

@@ -5,10 +5,19 @@ ghost use Rattle.std.specs.Prelude.{◌≡◌, not, ◌&&◌, ◌||◌, ◌+◌,
 ghost use Rattle.rig_tables.specs.Tests.{at};
 ghost use Rattle.rules.specs.Running.{best, chosen};
 
+use rig::Rig;
 use rig_tables::{TASK_PLACES, TASKS};
 
-const DISPATCHABLE: u8 = 3;
+// "States: 0 uninvoked, 1 inactive, 2 waiting, 3 dispatchable." Numbers: C reads and writes them in the record.
+pub const UNINVOKED: u8 = 0;
 
+pub const INACTIVE: u8 = 1;
+
+pub const WAITING: u8 = 2;
+
+pub const DISPATCHABLE: u8 = 3;
+
+// "Privileged tasks rank above all others, by priority among themselves."
 pub fn rank(pv: u8, pr: u8) -> u32
     ensures { result ≡ 256 * pv + pr }
 {
@@ -19,55 +28,40 @@ pub fn rank(pv: u8, pr: u8) -> u32
 pub fn better(b: usize, rb: u32, rt: u32) -> bool
     ensures { result ≡ (eqb b 0 || ltb rb rt) }
 {
-    if b == 0 { true } else { rb < rt }
+    b == 0 || rb < rt
 }
 
 pub fn stays(n: usize, s: u8, rb: u32, rn: u32) -> bool
     ensures { result ≡ (not (eqb n 0) && (eqb s 3 && leb rb rn)) }
 {
-    if n == 0 {
-        false
-    } else {
-        if s == DISPATCHABLE { rb <= rn } else { false }
-    }
+    n != 0 && s == DISPATCHABLE && rb <= rn
 }
 
-// The dispatchable task of the highest rank, lowest number first; 0 for none.
-pub fn best<'a>(
-    privileged: &'a [u8; TASK_PLACES],
-    priority: &'a [u8; TASK_PLACES],
-    state: &[u8; TASK_PLACES],
-) -> usize
-    ensures { (result ≡ best (at privileged.now) (at priority.now) state.now 64) × (result ≤ 64) }
+// The dispatchable task of the highest rank, lowest number first; 0 for none, as in the record's `running`.
+pub fn best(rig: &Rig, state: &[u8; TASK_PLACES]) -> usize
+    ensures { (result ≡ best (at rig.now.privileged) (at rig.now.priority) state.now 64) × (result ≤ 64) }
 {
     let mut b: usize = 0;
-    let mut i: usize = 0;
-    while i < TASKS {
+    for i in 0..TASKS {
         let t = i + 1;
         if state[t] == DISPATCHABLE {
-            let rb = rank(privileged[b], priority[b]);
-            let rt = rank(privileged[t], priority[t]);
+            let rb = rank(rig.privileged[b], rig.priority[b]);
+            let rt = rank(rig.privileged[t], rig.priority[t]);
             if better(b, rb, rt) {
                 b = t;
             }
         }
-        i = i + 1;
     }
     b
 }
 
 // Who runs: the task n that ran, or the best.
-pub fn chosen<'a>(
-    privileged: &'a [u8; TASK_PLACES],
-    priority: &'a [u8; TASK_PLACES],
-    state: &[u8; TASK_PLACES],
-    n: usize,
-) -> usize
+pub fn chosen(rig: &Rig, state: &[u8; TASK_PLACES], n: usize) -> usize
     requires { n ≤ 64 }
-    ensures { (result ≡ chosen (at privileged.now) (at priority.now) state.now n) × (result ≤ 64) }
+    ensures { (result ≡ chosen (at rig.now.privileged) (at rig.now.priority) state.now n) × (result ≤ 64) }
 {
-    let b = best(privileged, priority, state);
-    let rb = rank(privileged[b], priority[b]);
-    let rn = rank(privileged[n], priority[n]);
+    let b = best(rig, state);
+    let rb = rank(rig.privileged[b], rig.priority[b]);
+    let rn = rank(rig.privileged[n], rig.priority[n]);
     if stays(n, state[n], rb, rn) { n } else { b }
 }

@@ -9,8 +9,8 @@ use Rattle.rules.specs.State.{blank}
 use Rattle.rules.specs.Running.{dispatch}
 use Rattle.rules.specs.Calls.{tested, scheduled, finished, terminated, cancelled}
 use Rattle.exec_state.specs.View.{rig_of, view_of, work_of}
+use Rattle.exec_state.specs.Work.{Work}
 use Rattle.exec_state.specs.declared.State.{State}
-use Rattle.exec_state.specs.declared.Work.{Work}
 
 -- ---- what is asked
 

@@ -4,19 +4,14 @@
 ghost use Rattle.std.specs.Prelude.{◌<◌, ◌≤◌};
 ghost use Rattle.chains.specs.Held.{HoldsChains};
 ghost use Rattle.exec_state.specs.Post.{CancelOk, Dispatched, Finished, Terminated, Cancelled, Blank};
-ghost use Rattle.exec_state.specs.Set.{with_ranks};
 
 use chains::Links;
 use exec_queue::Queue;
+pub use exec_running::{DISPATCHABLE, INACTIVE, UNINVOKED, WAITING};
 use rig::Rig;
 use rig_tables::{CONDITIONS, FLAG_PLACES, TASK_PLACES};
 
-// "States: 0 uninvoked, 1 inactive, 2 waiting, 3 dispatchable."
-pub const INACTIVE: u8 = 1;
-
-pub const DISPATCHABLE: u8 = 3;
-
-// The values of a flag.
+// The values of a flag, numbers as in the record.
 const OFF: u8 = 0;
 
 pub const ON: u8 = 1;
@@ -26,9 +21,9 @@ pub const TIME_CHAIN: usize = 65;
 
 pub const FLAG_CHAINS: usize = 64;
 
-// Tables by number, place 0 unused; a condition at 16 * task + position.
+// Tables by number, place 0 unused; a condition at 16 * task + position. Numbers only: C lends memory of any bytes.
 #[repr(C)]
-#[derive(Clone, Copy)]
+#[derive(Clone, Copy, Debug, PartialEq, Eq)]
 pub struct State {
     pub count: u32,
     pub value: [u8; FLAG_PLACES],
@@ -38,13 +33,6 @@ pub struct State {
     pub overruns: [u16; TASK_PLACES],
     pub links: Links,
     pub running: u8,
-}
-
-// A state and what is queued.
-#[derive(Clone, Copy)]
-pub struct Work {
-    pub st: State,
-    pub queue: Queue,
 }
 
 impl State {
@@ -60,65 +48,61 @@ impl State {
             state: [0; TASK_PLACES],
             wake: [0; TASK_PLACES],
             overruns: [0; TASK_PLACES],
-            links: links,
+            links,
             running: 0,
         }
     }
 
     // Who runs.
-    pub fn dispatched<'a>(
-        mut self,
-        privileged: &'a [u8; TASK_PLACES],
-        priority: &'a [u8; TASK_PLACES],
-    ) -> State
-        requires { self.running ≤ 64 }
-        ensures { (g : Rig) → Dispatched self (with_ranks privileged.now priority.now g) result }
+    pub fn dispatch(&mut self, rig: &Rig)
+        requires { self.old.running ≤ 64 }
+        ensures { Dispatched self.old rig.now self.new }
     {
+        // Nothing is read: by a look at lent links the proof knows the sizes of their arrays, which the state around them does not tell.
+        let links = &self.links;
+        let _ = links.on[0];
         let n = self.running as usize;
-        let c = exec_running::chosen(privileged, priority, &self.state, n);
+        let c = exec_running::chosen(rig, &self.state, n);
         self.running = c as u8;
-        self
     }
 
     // The running task is inactive, its activation flag queued off.
-    pub fn finished(mut self, rig: Rig) -> Work
-        requires { self.running ≤ 64 }
-        ensures { Finished self rig result }
+    pub fn finish(&mut self, rig: &Rig) -> Queue
+        requires { self.old.running ≤ 64 }
+        ensures { Finished self.old rig.now (record { st = self.new; queue = result }) }
     {
         let t = self.running as usize;
-        let f = rig.activation[t];
-        let q = Queue::empty().push(f, OFF);
+        let mut queue = Queue::empty();
+        queue.push(rig.activation[t], OFF);
         self.state[t] = INACTIVE;
         self.running = 0;
-        Work { st: self, queue: q }
+        queue
     }
 
     // The same for task t, taken out of any chain.
-    pub fn terminated(mut self, rig: Rig, t: usize) -> Work
-        requires holds_chains { HoldsChains self.links }
+    pub fn terminate(&mut self, rig: &Rig, t: usize) -> Queue
+        requires holds_chains { HoldsChains self.old.links }
         requires t_nonzero { (0 < t) × (t ≤ 64) }
-        ensures { Terminated self rig t result }
+        ensures { Terminated self.old rig.now t (record { st = self.new; queue = result }) }
     {
-        let f = rig.activation[t];
-        let q = Queue::empty().push(f, OFF);
-        let l = exec_family::leave(self.links, t);
+        let mut queue = Queue::empty();
+        queue.push(rig.activation[t], OFF);
+        exec_family::leave(&mut self.links, t);
         self.state[t] = INACTIVE;
-        self.links = l;
-        Work { st: self, queue: q }
+        queue
     }
 
     // Task t and all its descendants become uninvoked and leave their chains; the activation flags of those that were
     // active are queued off.
-    pub fn cancelled(mut self, rig: Rig, t: usize) -> Work
-        requires holds_chains { HoldsChains self.links }
-        requires cancel_ok { CancelOk rig }
-        ensures { Cancelled self rig t result }
+    pub fn cancel(&mut self, rig: &Rig, t: usize) -> Queue
+        requires holds_chains { HoldsChains self.old.links }
+        requires cancel_ok { CancelOk rig.now }
+        ensures { Cancelled self.old rig.now t (record { st = self.new; queue = result }) }
     {
         let marks = exec_family::family(&rig.controller, t);
-        let q = Queue::of_offs(&rig.activation, &marks, &self.state);
+        let queue = Queue::of_offs(&rig.activation, &marks, &self.state);
         exec_family::uninvoke(&marks, &mut self.state);
-        let l = exec_family::desert(self.links, marks);
-        self.links = l;
-        Work { st: self, queue: q }
+        exec_family::desert(&mut self.links, &marks);
+        queue
     }
 }

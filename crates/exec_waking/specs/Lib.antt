@@ -1,2 +1,3 @@
+pub mod Roused
 pub mod Post
 pub mod Laws

@@ -15,8 +15,8 @@ use Rattle.rules.specs.Calls.{ticked}
 use Rattle.exec_state.specs.View.{rig_of, view_of, work_of}
 use Rattle.exec_state.specs.Set.{put_state, put_links}
 use Rattle.exec_state.specs.declared.State.{State}
-use Rattle.exec_state.specs.declared.Work.{Work}
-use Rattle.exec_waking.specs.declared.Roused.{Roused}
+use Rattle.exec_state.specs.Work.{Work}
+use Rattle.exec_waking.specs.Roused.{Roused}
 
 -- ---- what is asked
 

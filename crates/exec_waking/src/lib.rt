@@ -8,77 +8,60 @@ ghost use Rattle.exec_waking.specs.Post.{Timed, TickOk, Rouses, WokenDue, Ticked
 
 use chains::Links;
 use exec_queue::Queue;
-use exec_state::{DISPATCHABLE, State, TIME_CHAIN, Work};
+use exec_state::{DISPATCHABLE, State, TIME_CHAIN};
 use rig::Cycle;
-use rig_tables::TASK_PLACES;
+use rig_tables::{CYCLES, TASK_PLACES};
 
-// "64 minor cycles a major frame"
-const CYCLES: u32 = 64;
-
-// The links that a waking leaves, and how many it woke.
-#[derive(Clone, Copy)]
-pub struct Roused {
-    pub links: Links,
-    pub woken: u32,
-}
-
-// All who wait in the chain of anchor s become dispatchable.
-pub fn wake(links: Links, state: &mut [u8; TASK_PLACES], s: usize) -> Roused
-    requires holds_chains { HoldsChains links }
+// All who wait in the chain of anchor s become dispatchable: how many they are.
+pub fn wake(links: &mut Links, state: &mut [u8; TASK_PLACES], s: usize) -> u32
+    requires holds_chains { HoldsChains links.old }
     requires lt_s { (64 < s) × (s < 322) }
-    ensures { Rouses links state.old s result state.new }
+    ensures { Rouses links.old state.old s (record { links = links.new; woken = result }) state.new }
 {
-    let mut k = links;
     let mut woken: u32 = 0;
-    let mut v = k.next[s] as usize;
+    let mut v = links.next[s] as usize;
     while v != s {
-        k = chains::unlink(k, v);
+        chains::unlink(links, v);
         state[v] = DISPATCHABLE;
-        woken = woken + 1;
-        v = k.next[s] as usize;
+        woken += 1;
+        v = links.next[s] as usize;
     }
-    Roused { links: k, woken }
+    woken
 }
 
 // The tasks due at the count become dispatchable: they leave the time chain from its front.
-pub fn wake_due(mut st: State) -> State
-    requires holds_chains { HoldsChains st.links }
-    requires timed { Timed st }
-    ensures { WokenDue st result }
+pub fn wake_due(st: &mut State)
+    requires holds_chains { HoldsChains st.old.links }
+    requires timed { Timed st.old }
+    ensures { WokenDue st.old st.new }
 {
     let count = st.count;
-    let mut k = st.links;
-    let mut v = k.next[TIME_CHAIN] as usize;
+    let mut v = st.links.next[TIME_CHAIN] as usize;
     while v != TIME_CHAIN {
         if count < st.wake[v] {
             break;
         }
-        k = chains::unlink(k, v);
+        chains::unlink(&mut st.links, v);
         st.state[v] = DISPATCHABLE;
-        v = k.next[TIME_CHAIN] as usize;
+        v = st.links.next[TIME_CHAIN] as usize;
     }
-    st.links = k;
-    st
 }
 
-// The cycle of the count.
-pub fn cycle_at(cycles: [Cycle; rig_tables::CYCLES], count: u32) -> Cycle
-    ensures { result ≡ get_or cycles (count % 64) no_cycle }
+// The cycle of the count: "64 minor cycles a major frame".
+pub fn cycle_at(cycles: &[Cycle; CYCLES], count: u32) -> Cycle
+    ensures { result ≡ get_or cycles.now (count % 64) no_cycle }
 {
-    let i = (count % CYCLES) as usize;
-    cycles[i]
+    cycles[count as usize % CYCLES]
 }
 
 // The count rises by one, the tasks due at it become dispatchable, and the cycle's list is queued.
-pub fn ticked(mut st: State, cycles: [Cycle; rig_tables::CYCLES]) -> Work
-    requires holds_chains { HoldsChains st.links }
-    requires tick_ok { TickOk st }
-    ensures { Ticked st cycles result }
+pub fn ticked(st: &mut State, cycles: &[Cycle; CYCLES]) -> Queue
+    requires holds_chains { HoldsChains st.old.links }
+    requires tick_ok { TickOk st.old }
+    ensures { Ticked st.old cycles.now (record { st = st.new; queue = result }) }
 {
-    let count = st.count + 1;
-    st.count = count;
-    let cycle = cycle_at(cycles, count);
-    let q = Queue::of_cycle(cycle);
-    let s = wake_due(st);
-    Work { st: s, queue: q }
+    st.count += 1;
+    let queue = Queue::of_cycle(&cycle_at(cycles, st.count));
+    wake_due(st);
+    queue
 }

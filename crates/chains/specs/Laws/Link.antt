@@ -1,5 +1,5 @@
 -- Laws of the definitions of Link.antt.
-use Rattle.std.specs.Prelude.{◌≡◌, refl, ℕ, ◌+◌}
+use Rattle.std.specs.Prelude.{◌≡◌, refl, ℕ}
 use Rattle.std.proofs.Common.{sym, ◌∙◌, ap, inl, inr}
 use mathlib.Core.List.{List, [], ◌∷◌, ◌++◌, reverse, reverse-cons}
 use Rattle.laws.specs.Members.{In, Distinct}

@@ -1,5 +1,5 @@
 -- The arrays that hold given chains are determined by them, at every node.
-use Rattle.std.specs.Prelude.{◌≡◌, ◌⊎◌, List, [], ◌∷◌, ◌++◌, ℕ, ◌+◌, ◌≤◌, ◌<◌, leb}
+use Rattle.std.specs.Prelude.{◌≡◌, List, [], ◌∷◌, ◌++◌, ℕ, ◌≤◌, ◌<◌, leb}
 use Rattle.std.proofs.Common.{sym, ◌∙◌, ⊎_elim, append-nil, arith, ext_get_or, leb-true, leb-false}
 use Rattle.laws.specs.Cases.{by}
 use Rattle.laws.specs.Laws.Members.{in_split}

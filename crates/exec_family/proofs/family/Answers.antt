@@ -1,6 +1,6 @@
 use borrow.Author.Rules.{rules}
 use mathlib.Core.Path.{◌≡◌, sym, ◌∙◌, ap}
-use Prim.Native.Nat.{ℕ, ◌-◌, ◌+◌}
+use Prim.Native.Nat.{ℕ, ◌+◌}
 use native.Mathlib.Omega.{arith}
 use lib.ListN.{set, replicate, length-set}
 use Rattle.laws.specs.Laws.Iter.{iter_zero, iter_step}
@@ -9,13 +9,7 @@ use Rattle.rules.specs.Family.{family, mark_one}
 use Rattle.exec_family.proofs.family.Goals as goal
 
 pub loop-i-init : goal.loop-i-init
-loop-i-init c = (sym (iter_zero _ _), search rules, search rules)
-
-pub overflow_cast-c : goal.overflow_cast-c
-overflow_cast-c c = omega (arith, c.requires (c.loop-i.i + 1))
-
-pub bounds-marks-c : goal.bounds-marks-c
-bounds-marks-c c = omega (arith, c.requires (c.loop-i.i + 1), c.loop-i.invariant.1)
+loop-i-init c = (sym (iter_zero _ _), search rules)
 
 pub loop-i-preserved : goal.loop-i-preserved
 loop-i-preserved c =
@@ -25,7 +19,6 @@ loop-i-preserved c =
     let next = iter_step i (mark_one (at a.controller.now) a.t) (replicate 65 0) d.loop-i.marks d.loop-i.invariant.0 in (
       ap (λ (x : ℕ). set d.loop-i.marks (i + 1) x) c.mark.ensures ∙ next,
       length-set d.loop-i.marks (i + 1) c.mark.result ∙ d.loop-i.invariant.1,
-      omega (arith, c.loop-i-test.true),
     )
 
 pub returns : goal.returns

@@ -1,11 +1,7 @@
 use mathlib.Core.Path.{◌≡◌}
-use Prim.Native.Nat.{◌≤◌, ◌-◌}
 use Rattle.laws.specs.Iter.{iter}
 use Rattle.rules.specs.Family.{clear_one}
 use Rattle.exec_family.proofs.uninvoke.Given as goal
 
 abbrev pub invariant-loop-i : goal.invariant-loop-i
-invariant-loop-i l = (l.state ≡ iter l.i (clear_one l.marks) l.initial.state) × (l.i ≤ 64)
-
-abbrev pub decreases-loop-i : goal.decreases-loop-i
-decreases-loop-i l = 64 - l.i
+invariant-loop-i l = l.state ≡ iter l.i (clear_one l.marks) l.initial.state

@@ -3,37 +3,41 @@ use Rattle.std.specs.Prelude.{◌≡◌, refl, [], List, ◌∷◌, ◌+◌, ◌
 use Rattle.std.proofs.Common.{ap, arith, lt-ltb, add-one, get_or-set_same, get_or-set_other}
 use Rattle.rules.specs.State.{active}
 use Rattle.rules.specs.Serving.{push}
-use Rattle.exec_queue.specs.View.{entries}
+use Rattle.exec_queue.specs.View.{entries, entries_of}
+use Rattle.exec_queue.specs.declared.Queue.{Queue}
 
-pub entries_length : (fs vs : List ℕ) (n : ℕ) → length (entries fs vs n) ≡ n
+pub entries_length : (l : List (ℕ × ℕ)) (n : ℕ) → length (entries l n) ≡ n
 unfolding entries
-entries_length fs vs zero = refl
-entries_length fs vs (suc n) = ap suc (entries_length fs vs n)
+entries_length l zero = refl
+entries_length l (suc n) = ap suc (entries_length l n)
 
-pub entries_none : (fs vs : List ℕ) → entries fs vs 0 ≡ []
+-- as many are queued as the queue says
+pub queue_length : (q : Queue) → length (entries_of q) ≡ q.n
+queue_length q = entries_length q.entries q.n
+
+pub entries_none : (l : List (ℕ × ℕ)) → entries l 0 ≡ []
 unfolding entries
-entries_none fs vs = refl
+entries_none l = refl
 
 -- a store behind the last entry is not seen
-entries_set : (fs vs : List ℕ) (k f v n : ℕ) → n ≤ k → entries (set fs k f) (set vs k v) n ≡ entries fs vs n
+entries_set : (l : List (ℕ × ℕ)) (k : ℕ) (e : ℕ × ℕ) (n : ℕ) → n ≤ k → entries (set l k e) n ≡ entries l n
 unfolding entries
-entries_set fs vs k f v zero h = refl
-entries_set fs vs k f v (suc n) h =
-    let a : get_or (set fs k f) n 0 ≡ get_or fs n 0 = get_or-set_other fs k n f 0 (λ q. omega arith) in
-    let b : get_or (set vs k v) n 0 ≡ get_or vs n 0 = get_or-set_other vs k n v 0 (λ q. omega arith) in
-    rw (a, b, entries_set fs vs k f v n (omega arith))
+entries_set l k e zero h = refl
+entries_set l k e (suc n) h =
+    let a : get_or (set l k e) n (0, 0) ≡ get_or l n (0, 0) = get_or-set_other l k n e (0, 0) (λ q. omega arith) in
+    rw (a, entries_set l k e n (omega arith))
 
-pub entries_push : (fs vs : List ℕ) (k f v : ℕ) → k < length fs → k < length vs → f ≢ 0
-    → entries (set fs k f) (set vs k v) (k + 1) ≡ push f v (entries fs vs k)
+pub entries_push : (l : List (ℕ × ℕ)) (k f v : ℕ) → k < length l → f ≢ 0 → entries (set l k (f, v)) (k + 1) ≡ push f v (entries l k)
 unfolding entries
-entries_push fs vs k zero v a b n = absurd (n refl)
-entries_push fs vs k (suc f) v a b n =
-    rw add-one (rw (get_or-set_same fs k (suc f) 0 a, get_or-set_same vs k v 0 b, entries_set fs vs k (suc f) v k (omega arith)))
+entries_push l k zero v a n = absurd (n refl)
+entries_push l k (suc f) v a n =
+    rw add-one (rw (get_or-set_same l k (suc f, v) (0, 0) a, entries_set l k (suc f, v) k (omega arith)))
 
 -- the last entry is taken off
-pub entries_pop : (fs vs : List ℕ) (n j : ℕ) → n ≡ suc j → entries fs vs n ≡ (record { flag = get_or fs j 0; value = get_or vs j 0 } ∷ entries fs vs j)
+pub entries_pop : (l : List (ℕ × ℕ)) (n j : ℕ) → n ≡ suc j
+    → entries l n ≡ (record { flag = (get_or l j (0, 0)).0; value = (get_or l j (0, 0)).1 } ∷ entries l j)
 unfolding entries
-entries_pop fs vs n j e = rw e
+entries_pop l n j e = rw e
 
 -- "Active is 2 or 3." as the code tests it
 pub active_is : (s : ℕ) → ltb 1 s ≡ eqb (active s) 1

@@ -17,7 +17,7 @@ use Rattle.rules.specs.Running.{chosen, dispatch}
 use Rattle.rules.specs.Family.{family, cleared, deserted, offs}
 use Rattle.rules.specs.Calls.{finished, terminated, cancelled}
 use Rattle.exec_state.specs.View.{view_of}
-use Rattle.exec_state.specs.Set.{put_state, put_links, put_running}
+use Rattle.exec_state.specs.Set.{put_state, put_links, put_running, with_ranks}
 use Rattle.exec_state.specs.Post.{Finished, Terminated, Cancelled, Dispatched, Blank}
 use Rattle.exec_state.specs.declared.State.{State}
 
@@ -65,6 +65,11 @@ pub dispatched_is : (s : State) (g : Rig) (n : ℕ) → n ≡ chosen (at g.privi
     → Dispatched s g (put_running s n)
 unfolding dispatch
 dispatched_is s g n e z = record { is = λ cycles. ap (λ (x : ℕ). view_of (put_running s x)) e; links = refl; sized = z }
+
+-- it looks at privileges and priorities alone: so it is the dispatch of any rig that has them
+pub dispatched_ranks : (s : State) (g h : Rig) (r : State) → Dispatched s g r → Dispatched s (with_ranks g.privileged g.priority h) r
+unfolding dispatch
+dispatched_ranks s g h r d = record { is = d.is; links = d.links; sized = d.sized }
 
 -- ---- the blank state
 

@@ -3,4 +3,4 @@ use mathlib.Core.Path.{refl}
 use Rattle.exec_queue.proofs.Queue.empty.Goals as goal
 
 pub returns : goal.returns
-returns c = (entries_none _ _, refl)
+returns c = (entries_none _, refl)

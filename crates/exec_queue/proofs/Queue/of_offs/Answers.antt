@@ -1,7 +1,5 @@
-use borrow.Author.Rules.{rules}
 use mathlib.Core.Path.{◌≡◌, refl, sym, ◌∙◌, ap}
 use mathlib.Core.List.{[]}
-use Prim.Native.Nat.{◌-◌}
 use native.Mathlib.Omega.{arith}
 use Rattle.laws.specs.Cases.{if_yes, if_no}
 use Rattle.laws.specs.Laws.Iter.{iter_zero, iter_step}
@@ -13,10 +11,7 @@ use Rattle.exec_queue.proofs.Queue.of_offs.Goals as goal
 use Rattle.exec_queue.proofs.Queue.of_offs.Goals.{else-struck, then-struck}
 
 pub loop-i-init : goal.loop-i-init
-loop-i-init c = (c.empty-q.ensures.0 ∙ sym (iter_zero _ _), omega (arith, c.empty-q.ensures.1), search rules)
-
-pub push-q-requires : goal.push-q-requires
-push-q-requires c = omega (arith, c.loop-i.invariant.1, c.loop-i.invariant.2)
+loop-i-init c = (c.empty-q.ensures.0 ∙ sym (iter_zero _ _), omega (arith, c.empty-q.ensures.1))
 
 pub loop-i-preserved : goal.loop-i-preserved
 loop-i-preserved c =
@@ -24,9 +19,8 @@ loop-i-preserved c =
     let a = c.args in
     let e = sym c.struck.ensures in
     let next = iter_step d.loop-i.i (off_one (at a.activation.now) a.marks.now a.state.now) [] (entries_of d.loop-i.q) d.loop-i.invariant.0 in (
-      elim c.if-struck.branch [ then-struck w ↦ ap entries_of w.q-is ∙ w.push-q.ensures.is ∙ sym (if_yes _ (e ∙ w.if-struck.true) refl) ∙ next | else-struck w ↦ ap entries_of w.q-is ∙ sym (if_no _ (e ∙ w.if-struck.false) refl) ∙ next ],
-      elim c.if-struck.branch [ then-struck w ↦ omega (arith, ap (λ (x : Queue). x.n) w.q-is, w.push-q.ensures.more, d.loop-i.invariant.1) | else-struck w ↦ omega (arith, ap (λ (x : Queue). x.n) w.q-is, d.loop-i.invariant.1) ],
-      omega (arith, c.loop-i-test.true),
+      elim c.if-struck.branch [ then-struck w ↦ ap entries_of w.q-is ∙ w.push.ensures.is ∙ sym (if_yes _ (e ∙ w.if-struck.true) refl) ∙ next | else-struck w ↦ ap entries_of w.q-is ∙ sym (if_no _ (e ∙ w.if-struck.false) refl) ∙ next ],
+      elim c.if-struck.branch [ then-struck w ↦ omega (arith, ap (λ (x : Queue). x.n) w.q-is, w.push.ensures.more, d.loop-i.invariant.1) | else-struck w ↦ omega (arith, ap (λ (x : Queue). x.n) w.q-is, d.loop-i.invariant.1) ],
     )
 
 pub returns : goal.returns

@@ -1,6 +1,6 @@
 use mathlib.Core.Path.{◌≡◌}
 use mathlib.Core.List.{[]}
-use Prim.Native.Nat.{◌≤◌, ◌-◌}
+use Prim.Native.Nat.{◌≤◌}
 use Rattle.laws.specs.Iter.{iter}
 use Rattle.chains.specs.Held.{at}
 use Rattle.rules.specs.Family.{off_one}
@@ -8,7 +8,4 @@ use Rattle.exec_queue.specs.View.{entries_of}
 use Rattle.exec_queue.proofs.Queue.of_offs.Given as goal
 
 abbrev pub invariant-loop-i : goal.invariant-loop-i
-invariant-loop-i l = (entries_of l.q ≡ iter l.i (off_one (at l.activation) l.marks l.state) []) × (l.q.n ≤ l.i) × (l.i ≤ 64)
-
-abbrev pub decreases-loop-i : goal.decreases-loop-i
-decreases-loop-i l = 64 - l.i
+invariant-loop-i l = (entries_of l.q ≡ iter l.i (off_one (at l.activation) l.marks l.state) []) × (l.q.n ≤ l.i)
