@@ -5,10 +5,9 @@ ghost use Rattle.std.specs.Prelude.{◌≡◌, ◌+◌, ◌-◌, ◌*◌, ◌<�
 ghost use Rattle.laws.specs.Put.{put};
 ghost use Rattle.rules.specs.Bus.{block_at, copied, written, row_due, receive_word, transmit_word, row_words, bus_words};
 ghost use Rattle.compool.specs.View.{row_of, rows_of};
-ghost use Rattle.compool.specs.Post.{RowFits, RowsFit};
+ghost use Rattle.compool.specs.Post.{RowFits, RowsFit, word_in};
 
-use rig::Row;
-use rig_tables::ROWS;
+use rig::{Rig, Row};
 use word_parts::packed;
 
 // "The area has exactly 33 words a row": a tag word and up to 32 words of data
@@ -20,28 +19,11 @@ const RECEIVE: u32 = 0;
 
 const TRANSMIT: u32 = 1;
 
-// The words of `area` from `start` on fill `out`.
-pub fn copy_out(area: &[u16], start: usize, out: &mut [u16])
-    requires { start + length out.old ≤ length area.now }
-    ensures { out.new ≡ take (length out.old) (drop start area.now) }
-{
-    let mut i: usize = 0;
-    while i < out.len() {
-        out[i] = area[start + i];
-        i = i + 1;
-    }
-}
-
-// The words are stored in `area` from `start` on.
-pub fn copy_in(words: &[u16], start: usize, area: &mut [u16])
-    requires { start + length words.now ≤ length area.old }
-    ensures { area.new ≡ put area.old start words.now }
-{
-    let mut i: usize = 0;
-    while i < words.len() {
-        area[start + i] = words[i];
-        i = i + 1;
-    }
+// What a command tells a terminal to do.
+#[derive(Clone, Copy, Debug, PartialEq, Eq)]
+pub enum Direction {
+    Receive,
+    Transmit,
 }
 
 // The data of row k's block.
@@ -49,7 +31,8 @@ pub fn read_block(area: &[u16], k: usize, buffer: &mut [u16])
     requires { (0 < k) × (k ≤ 64) × (block_at k + 1 + length buffer.old ≤ length area.now) }
     ensures { buffer.new ≡ copied k area.now buffer.old }
 {
-    copy_out(area, BLOCK_WORDS * (k - 1) + 1, buffer);
+    let data = BLOCK_WORDS * (k - 1) + 1;
+    buffer.copy_from_slice(&area[data..data + buffer.len()]);
 }
 
 // Row k's block takes the words as its data, and the count as its tag.
@@ -59,47 +42,49 @@ pub fn write_block(count: u32, k: usize, words: &[u16], area: &mut [u16])
 {
     let b = BLOCK_WORDS * (k - 1);
     area[b] = (count % TAGS) as u16;
-    copy_in(words, b + 1, area);
+    area[b + 1..b + 1 + words.len()].copy_from_slice(words);
 }
 
 // Whether a row is due at the count.
-pub fn due(row: Row, count: u32) -> bool
-    requires { 0 < row.period }
-    ensures { result ≡ row_due (row_of row) count }
+pub fn due(row: &Row, count: u32) -> bool
+    requires { 0 < row.now.period }
+    ensures { result ≡ row_due (row_of row.now) count }
 {
     count % (row.period as u32) == (row.phase as u32)
 }
 
-// A receive command to the receiver.
-pub fn receive_word(row: Row) -> u16
-    requires { RowFits row }
-    ensures { result ≡ receive_word (row_of row) }
+// A row's command in one direction.
+fn command(row: &Row, direction: Direction) -> u16
+    requires { RowFits row.now }
+    ensures { result ≡ word_in direction (row_of row.now) }
 {
-    packed::command(
-        row.receiver as u32,
-        RECEIVE,
-        row.receiver_sub as u32,
-        row.words as u32,
-    )
+    let (address, transmit, sub) = match direction {
+        Direction::Receive => (row.receiver, RECEIVE, row.receiver_sub),
+        Direction::Transmit => (row.sender, TRANSMIT, row.sender_sub),
+    };
+    packed::command(address as u32, transmit, sub as u32, row.words as u32)
+}
+
+// A receive command to the receiver.
+pub fn receive_word(row: &Row) -> u16
+    requires { RowFits row.now }
+    ensures { result ≡ receive_word (row_of row.now) }
+{
+    command(row, Direction::Receive)
 }
 
 // A transmit command to the sender.
-pub fn transmit_word(row: Row) -> u16
-    requires { RowFits row }
-    ensures { result ≡ transmit_word (row_of row) }
+pub fn transmit_word(row: &Row) -> u16
+    requires { RowFits row.now }
+    ensures { result ≡ transmit_word (row_of row.now) }
 {
-    packed::command(
-        row.sender as u32,
-        TRANSMIT,
-        row.sender_sub as u32,
-        row.words as u32,
-    )
+    command(row, Direction::Transmit)
 }
 
 // The command words of a row go into the buffer at n; the number behind the last of them.
-pub fn put_row(row: Row, master: u8, n: usize, out: &mut [u16]) -> usize
-    requires { RowFits row × (n + 2 ≤ length out.old) }
-    ensures { (result ≡ n + length (row_words master (row_of row))) × (out.new ≡ put out.old n (row_words master (row_of row))) }
+pub fn put_row(row: &Row, master: u8, n: usize, out: &mut [u16]) -> usize
+    requires { RowFits row.now × (n + 2 ≤ length out.old) }
+    ensures { (result ≡ n + length (row_words master (row_of row.now))) × (out.new ≡ put out.old n (row_words master (row_of row.now))) }
 {
     let receive = receive_word(row);
     let transmit = transmit_word(row);
@@ -117,18 +102,15 @@ pub fn put_row(row: Row, master: u8, n: usize, out: &mut [u16]) -> usize
 }
 
 // The command words of the rows that are due at the count, in order, and how many they are.
-pub fn bus_words(rows: [Row; ROWS], many: usize, master: u8, count: u32, out: &mut [u16]) -> usize
-    requires { RowsFit many rows × (128 ≤ length out.old) }
-    ensures { (result ≡ length (bus_words many master (rows_of rows) count)) × (out.new ≡ put out.old 0 (bus_words many master (rows_of rows) count)) }
+pub fn bus_words(rig: &Rig, count: u32, out: &mut [u16]) -> usize
+    requires { RowsFit rig.now.rows rig.now.row × (128 ≤ length out.old) }
+    ensures { (result ≡ length (bus_words rig.now.rows rig.now.master (rows_of rig.now.row) count)) × (out.new ≡ put out.old 0 (bus_words rig.now.rows rig.now.master (rows_of rig.now.row) count)) }
 {
     let mut n: usize = 0;
-    let mut i: usize = 0;
-    while i < many {
-        let row = rows[i];
+    for row in &rig.row[..rig.rows as usize] {
         if due(row, count) {
-            n = put_row(row, master, n, out);
+            n = put_row(row, rig.master, n, out);
         }
-        i = i + 1;
     }
     n
 }

@@ -9,8 +9,7 @@ use Rattle.rules.specs.Serving.{offers, made, inactives}
 use Rattle.exec_state.specs.View.{rig_of, work_of}
 use Rattle.exec_state.specs.Set.{put_cond, put_state}
 use Rattle.exec_state.specs.declared.State.{State}
-use Rattle.exec_state.specs.declared.Work.{Work}
-use Rattle.exec_offers.specs.declared.Heeded.{Heeded}
+use Rattle.exec_state.specs.Work.{Work}
 
 -- what is queued and what may yet be queued is at most 79
 abbrev pub Room : List ℕ → Queue → Type 0
@@ -26,6 +25,11 @@ work_in s conds states q = record { st = put_cond (put_state s states) conds; qu
 -- the same of the conditions, the states and the queue alone, with whatever stands beside them and beside the rig's tables
 abbrev pub Offering : (Rig → Rig) → ℕ → List ℕ → List ℕ → Queue → List ℕ → List ℕ → Queue → Type 0
 Offering tables f c a q d b r = (g : Rig) (s : State) → Offered (work_in s c a q) (tables g) f (work_in s d b r)
+
+-- what is queued once a flag was offered, and how many tasks it activated
+pub record Heeded : Type 0 where
+  pub queue : Queue
+  pub activated : ℕ
 
 -- .. and how many were activated
 pub record Heeds (tables : Rig → Rig) (f : ℕ) (c a : List ℕ) (q : Queue) (d b : List ℕ) (r : Heeded) : Type 0 where

@@ -22,3 +22,7 @@ with_tables present latched desired line_task line_flag activation n g =
       line_flag = line_flag;
       row = g.row;
     }
+
+-- the tables of g, with whatever stands beside them in the other rig
+abbrev pub tables_of : Rig → Rig → Rig
+tables_of g = with_tables g.present g.latched g.desired g.line_task g.line_flag g.activation g.lines

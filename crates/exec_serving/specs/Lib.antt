@@ -1,3 +1,4 @@
+pub mod Done
 pub mod View
 pub mod Set
 pub mod Post

@@ -15,9 +15,9 @@ use Rattle.exec_state.specs.View.{view_of, work_of}
 use Rattle.exec_state.specs.Set.{put_state, put_overruns}
 use Rattle.exec_state.specs.Post.{FlagOk}
 use Rattle.exec_state.specs.declared.State.{State}
-use Rattle.exec_state.specs.declared.Work.{Work}
+use Rattle.exec_state.specs.Work.{Work}
 use Rattle.exec_serving.specs.View.{done_of, rig_in_cycle}
-use Rattle.exec_serving.specs.declared.Done.{Done}
+use Rattle.exec_serving.specs.Done.{Done}
 
 -- ---- what is asked
 

@@ -5,7 +5,7 @@ use Rattle.rig.specs.declared.Rig.{Rig}
 use Rattle.rules.specs.Rig as G
 use Rattle.rules.specs.State as S
 use Rattle.exec_state.specs.View.{rig_of, view_of}
-use Rattle.exec_serving.specs.declared.Done.{Done}
+use Rattle.exec_serving.specs.Done.{Done}
 
 abbrev pub done_of : Done → S.Done
 done_of d = record { now = view_of d.st; served = d.served; woken = d.woken; activated = d.activated }

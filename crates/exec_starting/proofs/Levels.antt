@@ -1,7 +1,7 @@
 -- The tables of a level: with no link there are those that need none; with one more, those whose links are open to tasks within the others;
 -- where nobody can start with one link less, a link more opens nothing.
 use Rattle.std.proofs.Common.{◌≡◌, ◌∙◌, sym, refl, true, List, ℕ, zero, suc, ◌-◌, arith}
-use Rattle.start_tests.specs.Tables.{Linked, nobody, opened_in, able_in}
+use Rattle.start_tests.specs.Tables.{Linked, nobody, opened_in}
 use Rattle.start_levels.specs.Levels.{conditions_at, tasks_at}
 use Rattle.start_levels.specs.Laws.Entries.{opened_none}
 

@@ -5,35 +5,30 @@ ghost use Rattle.std.specs.Prelude.{◌≤◌};
 ghost use Rattle.exec_state.specs.Post.{Tested, Scheduled};
 
 use exec_queue::Queue;
-use exec_state::{DISPATCHABLE, INACTIVE, ON, State, Work};
+use exec_state::{DISPATCHABLE, INACTIVE, ON, State};
 use rig::Rig;
 
 // Task t, if it is inactive with all its conditions as desired, is activated.
-pub fn tested(mut st: State, rig: Rig, t: usize) -> Work
+pub fn tested(rig: &Rig, st: &mut State, t: usize) -> Queue
     requires { t ≤ 64 }
-    ensures { Tested st rig t result }
+    ensures { Tested st.old rig.now t (record { st = st.new; queue = result }) }
 {
-    let none = Queue::empty();
-    if st.state[t] != INACTIVE {
-        return Work { st, queue: none };
+    let mut queue = Queue::empty();
+    if st.state[t] == INACTIVE && exec_conditions::met(rig, t, &st.cond) {
+        queue.push(rig.activation[t], ON);
+        st.state[t] = DISPATCHABLE;
+        exec_conditions::relax(rig, t, &mut st.cond);
     }
-    if !exec_conditions::met(&rig.present, &rig.desired, t, &st.cond) {
-        return Work { st, queue: none };
-    }
-    let f = rig.activation[t];
-    let q = none.push(f, ON);
-    st.state[t] = DISPATCHABLE;
-    exec_conditions::relax(&rig.present, &rig.latched, &rig.desired, t, &mut st.cond);
-    Work { st, queue: q }
+    queue
 }
 
 // Task t is inactive with its unlatched conditions undesired and with no overruns, and then tested.
-pub fn scheduled(mut st: State, rig: Rig, t: usize) -> Work
+pub fn scheduled(rig: &Rig, st: &mut State, t: usize) -> Queue
     requires { t ≤ 64 }
-    ensures { Scheduled st rig t result }
+    ensures { Scheduled st.old rig.now t (record { st = st.new; queue = result }) }
 {
-    exec_conditions::relax(&rig.present, &rig.latched, &rig.desired, t, &mut st.cond);
+    exec_conditions::relax(rig, t, &mut st.cond);
     st.state[t] = INACTIVE;
     st.overruns[t] = 0;
-    tested(st, rig, t)
+    tested(rig, st, t)
 }

@@ -1,49 +1,40 @@
+use mathlib.Core.Path.{◌≡◌, sym, ◌∙◌, ap}
 use borrow.Author.Rules.{rules}
-use mathlib.Core.Path.{sym, ◌∙◌}
-use Prim.Native.Nat.{◌<◌, ◌-◌}
+use Prim.Native.Nat.{◌<◌}
+use lib.ListN.{take}
+use Rattle.std.proofs.Common.{get_or-take}
+use Rattle.rules.specs.Rig as R
+use Rattle.rules.specs.Bus.{row_due}
 use native.Mathlib.Omega.{arith}
-use Rattle.compool.specs.View.{rows_of}
-use Rattle.compool.specs.Laws.Words.{sent_start, sent_room, sent_no, sent_yes, sent_done}
+use Rattle.compool.specs.View.{row_of, rows_of}
+use Rattle.compool.specs.Laws.Words.{sent_start, sent_no, sent_yes, sent_done}
 use Rattle.compool.proofs.bus_words.Goals as goal
 use Rattle.compool.proofs.bus_words.Goals.{else-due, then-due}
 
-pub loop-i-init : goal.loop-i-init
-loop-i-init c =
+pub loop-row-init : goal.loop-row-init
+loop-row-init c =
     let a = c.args in
-    (sent_start a.master (rows_of a.rows) a.count a.out.now c.requires.1, search rules)
+    sent_start a.rig.now.master (rows_of a.rig.now.row) a.count a.out.now c.requires.1
 
-pub due-requires : goal.due-requires
-due-requires c = (c.requires.0.row c.loop-i.i c.loop-i-test.true).period
-
-pub put_row-n-requires : goal.put_row-n-requires
-put_row-n-requires c =
-    let d = c in
-    let a = c.args in (
-      c.requires.0.row d.loop-i.i c.loop-i-test.true,
-      sent_room a.master (rows_of a.rows) a.count a.out.now c.requires.1 d.loop-i.out d.loop-i.n d.loop-i.i d.loop-i.invariant.0 (omega (arith, c.requires.0.few, c.loop-i-test.true)),
-    )
-
-pub loop-i-preserved : goal.loop-i-preserved
-loop-i-preserved c =
-    let d = c in
+pub loop-row-preserved : goal.loop-row-preserved
+loop-row-preserved c =
+    let l = c.loop-row in
+    let g = c.args.rig.now in
     let a = c.args in
-    let b : d.loop-i.i < 64 = omega (arith, c.requires.0.few, c.loop-i-test.true) in
-    let e = sym c.due.ensures in (
-      elim c.if-due.branch [
-        | then-due w ↦ rw (w.out-is, w.n-is)
-            (sent_yes a.master (rows_of a.rows) a.count a.out.now c.requires.1 d.loop-i.out d.loop-i.n d.loop-i.i d.loop-i.invariant.0 b (e ∙ w.if-due.true)
-            w.put_row-n.result w.put_row-n.new.out w.put_row-n.ensures)
-        | else-due w ↦ rw (w.out-is, w.n-is)
-            (sent_no a.master (rows_of a.rows) a.count a.out.now c.requires.1 d.loop-i.out d.loop-i.n d.loop-i.i d.loop-i.invariant.0 b (e ∙ w.if-due.false))
-      ],
-      omega (arith, c.loop-i-test.true),
-    )
-
-pub shape_of-out : goal.shape_of-out
-shape_of-out c = c.loop-i.invariant.0.long
+    let i = l.row-index in
+    let b : i < 64 = omega (arith, c.requires.0.few, c.loop-row-test.true) in
+    let p : rows_of g.row i ≡ rows_of (take g.rows g.row) i = ap row_of (sym (get_or-take g.rows g.row i _ (search rules))) in
+    let e : row_due (rows_of g.row i) a.count ≡ c.due.result = ap (λ (x : R.Row). row_due x a.count) p ∙ sym c.due.ensures in
+    elim c.if-due.branch [
+      | then-due w ↦ rw (w.out-is, w.n-is)
+          (sent_yes g.master (rows_of g.row) a.count a.out.now c.requires.1 l.out l.n i l.invariant b (e ∙ w.if-due.true)
+          w.put_row-n.result w.put_row-n.new.out (rw p w.put_row-n.ensures))
+      | else-due w ↦ rw (w.out-is, w.n-is)
+          (sent_no g.master (rows_of g.row) a.count a.out.now c.requires.1 l.out l.n i l.invariant b (e ∙ w.if-due.false))
+    ]
 
 pub returns : goal.returns
 returns c =
-    let d = c in
-    let a = c.args in
-    sent_done a.master (rows_of a.rows) a.count a.out.now c.requires.1 d.loop-i.out d.loop-i.n d.loop-i.i a.many d.loop-i.invariant.0 (omega (arith, d.loop-i.invariant.1, c.loop-i-test.false))
+    let l = c.loop-row in
+    let g = c.args.rig.now in
+    sent_done g.master (rows_of g.row) c.args.count c.args.out.now c.requires.1 l.out l.n l.row-index g.rows l.invariant (omega arith)

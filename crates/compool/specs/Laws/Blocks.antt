@@ -1,5 +1,5 @@
 -- Copies, word by word.
-use Rattle.std.specs.Prelude.{◌≡◌, refl, ◌≢◌, List, [], ◌∷◌, ◌++◌, ℕ, ◌+◌, ◌-◌, ◌<◌, ◌≤◌, eqb, length, get_or, take, drop, set}
+use Rattle.std.specs.Prelude.{◌≡◌, refl, ◌≢◌, List, [], ◌∷◌, ◌++◌, ℕ, ◌+◌, ◌<◌, ◌≤◌, eqb, length, get_or, take, drop, set}
 use Rattle.std.proofs.Common.{sym, ◌∙◌, ap, append_assoc, arith, add-one, length-set, length-take, length-drop, get_or-set_same, get_or-set_other, ext_get_or, get_or-take, get_or-drop, eqb-true}
 use Rattle.std.proofs.Math.Seq.{paste, paste-suc, take-length}
 use Rattle.std.proofs.lemmas.Bool.{eqb-false}

@@ -7,48 +7,37 @@ use Rattle.rules.specs.Rig.{place_of}
 use Rattle.rules.specs.Conditions.{drive}
 use Rattle.laws.specs.Laws.Iter.{iter_zero}
 use Rattle.exec_conditions.specs.Lines.{marked}
-use Rattle.exec_conditions.specs.Laws.Driving.{lines_fewer, stored, stored_more, stored_pass}
+use Rattle.exec_conditions.specs.Laws.Driving.{stored, stored_more, stored_pass}
 use Rattle.exec_conditions.proofs.drive.Goals as goal
 use Rattle.exec_conditions.proofs.drive.Goals.{else-named_from, then-named_from}
 
 pub loop-k-init : goal.loop-k-init
 loop-k-init c = (sym (iter_zero _ _), sym (iter_zero _ _), search rules)
 
-pub drive_from-requires : goal.drive_from-requires
-drive_from-requires c =
-    let b = c in
-    lines_fewer b.args.n (c.loop-k.k + 16) b.args.line_task.now b.args.line_pos.now (omega arith) b.requires
-
 pub loop-k-preserved : goal.loop-k-preserved
 unfolding drive marked
 loop-k-preserved c =
     let d = c in
     let a = c.args in
-    let flag : ℕ → ℕ = at a.line_flag.now in
-    let task : ℕ → ℕ = at a.line_task.now in
-    let place : ℕ → ℕ = λ l. place_of (task l) (at a.line_pos.now l) in
+    let flag : ℕ → ℕ = at a.rig.now.line_flag in
+    let task : ℕ → ℕ = at a.rig.now.line_task in
+    let place : ℕ → ℕ = λ l. place_of (task l) (at a.rig.now.line_pos l) in
     let none = c.named_from.ensures in (
       elim c.if-named_from.branch [ then-named_from w ↦ w.cond-is ∙ w.drive_from.ensures.0 ∙ stored_more flag a.f place (λ l. a.v) d.loop-k.k 16 a.cond.now d.loop-k.cond d.loop-k.invariant.0 | else-named_from w ↦ w.cond-is ∙ stored_pass flag a.f place (λ l. a.v) d.loop-k.k 16 a.cond.now d.loop-k.cond d.loop-k.invariant.0 (sym none ∙ w.if-named_from.false) ],
       elim c.if-named_from.branch [ then-named_from w ↦ w.named-is ∙ w.drive_from.ensures.1 ∙ stored_more flag a.f task (λ l. 1) d.loop-k.k 16 a.named.now d.loop-k.named d.loop-k.invariant.1 | else-named_from w ↦ w.named-is ∙ stored_pass flag a.f task (λ l. 1) d.loop-k.k 16 a.named.now d.loop-k.named d.loop-k.invariant.1 (sym none ∙ w.if-named_from.false) ],
       search rules,
     )
 
-pub drive_from-requires-2 : goal.drive_from-requires-2
-drive_from-requires-2 c =
-    let b = c in
-    let k = c.loop-k.k in
-    lines_fewer b.args.n (k + (b.args.n - k)) b.args.line_task.now b.args.line_pos.now (omega arith) b.requires
-
 pub returns : goal.returns
 unfolding drive marked
 returns c =
     let d = c in
     let a = c.args in
-    let flag : ℕ → ℕ = at a.line_flag.now in
-    let task : ℕ → ℕ = at a.line_task.now in
-    let place : ℕ → ℕ = λ l. place_of (task l) (at a.line_pos.now l) in
-    let rest : ℕ = a.n - d.loop-k.k in
-    let e : d.loop-k.k + rest ≡ a.n = omega arith in (
+    let flag : ℕ → ℕ = at a.rig.now.line_flag in
+    let task : ℕ → ℕ = at a.rig.now.line_task in
+    let place : ℕ → ℕ = λ l. place_of (task l) (at a.rig.now.line_pos l) in
+    let rest : ℕ = a.rig.now.lines - d.loop-k.k in
+    let e : d.loop-k.k + rest ≡ a.rig.now.lines = omega arith in (
       c.drive_from-2.ensures.0
           ∙ stored_more flag a.f place (λ l. a.v) d.loop-k.k rest a.cond.now d.loop-k.cond d.loop-k.invariant.0
           ∙ ap (λ (m : ℕ). stored flag a.f place (λ l. a.v) m a.cond.now) e,

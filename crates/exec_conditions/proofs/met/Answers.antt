@@ -1,16 +1,12 @@
-use borrow.Author.Rules.{rules}
 use mathlib.Core.Path.{◌≡◌, sym, ◌∙◌}
-use mathlib.Core.Bool.{true}
 use borrow.Author.Tests.{not-true, not-false}
-use Prim.Native.Nat.{◌-◌}
 use native.Mathlib.Omega.{arith}
 use Rattle.laws.specs.Laws.All.{all_zero, all_next, all_not}
-use Rattle.rig_tables.specs.Tests.{at}
 use Rattle.rules.specs.Conditions.{met}
 use Rattle.exec_conditions.proofs.met.Goals as goal
 
 pub loop-p-init : goal.loop-p-init
-loop-p-init c = (all_zero _, search rules)
+loop-p-init c = all_zero _
 
 pub returns-then-not-stands : goal.returns-then-not-stands
 unfolding met
@@ -21,10 +17,10 @@ returns-then-not-stands c =
 pub loop-p-preserved : goal.loop-p-preserved
 loop-p-preserved c =
     let d = c in
-    (all_next _ _ d.loop-p.invariant.0 (sym c.stands.ensures ∙ not-false _ c.if-not-stands.false-raw), search rules)
+    all_next _ _ d.loop-p.invariant (sym c.stands.ensures ∙ not-false _ c.if-not-stands.false-raw)
 
 pub returns : goal.returns
 unfolding met
 returns c =
     let e : c.loop-p.p ≡ 16 = omega arith in
-    sym (rw e at c.loop-p.invariant.0)
+    sym (rw e at c.loop-p.invariant)

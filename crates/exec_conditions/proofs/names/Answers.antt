@@ -1,15 +1,11 @@
-use borrow.Author.Rules.{rules}
 use mathlib.Core.Path.{◌≡◌, sym, ◌∙◌}
-use mathlib.Core.Bool.{false}
-use Prim.Native.Nat.{◌-◌}
 use native.Mathlib.Omega.{arith}
 use Rattle.laws.specs.Laws.Any.{any_zero, any_next, any_at}
-use Rattle.rig_tables.specs.Tests.{at}
 use Rattle.rules.specs.Conditions.{names}
 use Rattle.exec_conditions.proofs.names.Goals as goal
 
 pub loop-k-init : goal.loop-k-init
-loop-k-init c = (any_zero _, search rules)
+loop-k-init c = any_zero _
 
 pub returns-then-both : goal.returns-then-both
 unfolding names
@@ -20,10 +16,10 @@ returns-then-both c =
 pub loop-k-preserved : goal.loop-k-preserved
 loop-k-preserved c =
     let d = c in
-    (any_next _ _ d.loop-k.invariant.0 (sym c.both.ensures ∙ c.if-both.false), search rules)
+    any_next _ _ d.loop-k.invariant (sym c.both.ensures ∙ c.if-both.false)
 
 pub returns : goal.returns
 unfolding names
 returns c =
-    let e : c.loop-k.k ≡ c.args.n = omega arith in
-    sym (rw e at c.loop-k.invariant.0)
+    let e : c.loop-k.k ≡ c.args.rig.now.lines = omega arith in
+    sym (rw e at c.loop-k.invariant)

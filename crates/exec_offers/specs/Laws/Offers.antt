@@ -1,5 +1,5 @@
 -- The tasks are offered one after the other: the loop, turn by turn.
-use Rattle.std.specs.Prelude.{◌≡◌, refl, Bool, true, false, cond, ◌&&◌, ℕ, ◌+◌, ◌≤◌, eqb, set}
+use Rattle.std.specs.Prelude.{◌≡◌, refl, Bool, true, false, ◌&&◌, ℕ, ◌+◌, ◌≤◌, eqb, set}
 use Rattle.std.proofs.Math.Path.{sym, ap}
 use Rattle.std.proofs.Common.{◌∙◌}
 use mathlib.Core.List.{List, []}
@@ -20,7 +20,7 @@ use Rattle.rules.specs.Serving.{push, activate, ready, offer, offer_next, offers
 use Rattle.rules_laws.specs.Made.{made_next, made_none}
 use Rattle.rules_laws.specs.Serve.{load, offers_load}
 use Rattle.exec_queue.specs.View.{entries_of}
-use Rattle.exec_queue.specs.Laws.Queued.{entries_length}
+use Rattle.exec_queue.specs.Laws.Queued.{queue_length}
 use Rattle.exec_queue.specs.Post.{Pushed}
 use Rattle.exec_queue.specs.declared.Queue.{Queue}
 use Rattle.exec_state.specs.View.{rig_of, view_of, work_of}
@@ -71,7 +71,7 @@ module _ (g : Rig) (f : ℕ) (s₀ : State) (q₀ : Queue) where
           arith,
           le_trans (offers_load (rig_of g []) f i (work_of s₀ q₀)) r,
           ap load (h.is []),
-          entries_length q.flag q.value q.n,
+          queue_length q,
         )
 
     pub turned_no : ready_b g f (i + 1) s ≡ false → Turned g f s₀ q₀ s q m (i + 1)

@@ -1,19 +1,25 @@
-use borrow.Author.Rules.{rules}
-use Prim.Native.Nat.{◌-◌}
+use mathlib.Core.Path.{◌≡◌, subst}
+use Prim.Native.Nat.{ℕ, ◌+◌, ◌-◌}
 use native.Mathlib.Omega.{arith}
-use Rattle.exec_overruns.specs.Laws.Counting.{counting_start, counting_next, counting_done}
+use lib.ListN.{set}
+use Rattle.exec_overruns.specs.Laws.Counting.{Counting, counting_start, counting_next, counting_done}
 use Rattle.exec_overruns.proofs.count.Goals as goal
 
-pub loop-i-init : goal.loop-i-init
-loop-i-init c = (counting_start _ _ _, search rules)
+pub loop-t-init : goal.loop-t-init
+loop-t-init c = counting_start _ _ _
 
-pub loop-i-preserved : goal.loop-i-preserved
-loop-i-preserved c =
-    let l = c in
-    let a = l.args in
-    (counting_next a.named.now a.state.now a.overruns.now l.loop-i.overruns l.loop-i.i l.loop-i-test.true l.loop-i.invariant.0 c.struck.result c.struck.ensures c.more.result c.more.ensures, search rules)
+pub loop-t-preserved : goal.loop-t-preserved
+loop-t-preserved c =
+    let l = c.loop-t in
+    let a = c.args in
+    let e : l.t - 1 + 1 ≡ l.t = omega arith in
+    let f : l.t + 1 - 1 ≡ l.t = omega arith in
+    rw f
+    (subst (λ (k : ℕ). Counting a.named.now a.state.now a.overruns.now (set l.overruns k c.more.result) k) e
+    (counting_next a.named.now a.state.now a.overruns.now l.overruns (l.t - 1) (omega arith) l.invariant
+    c.struck.result (rw e c.struck.ensures) c.more.result (rw e c.more.ensures)))
 
 pub returns : goal.returns
 returns c =
     let a = c.args in
-    counting_done a.named.now a.state.now a.overruns.now c.loop-i.overruns c.loop-i.i c.loop-i.invariant.0 (omega arith)
+    counting_done a.named.now a.state.now a.overruns.now c.loop-t.overruns (c.loop-t.t - 1) c.loop-t.invariant (omega arith)

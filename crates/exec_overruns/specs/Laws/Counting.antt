@@ -1,9 +1,13 @@
 -- Tasks are counted one after the other: the loop, turn by turn.
-use Rattle.std.specs.Prelude.{◌≡◌, refl, Bool, true, false, ◌&&◌, List, ℕ, ◌+◌, ◌-◌, ◌≤◌, ◌<◌, get_or, set}
+use Rattle.std.specs.Prelude.{◌≡◌, refl, Bool, true, false, ◌&&◌, List, ℕ, ◌+◌, ◌-◌, ◌≤◌, ◌<◌, get_or, set, min}
 use Rattle.std.proofs.Math.Path.{sym, ap}
 use Rattle.std.proofs.Common.{◌∙◌, arith, lt-ltb, le-ltb}
 use Rattle.std.proofs.Math.Bool.{cond}
 use Rattle.std.proofs.Math.Dec.{eqb}
+use Rattle.std.proofs.Math.Logic.{⊎_elim}
+use Rattle.std.proofs.Math.Nat.{min_comm, min-eq_left}
+use Rattle.std.proofs.lemmas.Bool.{cases_lt}
+use Rattle.std.specs.Int.{from_bool}
 use Rattle.std.proofs.lemmas.List.{set-get_or}
 use Rattle.laws.specs.Cases.{if_yes, if_no}
 use Rattle.laws.specs.Iter.{iter}
@@ -29,6 +33,18 @@ pub more_goes : (n add : ℕ) (soon : Bool) → add ≡ cond soon 1 0 → n ≤ 
 unfolding more_by_one most_overruns
 more_goes n add true e k = sym (if_yes _ (lt-ltb n 65535 (omega arith)) (omega arith))
 more_goes n add false e k = omega arith
+
+-- the sum that stops: the lesser of the sum and the most
+pub more_most : (n add : ℕ) (soon : Bool) → n ≤ 65535 → add ≡ cond soon 1 0 → min (n + add) 65535 ≡ cond soon (more_by_one n) n
+more_most n add soon h e =
+    let a : add ≤ 1 = one_at_most add soon e in
+    ⊎_elim (λ l. min_comm (n + add) 65535 ∙ min-eq_left (omega arith) ∙ more_stops n add soon h e (omega arith))
+    (λ l. min-eq_left l ∙ more_goes n add soon e (omega arith))
+    (cases_lt 65535 (n + add))
+
+pub one_or_none : (soon : Bool) → from_bool soon ≡ cond soon 1 0
+one_or_none true = refl
+one_or_none false = refl
 
 -- marked and active is named and active, where the flag is a minor-cycle flag
 in_turn : (a n m : Bool) → m ≡ true → (a && (n && m)) ≡ (n && a)

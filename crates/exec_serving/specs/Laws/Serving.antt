@@ -1,5 +1,5 @@
 -- One entry is served; then the next, until the queue is empty.
-use Rattle.std.specs.Prelude.{◌≡◌, refl, true, false, cond, ◌&&◌, List, [], ◌∷◌, ℕ, suc, ◌+◌, ◌*◌, ◌≤◌, ◌<◌, eqb, length, get_or, set}
+use Rattle.std.specs.Prelude.{◌≡◌, refl, true, false, ◌&&◌, List, [], ◌∷◌, ℕ, suc, ◌+◌, ◌*◌, ◌≤◌, ◌<◌, eqb, length, get_or, set, replicate}
 use Rattle.std.proofs.Math.Path.{sym, ap}
 use Rattle.std.proofs.Common.{◌∙◌, subst, true≢false}
 use native.Mathlib.Omega.{arith}
@@ -9,6 +9,7 @@ use Rattle.chains.specs.Held.{at, HoldsChains}
 use Rattle.chains.specs.Read.{chains_of}
 use Rattle.chains.specs.declared.Links.{Links}
 use Rattle.exec_family.specs.Anchors.{anchor_of}
+use Rattle.exec_family.proofs.Laws.Anchors.{anchor_flag}
 use Rattle.rig.specs.declared.Cycle.{Cycle}
 use Rattle.rig.specs.declared.Rig.{Rig}
 use Rattle.rules.specs.Rig as G
@@ -20,10 +21,11 @@ use Rattle.rules.specs.Serving.{push, too_soon, more_by_one, overrun, takes, wak
 use Rattle.rules_laws.specs.Serve.{load, wake_load, serve_flag_load, serve_nil, serve_cons}
 use Rattle.rules_laws.specs.Heard.{ChainsIn, service_woken, service_activated, service_chains}
 use Rattle.rules_laws.specs.Heeding.{each_push, each_serve_flag}
+use Rattle.exec_conditions.specs.Lines.{marked}
 use Rattle.exec_conditions.specs.Laws.Driving.{marked_names}
-use Rattle.exec_queue.specs.View.{entries_of, entries}
+use Rattle.exec_queue.specs.View.{entries_of}
 use Rattle.exec_queue.specs.Laws.Cycles.{one_cycle}
-use Rattle.exec_queue.specs.Laws.Queued.{entries_length, entries_pop}
+use Rattle.exec_queue.specs.Laws.Queued.{queue_length}
 use Rattle.exec_queue.specs.declared.Queue.{Queue}
 use Rattle.exec_state.specs.View.{view_of, work_of}
 use Rattle.exec_state.specs.Set.{put_value, put_cond, put_state, put_overruns, put_links}
@@ -34,8 +36,7 @@ use Rattle.exec_overruns.specs.Post.{Counted}
 use Rattle.exec_waking.specs.Post.{Woken, Rouses}
 use Rattle.exec_offers.specs.Post.{Offered}
 use Rattle.exec_state.specs.declared.State.{State}
-use Rattle.exec_state.specs.declared.Work.{Work}
-use Rattle.exec_serving.specs.declared.Done.{Done}
+use Rattle.exec_state.specs.Work.{Work}
 
 -- ---- those whose start comes too soon
 
@@ -129,6 +130,35 @@ more_woken l states a k w after h s c e m n q =
     let many = h.many ∙ ap (λ (b : ℕ). length (chains_of l b)) (sym e) in
     record { woken = h.awoken s c e; few = omega (arith, many, h.few); sum = omega (arith, many, q) }
 
+-- the entry of a flag and a value is stored and its lines driven, who starts too soon is counted, and who waited is woken
+module _ (g : Rig) (cycle : Cycle) (s : State) (f v : ℕ) (ok : FlagOk f v) (conds who numbers states : List ℕ) (links : Links) (n : ℕ)
+    (d : (conds ≡ drive g.lines (at g.line_task) (at g.line_pos) (at g.line_flag) f v s.cond) × (who ≡ marked g.lines (at g.line_task) (at g.line_flag) f (replicate 65 0)))
+    (c : CountsSoon cycle f who s.state s.overruns numbers)
+    (w : Rouses s.links s.state (64 + 2 * f + v) (record { links = links; woken = n }) states) where
+  abbrev stored : State
+  stored = put_overruns (put_cond (put_value s (set s.value f v)) conds) numbers
+
+  abbrev pub heard : State
+  heard = put_links (put_state stored states) links
+
+  anchor : anchor_of (chain_of f v) ≡ 64 + 2 * f + v
+  anchor = anchor_flag f v (ok.some, ok.flag, ok.value)
+
+  counted : numbers ≡ overrun (rig_in_cycle g cycle) f (view_of s)
+  counted = c g s (λ z. omega (arith, ok.some, z)) d.1
+
+  awoken : Woken stored (chain_of f v) heard
+  awoken = w.awoken stored (chain_of f v) anchor
+
+  pub heard_room : (q : Queue) → load (work_of s q) ≤ 79 → load (work_of heard q) ≤ 79
+  heard_room q = served_room s q g cycle f v conds d.0 numbers counted heard awoken
+
+  -- and the flag is offered
+  pub heard_served : (q : Queue) (r : Work) (m : ℕ) → Offered (record { st = heard; queue = q }) g f r → ChainsIn (view_of s)
+      → m ≡ made 1 heard.state r.st.state → Served s q g cycle f v r n m
+  heard_served q r m o h e =
+      served_is s q g cycle f v conds d.0 numbers counted heard awoken r o h n m (w.many ∙ ap (λ (a : ℕ). length (chains_of s.links a)) (sym anchor)) e
+
 -- ---- what is queued stays flags and values
 
 pub servable_push : (f v : ℕ) (q : List Entry) → f ≤ 128 → v ≤ 1 → Servable q → Servable (push f v q)
@@ -173,16 +203,15 @@ module _ (g : Rig) (cycle : Cycle) (s₀ : State) (q₀ : Queue) where
 
   module _ (s : State) (q : Queue) (k m n : ℕ) (h : Turned g cycle s₀ q₀ s q k m n) where
     pub short : q.n ≤ 79
-    short = omega (arith, h.room, entries_length q.flag q.value q.n)
+    short = omega (arith, h.room, queue_length q)
 
-    pub turned_done : q.n ≡ 0 → Emptied g cycle s₀ q₀ (record { st = s; served = k; woken = m; activated = n })
-    unfolding entries
+    pub turned_done : entries_of q ≡ [] → Emptied g cycle s₀ q₀ (record { st = s; served = k; woken = m; activated = n })
     turned_done e =
         record {
           is =
               sym
               (h.is
-              ∙ ap (λ (j : ℕ). more k m n (serve (rig_in_cycle g cycle) (record { now = view_of s; queue = entries q.flag q.value j }))) e
+              ∙ ap (λ (l : List Entry). more k m n (serve (rig_in_cycle g cycle) (record { now = view_of s; queue = l }))) e
               ∙ ap (more k m n) (serve_nil (rig_in_cycle g cycle) (view_of s))
               ∙ (λ i. record { now = view_of s; served = zero_right k i; woken = zero_right m i; activated = zero_right n i }));
           sound = h.sound;
@@ -195,19 +224,7 @@ module _ (g : Rig) (cycle : Cycle) (s₀ : State) (q₀ : Queue) where
         zero_right n = omega arith
 
     -- one entry, the last, is taken off
-    module _ (j : ℕ) (e : q.n ≡ suc j) where
-      abbrev f : ℕ
-      f = get_or q.flag j 0
-
-      abbrev v : ℕ
-      v = get_or q.value j 0
-
-      abbrev popped : Queue
-      popped = record { n = j; flag = q.flag; value = q.value }
-
-      split : entries_of q ≡ record { flag = f; value = v } ∷ entries_of popped
-      split = entries_pop q.flag q.value q.n j e
-
+    module _ (f v : ℕ) (popped : Queue) (split : entries_of q ≡ record { flag = f; value = v } ∷ entries_of popped) where
       pub last_ok : FlagOk f v
       last_ok = (subst (λ (l : List Entry). Servable l) split h.entries).0
 

@@ -5,4 +5,4 @@ pub returns : goal.returns
 returns c =
     let a = c.args in
     let x = c.relax in
-    scheduled_is a.st a.rig a.t x.new.cond x.ensures c.tested.result c.tested.ensures
+    scheduled_is a.st.now a.rig.now a.t x.new.cond x.ensures (record { st = c.tested.new.st; queue = c.tested.result }) c.tested.ensures

@@ -1,25 +1,24 @@
+use mathlib.Core.Path.{ap}
+use mathlib.Core.Bool.{not}
 use Rattle.exec_testing.specs.Laws.Testing.{tested_active, tested_unmet, tested_yes}
 use Rattle.exec_testing.proofs.tested.Goals as goal
+use Rattle.exec_testing.proofs.tested.Goals.{else-st-t-eq-INACTIVE-via-then-st-t-eq-INACTIVE+else-met, else-st-t-eq-INACTIVE-via-else-st-t-eq-INACTIVE}
 
-pub returns-then-st-t-ne-INACTIVE : goal.returns-then-st-t-ne-INACTIVE
-returns-then-st-t-ne-INACTIVE c =
+pub returns-then-met : goal.returns-then-met
+returns-then-met c =
     let a = c.args in
-    let n = c.empty-none in
-    tested_active a.st a.rig a.t n.result n.ensures.0 c.if-st-t-ne-INACTIVE.true
-
-pub returns-then-not-met : goal.returns-then-not-met
-returns-then-not-met c =
-    let a = c.args in
-    let n = c.empty-none in
+    let n = c.empty-queue in
     let m = c.met in
-    tested_unmet a.st a.rig a.t n.result n.ensures.0 c.if-st-t-ne-INACTIVE.false m.result m.ensures c.if-not-met.true-raw
-
-pub returns : goal.returns
-returns c =
-    let a = c.args in
-    let n = c.empty-none in
-    let m = c.met in
-    let q = c.push-q in
     let x = c.relax in
-    tested_yes a.st a.rig a.t n.result n.ensures.0 c.if-st-t-ne-INACTIVE.false m.result m.ensures c.if-not-met.false-raw
-    q.result q.ensures x.new.cond x.ensures
+    tested_yes a.st.now a.rig.now a.t n.result n.ensures.0 c.if-st-t-eq-INACTIVE.true m.result m.ensures (ap not c.if-met.true)
+    c.push.new.self c.push.ensures x.new.cond x.ensures
+
+pub returns-else-st-t-eq-INACTIVE : goal.returns-else-st-t-eq-INACTIVE
+returns-else-st-t-eq-INACTIVE c =
+    let a = c.args in
+    let n = c.empty-queue in
+    elim c.else-st-t-eq-INACTIVE.branch [
+      | else-st-t-eq-INACTIVE-via-then-st-t-eq-INACTIVE+else-met w ↦
+          tested_unmet a.st.now a.rig.now a.t n.result n.ensures.0 w.if-st-t-eq-INACTIVE.true w.met.result w.met.ensures (ap not w.if-met.false)
+      | else-st-t-eq-INACTIVE-via-else-st-t-eq-INACTIVE w ↦ tested_active a.st.now a.rig.now a.t n.result n.ensures.0 w.if-st-t-eq-INACTIVE.false
+    ]

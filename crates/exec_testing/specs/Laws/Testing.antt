@@ -18,7 +18,7 @@ use Rattle.exec_state.specs.View.{rig_of, view_of, work_of}
 use Rattle.exec_state.specs.Set.{put_state, put_overruns, put_cond}
 use Rattle.exec_state.specs.Post.{Tested, Scheduled}
 use Rattle.exec_state.specs.declared.State.{State}
-use Rattle.exec_state.specs.declared.Work.{Work}
+use Rattle.exec_state.specs.Work.{Work}
 
 module _ (s : State) (g : Rig) (t : ℕ) (none : Queue) (z : entries_of none ≡ []) where
   kept_is : work_of s none ≡ quiet (view_of s)

@@ -1,6 +1,5 @@
 use mathlib.Core.Path.{◌≡◌}
 use mathlib.Core.Bool.{◌&&◌}
-use Prim.Native.Nat.{◌≤◌, ◌-◌}
 use lib.Dec.{eqb}
 use lib.ListN.{replicate}
 use Rattle.laws.specs.Iter.{iter}
@@ -10,7 +9,4 @@ use Rattle.start_tests.specs.Tables.{clear}
 use Rattle.start_tables.proofs.able.Given as goal
 
 abbrev pub invariant-loop-t : goal.invariant-loop-t
-invariant-loop-t l = (l.can ≡ iter l.t (store_one (λ i. eqb (at l.state i) 1 && clear l.table i) (λ i. i) (λ i. 1)) (replicate 65 0)) × (l.t ≤ 65)
-
-abbrev pub decreases-loop-t : goal.decreases-loop-t
-decreases-loop-t l = 65 - l.t
+invariant-loop-t l = l.can ≡ iter l.t (store_one (λ i. eqb (at l.state i) 1 && clear l.table i) (λ i. i) (λ i. 1)) (replicate 65 0)

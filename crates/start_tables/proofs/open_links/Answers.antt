@@ -1,57 +1,52 @@
-use borrow.Author.Rules.{rules}
-use mathlib.Core.Path.{◌≡◌, sym, ◌∙◌}
+use mathlib.Core.Path.{◌≡◌, sym, ◌∙◌, ap}
 use borrow.Author.Tests.{eq-eqb, ne_eqb}
-use Prim.Native.Nat.{◌≤◌, ◌<◌, ◌-◌}
+use Prim.Native.Nat.{ℕ}
 use native.Mathlib.Omega.{arith}
+use lib.Dec.{eqb}
+use lib.ListN.{length, set, get_or-map}
 use Rattle.laws.specs.Laws.Iter.{iter_zero}
+use Rattle.laws.specs.Laws.Stores.{stored_yes, stored_no}
 use Rattle.rig_tables.specs.Places.{at}
 use Rattle.start_tests.specs.Tables.{open_one, opened_in}
-use Rattle.laws.specs.Laws.Stores.{stored_yes, stored_no}
+use Rattle.start_tables.specs.Links.{tasks_of, places_of}
+use Rattle.start_tables.specs.declared.Link.{Link}
 use Rattle.start_tables.proofs.open_links.Goals as goal
-use Rattle.start_tables.proofs.open_links.Goals.{else-can-t-eq1, then-can-t-eq1}
+use Rattle.start_tables.proofs.open_links.Goals.{else-can-link-eq1, then-can-link-eq1}
 
-pub loop-j-init : goal.loop-j-init
-loop-j-init c = (sym (iter_zero _ _), search rules)
+-- a link's parts, read in the lists
+abbrev no_link : Link
+no_link = record { task = 0; place = 0 }
 
-pub bounds-task-j : goal.bounds-task-j
-bounds-task-j c = omega (arith, c.requires.few)
+pub loop-link-init : goal.loop-link-init
+loop-link-init c = sym (iter_zero _ _)
 
-pub overflow_cast-t : goal.overflow_cast-t
-overflow_cast-t c =
-    let task : at c.args.task.now c.loop-j.j ≤ 64 = (c.requires.tasks c.loop-j.j c.loop-j-test.true) in
-    omega (arith, task)
+pub bounds-can-link : goal.bounds-can-link
+bounds-can-link c =
+    let i = c.loop-link.link-index in
+    omega (arith, c.requires.tasks i c.loop-link-test.true, get_or-map (λ (l : Link). l.task) c.args.links.now i no_link)
 
-pub bounds-can-t : goal.bounds-can-t
-bounds-can-t c =
-    let task : at c.args.task.now c.loop-j.j ≤ 64 = (c.requires.tasks c.loop-j.j c.loop-j-test.true) in
-    omega (arith, task)
+pub bounds-table-link : goal.bounds-table-link
+bounds-table-link c =
+    let i = c.loop-link.link-index in
+    omega (arith, c.requires.places i c.loop-link-test.true, get_or-map (λ (l : Link). l.place) c.args.links.now i no_link)
 
-pub offset_bounds-place-j : goal.offset_bounds-place-j
-offset_bounds-place-j c = omega (arith, c.requires.few)
-
-pub bounds-place-j : goal.bounds-place-j
-bounds-place-j c = omega (arith, c.requires.few)
-
-pub overflow_cast-i : goal.overflow_cast-i
-overflow_cast-i c =
-    let place : at c.args.place.now c.loop-j.j < 1040 = (c.requires.places c.loop-j.j c.loop-j-test.true) in
-    omega (arith, place)
-
-pub bounds-table-i : goal.bounds-table-i
-bounds-table-i c =
-    let place : at c.args.place.now c.loop-j.j < 1040 = (c.requires.places c.loop-j.j c.loop-j-test.true) in
-    place
-
-pub loop-j-preserved : goal.loop-j-preserved
-loop-j-preserved c =
-    let l = c in
-    let a = c.args in (
-      elim c.if-can-t-eq1.branch [ then-can-t-eq1 w ↦ w.table-is ∙ stored_yes (open_one a.task.now a.can.now) (at a.place.now) (λ i. 1) l.loop-j.j a.table.now l.loop-j.table l.loop-j.invariant.0 (eq-eqb _ _ w.if-can-t-eq1.true) | else-can-t-eq1 w ↦ w.table-is ∙ stored_no (open_one a.task.now a.can.now) (at a.place.now) (λ i. 1) l.loop-j.j a.table.now l.loop-j.table l.loop-j.invariant.0 (ne_eqb _ _ w.if-can-t-eq1.false) ],
-      search rules,
-    )
+pub loop-link-preserved : goal.loop-link-preserved
+loop-link-preserved c =
+    let l = c.loop-link in
+    let a = c.args in
+    let links = a.links.now in
+    let i = l.link-index in
+    let t = ap (λ (t : ℕ). eqb (at a.can.now t) 1) (get_or-map (λ (l : Link). l.task) links i no_link) in
+    let p = ap (λ (p : ℕ). set l.table p 1) (sym (get_or-map (λ (l : Link). l.place) links i no_link)) in
+    let made = stored_yes (open_one (tasks_of links) a.can.now) (at (places_of links)) (λ i. 1) i a.table.now l.table l.invariant in
+    let left = stored_no (open_one (tasks_of links) a.can.now) (at (places_of links)) (λ i. 1) i a.table.now l.table l.invariant in
+    elim c.if-can-link-eq1.branch [
+      | then-can-link-eq1 w ↦ w.table-is ∙ p ∙ made (t ∙ eq-eqb _ _ w.if-can-link-eq1.true)
+      | else-can-link-eq1 w ↦ w.table-is ∙ left (t ∙ ne_eqb _ _ w.if-can-link-eq1.false)
+    ]
 
 pub returns : goal.returns
 unfolding opened_in
 returns c =
-    let e : c.loop-j.j ≡ c.args.m = omega arith in
-    rw e at c.loop-j.invariant.0
+    let e : c.loop-link.link-index ≡ length c.args.links.now = omega arith in
+    rw e at c.loop-link.invariant

@@ -1,6 +1,5 @@
 use mathlib.Core.Path.{◌≡◌}
 use mathlib.Core.Bool.{true}
-use Prim.Native.Nat.{◌≤◌, ◌-◌}
 use lib.ListN.{replicate}
 use Rattle.laws.specs.Bits.{bit}
 use Rattle.laws.specs.Iter.{iter}
@@ -9,7 +8,4 @@ use Rattle.start_tests.specs.Tables.{stands_at}
 use Rattle.start_tables.proofs.standing.Given as goal
 
 abbrev pub invariant-loop-i : goal.invariant-loop-i
-invariant-loop-i l = (l.table ≡ iter l.i (store_one (λ k. true) (λ k. k) (λ k. bit (stands_at l.present l.desired l.cond k))) (replicate 1040 0)) × (l.i ≤ 1040)
-
-abbrev pub decreases-loop-i : goal.decreases-loop-i
-decreases-loop-i l = 1040 - l.i
+invariant-loop-i l = l.table ≡ iter l.i (store_one (λ k. true) (λ k. k) (λ k. bit (stands_at l.rig.present l.rig.desired l.cond k))) (replicate 1040 0)

@@ -1,10 +1,11 @@
 -- The lowest position that blocks, looked for from position 0 on: the first that is found is kept.
-use Rattle.std.specs.Prelude.{◌≡◌, refl, ◌⊎◌, ◌≢◌, Bool, true, false, not, ℕ, ◌+◌, ◌≤◌, ◌<◌}
+use Rattle.std.specs.Prelude.{◌≡◌, refl, ◌⊎◌, ◌≢◌, Bool, true, false, not, List, ℕ, ◌+◌, ◌≤◌, ◌<◌}
 use Rattle.std.proofs.Common.{sym, ◌∙◌, inl, inr, ⊎_elim, arith}
 use Rattle.laws.specs.All.{all}
 use Rattle.laws.specs.Lowest.{lowest}
 use Rattle.laws.specs.Laws.All.{all_zero, all_next, all_at}
-use Rattle.laws.specs.Laws.Lowest.{lowest_is, lowest_none}
+use Rattle.start_tests.specs.Tables.{lowest_in}
+use Rattle.laws.specs.Laws.Lowest.{lowest_is, lowest_most, lowest_none}
 
 -- of the first p positions: all are clear, and `low` is still n; or `low` blocks, and those below it are clear
 pub record Clear (n : ℕ) (test : ℕ → Bool) (p low : ℕ) : Type 0 where
@@ -48,3 +49,8 @@ module _ (n : ℕ) (test : ℕ → Bool) where
   low_done low h =
       ⊎_elim (λ c. c.none ∙ sym (lowest_none n (λ k. not (test k)) (λ k l. passes k n c.all_clear l)))
       (λ b. sym (lowest_is n (λ k. not (test k)) low b.found (rw b.blocks) (λ k l. passes k low b.below l))) h
+
+-- a position, or 16 for none
+pub position_low : (n : ℕ) (table : List ℕ) (t : ℕ) → n ≡ lowest_in table t → n ≤ 16
+unfolding lowest_in
+position_low n table t e = rw e (lowest_most 16 _)
