@@ -7,7 +7,7 @@ use Rattle.exec_refusals.specs.Numbers.{not_sound_no}
 use Rattle.exec_state.specs.declared.State.{State}
 use Rattle.exec.specs.Sound.{rig_in, view, SoundRecord}
 use Rattle.exec.specs.declared.Exec.{Exec}
-use Rattle.exec.specs.declared.Report.{Report}
+use Rattle.exec_outcome.specs.declared.Report.{Report}
 use Rattle.exec.specs.declared.Step.{Step}
 use Rattle.exec.specs.declared.Answer.{Answer}
 use Rattle.exec.specs.declared.Answer.TheVariants.{Accepted, Refused}

@@ -4,6 +4,7 @@ ghost use Rattle.rules.specs.Calls as Call;
 ghost use Rattle.exec.specs.Sound.{SoundRecord};
 ghost use Rattle.exec.specs.Call.{bit, Meets};
 
+use crate::answers::answer_of;
 use crate::{Exec, Step};
 
 impl Exec {
@@ -11,147 +12,159 @@ impl Exec {
     pub fn sound(self) -> bool
         ensures { (result ≡ true) ↔ SoundRecord self }
     {
-        let rig = self.rig;
-        let cycles = self.cycles;
-        let st = self.st;
-        exec_sound::sound(rig, cycles, st)
+        exec_sound::sound(&self.rig, &self.cycles, &self.st)
     }
 
-    pub fn schedule(self, task: u32) -> Step
+    pub fn schedule(mut self, task: u32) -> Step
         ensures { Meets self (Call.schedule task) result [] }
     {
-        let rig = self.rig;
-        let cycles = self.cycles;
-        let st = self.st;
-        self.after(exec_tasks::schedule(rig, cycles, st, task))
+        let told = exec_tasks::schedule(&self.rig, &self.cycles, &mut self.st, task);
+        Step {
+            exec: self,
+            answer: answer_of(told),
+        }
     }
 
-    pub fn cancel(self, task: u32) -> Step
+    pub fn cancel(mut self, task: u32) -> Step
         ensures { Meets self (Call.cancel task) result [] }
     {
-        let rig = self.rig;
-        let cycles = self.cycles;
-        let st = self.st;
-        self.after(exec_tasks::cancel(rig, cycles, st, task))
+        let told = exec_tasks::cancel(&self.rig, &self.cycles, &mut self.st, task);
+        Step {
+            exec: self,
+            answer: answer_of(told),
+        }
     }
 
-    pub fn terminate(self, task: u32) -> Step
+    pub fn terminate(mut self, task: u32) -> Step
         ensures { Meets self (Call.terminate task) result [] }
     {
-        let rig = self.rig;
-        let cycles = self.cycles;
-        let st = self.st;
-        self.after(exec_tasks::terminate(rig, cycles, st, task))
+        let told = exec_tasks::terminate(&self.rig, &self.cycles, &mut self.st, task);
+        Step {
+            exec: self,
+            answer: answer_of(told),
+        }
     }
 
-    pub fn finish(self) -> Step
+    pub fn finish(mut self) -> Step
         ensures { Meets self Call.finish result [] }
     {
-        let rig = self.rig;
-        let cycles = self.cycles;
-        let st = self.st;
-        self.after(exec_tasks::finish(rig, cycles, st))
+        let told = exec_tasks::finish(&self.rig, &self.cycles, &mut self.st);
+        Step {
+            exec: self,
+            answer: answer_of(told),
+        }
     }
 
-    pub fn tick(self, out: &mut [u16]) -> Step
+    pub fn tick(mut self, out: &mut [u16]) -> Step
         ensures { Meets self (Call.tick out.old) result out.new }
     {
-        let rig = self.rig;
-        let cycles = self.cycles;
-        let st = self.st;
-        self.after(exec_bus::tick(rig, cycles, st, out))
+        let told = exec_bus::tick(&self.rig, &self.cycles, &mut self.st, out);
+        Step {
+            exec: self,
+            answer: answer_of(told),
+        }
     }
 
-    pub fn wait_until(self, count: u32) -> Step
+    pub fn wait_until(mut self, count: u32) -> Step
         ensures { Meets self (Call.wait_until count) result [] }
     {
-        let rig = self.rig;
-        let cycles = self.cycles;
-        let st = self.st;
-        self.after(exec_waits::wait_until(rig, cycles, st, count))
+        let told = exec_waits::wait_until(&self.rig, &self.cycles, &mut self.st, count);
+        Step {
+            exec: self,
+            answer: answer_of(told),
+        }
     }
 
-    pub fn wait_for(self, many: u32) -> Step
+    pub fn wait_for(mut self, many: u32) -> Step
         ensures { Meets self (Call.wait_for many) result [] }
     {
-        let rig = self.rig;
-        let cycles = self.cycles;
-        let st = self.st;
-        self.after(exec_waits::wait_for(rig, cycles, st, many))
+        let told = exec_waits::wait_for(&self.rig, &self.cycles, &mut self.st, many);
+        Step {
+            exec: self,
+            answer: answer_of(told),
+        }
     }
 
-    pub fn latched(self, flag: u32, value: bool) -> Step
+    pub fn latched(mut self, flag: u32, value: bool) -> Step
         ensures { Meets self (Call.latched flag (bit value)) result [] }
     {
-        let rig = self.rig;
-        let cycles = self.cycles;
-        let st = self.st;
-        self.after(exec_waits::wait_on(rig, cycles, st, true, flag, value))
+        let told = exec_waits::wait_on(&self.rig, &self.cycles, &mut self.st, true, flag, value);
+        Step {
+            exec: self,
+            answer: answer_of(told),
+        }
     }
 
-    pub fn unlatched(self, flag: u32, value: bool) -> Step
+    pub fn unlatched(mut self, flag: u32, value: bool) -> Step
         ensures { Meets self (Call.unlatched flag (bit value)) result [] }
     {
-        let rig = self.rig;
-        let cycles = self.cycles;
-        let st = self.st;
-        self.after(exec_waits::wait_on(rig, cycles, st, false, flag, value))
+        let told = exec_waits::wait_on(&self.rig, &self.cycles, &mut self.st, false, flag, value);
+        Step {
+            exec: self,
+            answer: answer_of(told),
+        }
     }
 
-    pub fn signal(self, flag: u32, value: bool) -> Step
+    pub fn signal(mut self, flag: u32, value: bool) -> Step
         ensures { Meets self (Call.signal flag (bit value)) result [] }
     {
-        let rig = self.rig;
-        let cycles = self.cycles;
-        let st = self.st;
-        self.after(exec_flags::signal(rig, cycles, st, flag, value))
+        let told = exec_flags::signal(&self.rig, &self.cycles, &mut self.st, flag, value);
+        Step {
+            exec: self,
+            answer: answer_of(told),
+        }
     }
 
     pub fn read_flag(self, flag: u32) -> Step
         ensures { Meets self (Call.read_flag flag) result [] }
     {
-        let rig = self.rig;
-        let cycles = self.cycles;
-        let st = self.st;
-        self.after(exec_flags::read_flag(rig, cycles, st, flag))
+        let told = exec_flags::read_flag(&self.rig, &self.cycles, &self.st, flag);
+        Step {
+            exec: self,
+            answer: answer_of(told),
+        }
     }
 
     pub fn read_block(self, k: u32, area: &[u16], buffer: &mut [u16]) -> Step
         ensures { Meets self (Call.read_block k area.now buffer.old) result buffer.new }
     {
-        let rig = self.rig;
-        let cycles = self.cycles;
-        let st = self.st;
-        self.after(exec_bus::read_block(rig, cycles, st, k, area, buffer))
+        let told = exec_bus::read_block(&self.rig, &self.cycles, &self.st, k, area, buffer);
+        Step {
+            exec: self,
+            answer: answer_of(told),
+        }
     }
 
     pub fn write_block(self, k: u32, area: &mut [u16], words: &[u16]) -> Step
         ensures { Meets self (Call.write_block k area.old words.now) result area.new }
     {
-        let rig = self.rig;
-        let cycles = self.cycles;
-        let st = self.st;
-        self.after(exec_bus::write_block(rig, cycles, st, k, area, words))
+        let told = exec_bus::write_block(&self.rig, &self.cycles, &self.st, k, area, words);
+        Step {
+            exec: self,
+            answer: answer_of(told),
+        }
     }
 
     // "When does the bench next wake someone?" The value that is told is the lowest waking count, 0 if nobody waits for one.
     pub fn next_waking(self) -> Step
         ensures { Meets self Call.next_waking result [] }
     {
-        let rig = self.rig;
-        let cycles = self.cycles;
-        let st = self.st;
-        self.after(exec_questions::next_waking(rig, cycles, st))
+        let told = exec_questions::next_waking(&self.rig, &self.cycles, &self.st);
+        Step {
+            exec: self,
+            answer: answer_of(told),
+        }
     }
 
     // How many of the task's starts came too soon. The value that is told is its number of overruns.
     pub fn overruns(self, task: u32) -> Step
         ensures { Meets self (Call.read_overruns task) result [] }
     {
-        let rig = self.rig;
-        let cycles = self.cycles;
-        let st = self.st;
-        self.after(exec_questions::overruns(rig, cycles, st, task))
+        let told = exec_questions::overruns(&self.rig, &self.cycles, &self.st, task);
+        Step {
+            exec: self,
+            answer: answer_of(told),
+        }
     }
 
     // "Why won't it start?", of an inactive task and within 0 to 3 links. The value that is told is the position of the lowest condition that
@@ -159,9 +172,10 @@ impl Exec {
     pub fn why_not(self, task: u32, links: u32) -> Step
         ensures { Meets self (Call.why_not task links) result [] }
     {
-        let rig = self.rig;
-        let cycles = self.cycles;
-        let st = self.st;
-        self.after(exec_why::why_not(rig, cycles, st, task, links))
+        let told = exec_why::why_not(&self.rig, &self.cycles, &self.st, task, links);
+        Step {
+            exec: self,
+            answer: answer_of(told),
+        }
     }
 }

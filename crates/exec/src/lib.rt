@@ -11,7 +11,9 @@ mod calls;
 ghost use Rattle.std.specs.Prelude.{◌≡◌};
 ghost use Rattle.exec.specs.Starting.{no_exec, Starts};
 
+pub use answers::answer_of;
 use chains::Links;
+pub use exec_outcome::Report;
 use exec_state::State;
 use rig::{Cycle, Rig};
 
@@ -23,17 +25,6 @@ pub struct Exec {
     pub rig: Rig,
     pub cycles: [Cycle; CYCLES],
     pub st: State,
-}
-
-// What an accepted call tells: the flags it served, how many waiting tasks that made dispatchable and how many it activated, the bus
-// words it wrote, the value of the flag it read or a question's answer.
-#[derive(Clone, Copy)]
-pub struct Report {
-    pub served: u32,
-    pub woken: u32,
-    pub activated: u32,
-    pub words: u32,
-    pub value: u32,
 }
 
 #[derive(Clone, Copy)]
@@ -78,22 +69,17 @@ pub fn none() -> Exec
 pub fn start(rig: Rig, cycles: [[u8; CYCLE_FLAGS]; CYCLES]) -> Step
     ensures { Starts rig cycles result }
 {
-    let rows = rig::cycles_of(cycles);
-    let o = exec_tasks::start(rig, rows);
-    let answer = answers::answer_of(o.refusal, o.served, o.woken, o.activated, o.words, o.value);
-    if o.refusal != 0 {
-        return Step {
-            exec: none(),
-            answer,
-        };
-    }
-    let st = o.st;
-    Step {
-        exec: Exec {
-            rig,
-            cycles: rows,
-            st,
+    let mut exec = none();
+    exec.rig = rig;
+    exec.cycles = rig::cycles_of(cycles);
+    match exec_tasks::start(&exec.rig, &exec.cycles, &mut exec.st) {
+        Ok(report) => Step {
+            exec,
+            answer: Answer::Accepted(report),
         },
-        answer,
+        Err(refusal) => Step {
+            exec: none(),
+            answer: Answer::Refused(refusal.number()),
+        },
     }
 }

@@ -1,42 +1,29 @@
 // What a call comes to that ends a task.
 #![tactic(auto)]
 
+ghost use Rattle.exec_state.specs.Work.{Work};
+ghost use Rattle.exec_outcome.specs.Outcome.{accepted_with};
 ghost use Rattle.exec_outcome.specs.Laws.Settling.{empty_cycle, Settled};
 ghost use Rattle.exec_again.specs.Laws.Again.{SettlesAgain};
 
-use exec_outcome::Outcome;
-use exec_state::Work;
+use exec_outcome::Report;
+use exec_queue::Queue;
+use exec_state::State;
 use rig::{Cycle, Rig};
 use rig_tables::CYCLE_FLAGS;
 
 // "After finish and terminate": once what is queued is served, task t is tested again, and what that queues is served too.
-pub fn settle_again(rig: Rig, w: Work, t: usize) -> Outcome
-    requires { SettlesAgain rig w t }
-    ensures { Settled rig empty_cycle w t result }
+pub fn settle_again(rig: &Rig, st: &mut State, queue: Queue, t: usize) -> Report
+    requires { SettlesAgain rig.now (record { st = st.old; queue = queue }) t }
+    ensures { Settled rig.now empty_cycle (record { st = st.old; queue = queue }) t (accepted_with st.new result) }
 {
-    let st = w.st;
-    let queue = w.queue;
     let cycle = Cycle {
         flags: [0; CYCLE_FLAGS],
     };
-    let d = exec_serving::serve(
-        st,
-        queue,
-        cycle,
-        rig.lines as usize,
-        &rig.present,
-        &rig.latched,
-        &rig.desired,
-        &rig.line_task,
-        &rig.line_pos,
-        &rig.line_flag,
-        &rig.activation,
-    );
-    let o = exec_outcome::settle(rig, exec_testing::tested(d.st, rig, t));
-    let st = o.st;
-    Outcome {
-        st,
-        refusal: 0,
+    let d = exec_serving::serve(rig, &cycle, st, queue);
+    let queued = exec_testing::tested(rig, st, t);
+    let o = exec_outcome::settle(rig, st, queued);
+    Report {
         served: d.served + o.served,
         woken: d.woken + o.woken,
         activated: d.activated + o.activated,

@@ -1,46 +1,48 @@
-// The refusals of questions on a task: "12 comes first, then the smallest number"; 0 for none. No running task is needed.
+// The refusals of questions on a task: "12 comes first, then the smallest number". No running task is needed.
 #![tactic(auto)]
 
 ghost use Rattle.std.specs.Prelude.{◌≡◌};
+ghost use Rattle.refusals.specs.Numbers.{report};
 ghost use Rattle.exec_refusals.specs.Rows.{judge, asked_rows, why_rows};
 
+use refusals::Refusal;
 use rig_tables::TASK_PLACES;
 
-// The number of the paper's table for d above 3, which is "from 0 to 3".
-const TOO_MANY_LINKS: u8 = 11;
-
+// d is "from 0 to 3".
 const MOST_LINKS: u32 = 3;
 
 const INACTIVE: u8 = 1;
 
 // Of a question on a task: it needs no running task.
-pub fn of_asked(sound: bool, tasks: u8, t: u32) -> u8
-    ensures { result ≡ judge sound (asked_rows tasks t) }
+pub fn of_asked(sound: bool, tasks: u8, t: u32) -> Result<(), Refusal>
+    ensures { report result ≡ judge sound (asked_rows tasks t) }
 {
     if !sound {
-        return exec_refusals::NOT_SOUND;
+        return Err(Refusal::NotSound);
     }
     if sound_tables::no_such(tasks as usize, t as usize) {
-        return exec_refusals::NO_SUCH;
+        return Err(Refusal::NoSuch);
     }
-    0
+    Ok(())
 }
 
 // Of the question why a task won't start within so many links: it needs no running task, but an inactive one to ask about.
-pub fn of_why(sound: bool, tasks: u8, state: &[u8; TASK_PLACES], task: u32, links: u32) -> u8
-    ensures { result ≡ judge sound (why_rows tasks state.now task links) }
+pub fn of_why(
+    sound: bool,
+    tasks: u8,
+    state: &[u8; TASK_PLACES],
+    task: u32,
+    links: u32,
+) -> Result<(), Refusal>
+    ensures { report result ≡ judge sound (why_rows tasks state.now task links) }
 {
-    if !sound {
-        return exec_refusals::NOT_SOUND;
-    }
-    if sound_tables::no_such(tasks as usize, task as usize) {
-        return exec_refusals::NO_SUCH;
-    }
+    of_asked(sound, tasks, task)?;
     if exec_refusals::look(state, task) != INACTIVE {
-        return exec_refusals::WRONG_STATE;
+        return Err(Refusal::WrongState);
     }
     if MOST_LINKS < links {
-        return TOO_MANY_LINKS;
+        // The table's 11 for d above 3.
+        return Err(Refusal::WordOutsideSize);
     }
-    0
+    Ok(())
 }

@@ -1,5 +1,5 @@
 -- The tables of refusals that several calls share, over the numbers and tables that they look at.
-use Rattle.std.specs.Prelude.{◌≡◌, refl, Bool, true, false, not, ◌||◌, List, [], ◌∷◌, ℕ, ◌-◌, ◌*◌, eqb, leb, ltb}
+use Rattle.std.specs.Prelude.{◌≡◌, ◌≢◌, refl, Bool, true, false, not, ◌||◌, List, [], ◌∷◌, ℕ, suc, ◌-◌, ◌*◌, eqb, leb, ltb}
 use Rattle.std.proofs.Common.{sym, ◌∙◌}
 use Rattle.chains.specs.Held.{at}
 use Rattle.rig.specs.declared.Cycle.{Cycle}
@@ -9,6 +9,7 @@ use Rattle.rules.specs.State.{inactive}
 use Rattle.rules.specs.Starting.{most_links}
 use Rattle.rules.specs.Calls.{Refusal, row, decide, no_such_one, last_count}
 use Rattle.rules_laws.specs.Refusals.{decide_here, decide_next}
+use Rattle.rules_laws.specs.Acceptance.{passed}
 use Rattle.compool.specs.View.{rows_of}
 use Rattle.exec_queue.specs.View.{minor_of}
 use Rattle.exec_refusals.specs.Numbers.{nobody, none_such, not_allowed, wrong_state, past_count, wrong_length, too_many_links, not_sound_no, tick_words}
@@ -82,3 +83,29 @@ here n b xs e = sym (decide_here n b xs e)
 
 pub past : (m n : ℕ) (b : Bool) (xs : List Refusal) → b ≡ false → m ≡ decide xs → m ≡ decide (row n b ∷ xs)
 past m n b xs e f = f ∙ sym (decide_next n b xs e)
+
+-- ---- code that has judged a table of one row, of a call that names nothing or of a question on a task, which other tables begin with
+
+-- a refusal there is one of the longer table
+pub one_out : (k n : ℕ) (sound b : Bool) (xs : List Refusal) → n ≢ 0 → n ≡ judge sound (row k b ∷ []) → n ≡ judge sound (row k b ∷ xs)
+unfolding decide
+one_out k n sound b xs z e = go sound b e
+  where
+    go : (s d : Bool) → n ≡ decide (row not_sound_no (not s) ∷ row k d ∷ []) → n ≡ decide (row not_sound_no (not s) ∷ row k d ∷ xs)
+    go false d q = q
+    go true true q = q
+    go true false q = absurd (z q)
+
+-- none: what the longer table has behind it decides
+pub one_past : (k m : ℕ) (sound b : Bool) (xs : List Refusal) → 0 ≡ judge sound (row (suc k) b ∷ []) → m ≡ decide xs → m ≡ judge sound (row (suc k) b ∷ xs)
+one_past k m sound b xs e f =
+    let p = passed 11 (not sound) (row (suc k) b ∷ []) (sym e) in
+    past m not_sound_no (not sound) _ p.0 (past m (suc k) b xs (passed k b [] p.1).0 f)
+
+pub ran_out : (n : ℕ) (sound : Bool) (running : ℕ) (xs : List Refusal) → n ≢ 0 → n ≡ judge sound (run_rows running)
+    → n ≡ judge sound (row nobody (eqb running 0) ∷ xs)
+ran_out n sound running xs z e = one_out nobody n sound (eqb running 0) xs z e
+
+pub ran : (m : ℕ) (sound : Bool) (running : ℕ) (xs : List Refusal) → 0 ≡ judge sound (run_rows running) → m ≡ decide xs
+    → m ≡ judge sound (row nobody (eqb running 0) ∷ xs)
+ran m sound running xs e f = one_past 4 m sound (eqb running 0) xs e f

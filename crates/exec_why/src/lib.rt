@@ -3,23 +3,27 @@
 
 ghost use Rattle.std.specs.Prelude.{[]};
 ghost use Rattle.rules.specs.Calls.{why_not};
-ghost use Rattle.exec_outcome.specs.Outcome.{Tells};
+ghost use Rattle.exec_outcome.specs.Outcome.{outcome_of, Tells};
 
-use exec_outcome::Outcome;
+use exec_outcome::Report;
 use exec_state::State;
+use refusals::Refusal;
 use rig::{Cycle, Rig};
 use rig_tables::CYCLES;
 
 // "It needs no running task. Refusals: 12, then 6, then 8 if the task isn't inactive, then 11 for d above 3." What is told is the position of
 // the lowest condition that blocks; 16, which is no position, says yes.
-pub fn why_not(rig: Rig, cycles: [Cycle; CYCLES], st: State, task: u32, links: u32) -> Outcome
-    ensures { Tells rig cycles st (why_not task links) result [] }
+pub fn why_not(
+    rig: &Rig,
+    cycles: &[Cycle; CYCLES],
+    st: &State,
+    task: u32,
+    links: u32,
+) -> Result<Report, Refusal>
+    ensures { Tells rig.now cycles.now st.now (why_not task links) (outcome_of st.now result) [] }
 {
     let sound = exec_sound::sound(rig, cycles, st);
-    let n = exec_asking::of_why(sound, rig.tasks, &st.state, task, links);
-    if n != 0 {
-        return exec_outcome::refused(st, n);
-    }
+    exec_asking::of_why(sound, rig.tasks, &st.state, task, links)?;
     let position = exec_starting::lowest_blocking(rig, st, task as usize, links as usize);
-    exec_outcome::kept(st, position)
+    Ok(Report::of_value(position))
 }

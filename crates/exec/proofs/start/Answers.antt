@@ -1,18 +1,22 @@
+use mathlib.Core.Path.{refl, ap, ◌∙◌}
+use Rattle.refusals.specs.Numbers.{refusal_number, some_number}
+use Rattle.exec_outcome.specs.Outcome.{accepted_with, refused_by}
+use Rattle.exec.specs.Laws.Made.{report_from}
+use Rattle.exec.specs.Laws.Meeting.{answer_refused}
 use Rattle.exec.specs.Laws.Starting.{refused_start, accepted_start}
+use Rattle.exec.specs.declared.Answer.TheVariants.{Refused}
 use Rattle.exec.proofs.start.Goals as goal
 
-pub returns-then-o-ne0 : goal.returns-then-o-ne0
-returns-then-o-ne0 c =
-    let a = c.args in
-    let rows = c.cycles_of-rows in
-    let o = c.start-o in
-    refused_start a.rig a.cycles rows.result rows.ensures o.result o.ensures c.if-o-ne0.true _
-    (λ i. record { exec = c.none.ensures i; answer = c.answer_of-answer.ensures i })
+pub returns-in-Ok : goal.returns-in-Ok
+returns-in-Ok c =
+    let rows = c.cycles_of-exec in
+    accepted_start c.args.rig c.args.cycles rows.result rows.ensures (accepted_with c.start.new.st c.in-Ok.report) c.in-Ok.ensures refl _ refl
 
-pub returns : goal.returns
-returns c =
-    let a = c.args in
-    let rows = c.cycles_of-rows in
-    let o = c.start-o in
-    accepted_start a.rig a.cycles rows.result rows.ensures o.result o.ensures c.if-o-ne0.false _
-    (λ i. record { exec = record { rig = a.rig; cycles = rows.result; st = o.result.st }; answer = c.answer_of-answer.ensures i })
+pub returns-in-Err : goal.returns-in-Err
+returns-in-Err c =
+    let rows = c.cycles_of-exec in
+    let n = refusal_number c.in-Err.refusal in
+    let o = refused_by c.start.new.st n in
+    let w = ap Refused c.number.ensures ∙ answer_refused n (report_from o) (some_number c.in-Err.refusal) in
+    refused_start c.args.rig c.args.cycles rows.result rows.ensures o c.in-Err.ensures (some_number c.in-Err.refusal) _
+    (λ i. record { exec = c.none.ensures i; answer = w i })

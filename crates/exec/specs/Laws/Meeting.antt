@@ -1,18 +1,20 @@
 -- What a call came to, as the next record and the answer, meets what the call owes.
-use Rattle.std.specs.Prelude.{◌≡◌, refl, ◌≢◌, List, ℕ, zero, suc}
+use Rattle.std.specs.Prelude.{◌≡◌, refl, ◌≢◌, List, ℕ, zero, suc, Result, Ok, Err}
 use Rattle.std.proofs.Common.{sym, ⊎_elim, inr, arith}
 use Rattle.std.proofs.Math.Path.{ap}
 use Rattle.std.proofs.Math.Logic.{inl}
 use Rattle.rules.specs.Rig as G
 use Rattle.rules.specs.State as S
 use Rattle.rules.specs.Calls as R
-use Rattle.exec_outcome.specs.Outcome.{Tells}
-use Rattle.exec_outcome.specs.declared.Outcome.{Outcome}
+use Rattle.exec_outcome.specs.Outcome.{Outcome, outcome_of, Tells}
 use Rattle.exec.specs.Sound.{rig_in, view, SoundRecord}
 use Rattle.exec.specs.Call.{Meets, ProperAnswer, report_of, answer_of, with_state, refuse}
-use Rattle.exec.specs.Laws.Made.{answer_from, report_from, step_from}
+use Rattle.refusals.specs.declared.Refusal.{Refusal}
+use Rattle.refusals.specs.Numbers.{refusal_number, some_number}
+use Rattle.exec_state.specs.declared.State.{State}
+use Rattle.exec.specs.Laws.Made.{answer_from, report_from, step_from, answer_made}
 use Rattle.exec.specs.declared.Exec.{Exec}
-use Rattle.exec.specs.declared.Report.{Report}
+use Rattle.exec_outcome.specs.declared.Report.{Report}
 use Rattle.exec.specs.declared.Answer.{Answer}
 use Rattle.exec.specs.declared.Answer.TheVariants.{Accepted, Refused}
 
@@ -75,6 +77,14 @@ module _ (x : Exec) (k : R.Call) where
         );
       })
       t.is
+
+  -- so does the record with the state that the call left, and the answer that is made of what it tells or of its refusal
+  pub told_meets : (s : State) (t : Result Report Refusal) (after : List ℕ) → Tells x.rig x.cycles x.st k (outcome_of s t) after
+      → Meets x k (record { exec = with_state x s; answer = answer_made t }) after
+  told_meets s (Ok p) after h = tells_meets (outcome_of s (Ok p)) after h
+  told_meets s (Err r) after h =
+      let m = tells_meets (outcome_of s (Err r)) after h in
+      rw (answer_refused (refusal_number r) (report_from (outcome_of s (Err r))) (some_number r)) m
 
   -- a sound record that is refused by its table
   pub refused : SoundRecord x → (n : ℕ) → suc n ≡ R.refusal (rig_in x) (view x) k → Meets x k (refuse x (suc n)) (R.lent k)

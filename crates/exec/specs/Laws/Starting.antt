@@ -8,7 +8,7 @@ use Rattle.rig.specs.declared.Rig.{Rig}
 use Rattle.rules.specs.Calls as R
 use Rattle.exec.specs.Sound.{SoundRecord}
 use Rattle.exec_refusals.specs.Numbers.{not_sound_no}
-use Rattle.exec_outcome.specs.declared.Outcome.{Outcome}
+use Rattle.exec_outcome.specs.Outcome.{Outcome}
 use Rattle.exec_tasks.specs.Laws.Starting.{Began, Begins}
 use Rattle.exec.specs.Call.{Meets, Refuses, answer_of, refuse}
 use Rattle.exec.specs.Laws.Unique.{record_same, answer_same, refuses_is}

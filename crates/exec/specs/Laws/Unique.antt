@@ -15,7 +15,7 @@ use Rattle.exec_refusals.specs.Numbers.{not_sound_no}
 use Rattle.exec.specs.Sound.{view, SoundRecord}
 use Rattle.exec.specs.Call.{Follows, Meets, ProperAnswer, Refuses, answer_of, refuse}
 use Rattle.exec.specs.declared.Exec.{Exec}
-use Rattle.exec.specs.declared.Report.{Report}
+use Rattle.exec_outcome.specs.declared.Report.{Report}
 use Rattle.exec.specs.declared.Step.{Step}
 use Rattle.exec.specs.declared.Answer.{Answer}
 use Rattle.exec.specs.declared.Answer.TheVariants.{Accepted, Refused}

@@ -18,13 +18,13 @@ use Rattle.rules_laws.specs.WaitingLaws.{chains_set}
 use Rattle.rules_laws.specs.Heard.{ChainsIn}
 use Rattle.exec_state.specs.View.{view_of, work_of}
 use Rattle.exec_state.specs.Post.{Tested}
-use Rattle.exec_state.specs.declared.Work.{Work}
+use Rattle.exec_state.specs.Work.{Work}
 use Rattle.exec_serving.specs.Post.{Servable, Emptied}
 use Rattle.exec_serving.specs.Laws.Serving.{servable_push}
 use Rattle.exec_serving.specs.View.{done_of, rig_in_cycle}
-use Rattle.exec_serving.specs.declared.Done.{Done}
+use Rattle.exec_serving.specs.Done.{Done}
 use Rattle.exec_outcome.specs.Laws.Settling.{Settles, Settled, settled_low}
-use Rattle.exec_outcome.specs.declared.Outcome.{Outcome}
+use Rattle.exec_outcome.specs.Outcome.{Outcome}
 
 -- what is asked: what a serving asks, and a task t to be tested after it
 pub record SettlesAgain (g : Rig) (w : Work) (t : ℕ) : Type 0 where

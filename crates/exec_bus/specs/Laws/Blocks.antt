@@ -14,10 +14,9 @@ use Rattle.exec_state.specs.View.{rig_of, view_of}
 use Rattle.exec_state.specs.declared.State.{State}
 use Rattle.exec_sound.specs.Sound.{SoundParts}
 use Rattle.exec_refusals.specs.Rows.{judge, block_rows, wrong_lengths}
-use Rattle.exec_outcome.specs.Outcome.{refused_by, kept_with, Tells}
+use Rattle.exec_outcome.specs.Outcome.{Outcome, refused_by, kept_with, Tells}
 use Rattle.exec_outcome.specs.Laws.Meeting.{judged_sound, judged_none, judged_tells, kept_tells}
 use Rattle.exec_outcome.specs.Laws.Tables.{read_block_table, write_block_table}
-use Rattle.exec_outcome.specs.declared.Outcome.{Outcome}
 
 -- the row is there, and its block with so many words lies in the area
 pub record Fit (k area words : ℕ) : Type 0 where

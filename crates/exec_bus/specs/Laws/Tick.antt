@@ -25,14 +25,13 @@ use Rattle.compool.specs.View.{rows_of}
 use Rattle.compool.specs.Laws.Words.{row_short}
 use Rattle.exec_state.specs.View.{rig_of, view_of, work_of}
 use Rattle.exec_waking.specs.Post.{TickOk, Ticked}
-use Rattle.exec_state.specs.declared.Work.{Work}
+use Rattle.exec_state.specs.Work.{Work}
 use Rattle.exec_state.specs.declared.State.{State}
 use Rattle.exec_sound.specs.Sound.{SoundParts}
 use Rattle.exec_refusals.specs.Rows.{tick_rows}
-use Rattle.exec_outcome.specs.Outcome.{Tells}
+use Rattle.exec_outcome.specs.Outcome.{Outcome, Tells}
 use Rattle.exec_outcome.specs.Laws.Meeting.{accepted_tells}
 use Rattle.exec_outcome.specs.Laws.Settling.{Settled, next_is, told_is}
-use Rattle.exec_outcome.specs.declared.Outcome.{Outcome}
 
 -- at most two words a row
 bus_few : (n master : ℕ) (row : ℕ → G.Row) (count : ℕ) → length (bus_words n master row count) ≤ n + n

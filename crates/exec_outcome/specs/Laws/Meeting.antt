@@ -1,5 +1,6 @@
 -- How an outcome meets what it owes: refused by 12, refused by its table, or accepted.
-use Rattle.std.specs.Prelude.{◌≡◌, ◌≢◌, ◌↔◌, Bool, true, false, not, List, [], ℕ, zero, suc}
+use Rattle.std.specs.Prelude.{◌≡◌, ◌≢◌, ◌↔◌, Bool, true, false, not, List, [], ℕ, zero, suc, Result}
+use Rattle.std.specs.Result.{IsErrAnd}
 use Rattle.std.proofs.Math.Path.{refl, sym, ap, subst}
 use Rattle.std.proofs.Common.{◌∙◌, inr}
 use Rattle.std.proofs.Math.Logic.{inl}
@@ -24,10 +25,12 @@ use Rattle.exec_state.specs.View.{rig_of, view_of}
 use Rattle.exec_state.specs.declared.State.{State}
 use Rattle.exec_sound.specs.Sound.{SoundParts}
 use Rattle.exec_sound.specs.Laws.RightRig.{rig_ok}
+use Rattle.refusals.specs.declared.Refusal.{Refusal}
+use Rattle.refusals.specs.Numbers.{refusal_number, some_number, handed_on}
 use Rattle.exec_refusals.specs.Numbers.{not_sound_no}
 use Rattle.exec_refusals.specs.Rows.{judge}
-use Rattle.exec_outcome.specs.Outcome.{telling_of, refused_by, kept_with, Obeys, Tells}
-use Rattle.exec_outcome.specs.declared.Outcome.{Outcome}
+use Rattle.exec_outcome.specs.Outcome.{Outcome, telling_of, refused_by, kept_with, outcome_of, Obeys, Tells}
+use Rattle.exec_outcome.specs.declared.Report.{Report}
 
 module _ (g : Rig) (cycles : List Cycle) (s : State) (k : R.Call) where
   obeys_refused : (n : ℕ) → SoundParts g cycles s → R.refusal (rig_of g cycles) (view_of s) k ≡ suc n
@@ -96,6 +99,29 @@ module _ (g : Rig) (cycles : List Cycle) (s : State) (sound : Bool) (is : (sound
       go true h m = refused_tells g cycles s k (h.0 refl) n (m ∙ decide_next not_sound_no false rows refl ∙ e) z o q after f
       go false h m =
           record { is = inr ((λ p. false≢true (h.1 p)), q ∙ ap (refused_by s) (m ∙ decide_here not_sound_no true rows refl), f) }
+
+-- the code has judged a call: the record is sound, and its table gives no refusal
+pub record Passed (g : Rig) (cycles : List Cycle) (s : State) (rows : List R.Refusal) (k : R.Call) : Type 0 where
+  pub sound : SoundParts g cycles s
+  pub quiet : 0 ≡ R.decide rows
+  pub none : 0 ≡ R.refusal (rig_of g cycles) (view_of s) k
+
+pub judged_passed : (g : Rig) (cycles : List Cycle) (s : State) (sound : Bool) → (sound ≡ true) ↔ SoundParts g cycles s → (rows : List R.Refusal) (k : R.Call)
+    → R.decide rows ≡ R.refusal (rig_of g cycles) (view_of s) k → 0 ≡ judge sound rows → Passed g cycles s rows k
+judged_passed g cycles s sound is rows k t j =
+    record {
+      sound = judged_sound g cycles s sound is rows 0 j refl;
+      quiet = judged_none g cycles s sound is rows 0 j refl;
+      none = judged_none g cycles s sound is rows 0 j refl ∙ t;
+    }
+
+-- the code hands on the refusal that its table gave
+pub refusal_tells : (g : Rig) (cycles : List Cycle) (s : State) (sound : Bool) → (sound ≡ true) ↔ SoundParts g cycles s → (rows : List R.Refusal) (k : R.Call)
+    → R.decide rows ≡ R.refusal (rig_of g cycles) (view_of s) k → (r : Result Report Refusal) (e : Refusal) → IsErrAnd r (λ x. x ≡ e)
+    → refusal_number e ≡ judge sound rows → (after : List ℕ) → after ≡ R.lent k → Tells g cycles s k (outcome_of s r) after
+refusal_tells g cycles s sound is rows k t r e h j after f =
+    rw (handed_on r e h)
+    (judged_tells g cycles s sound is rows (refusal_number e) j k t (some_number e) (refused_by s (refusal_number e)) refl after f)
 
 -- ---- calls that leave the state as it is: they queue nothing, and nobody is tested after them
 

@@ -31,16 +31,15 @@ use Rattle.exec_queue.specs.Laws.Cycles.{one_cycle}
 use Rattle.exec_state.specs.View.{rig_of, view_of, work_of}
 use Rattle.exec_state.specs.Post.{Dispatched}
 use Rattle.exec_state.specs.declared.State.{State}
-use Rattle.exec_state.specs.declared.Work.{Work}
+use Rattle.exec_state.specs.Work.{Work}
 use Rattle.exec_serving.specs.Post.{Fits, Servable, Begins, Emptied}
 use Rattle.exec_serving.specs.View.{rig_in_cycle}
-use Rattle.exec_serving.specs.declared.Done.{Done}
+use Rattle.exec_serving.specs.Done.{Done}
 use Rattle.exec_sound.specs.Sound.{SoundParts}
 use Rattle.exec_sound.specs.Laws.RightRig.{rig_ok}
 use Rattle.exec_sound.specs.Laws.Check.{running_low}
-use Rattle.exec_outcome.specs.Outcome.{telling_of, Tells}
+use Rattle.exec_outcome.specs.Outcome.{Outcome, telling_of, Tells}
 use Rattle.exec_outcome.specs.Laws.Meeting.{accepted_tells, Silent, silent_ticks, silent_output}
-use Rattle.exec_outcome.specs.declared.Outcome.{Outcome}
 
 -- what is asked
 pub record Settles (g : Rig) (w : Work) : Type 0 where

@@ -1,26 +1,34 @@
 use mathlib.Core.Path.{refl}
 use native.Mathlib.Omega.{arith}
+use Rattle.refusals.specs.Numbers.{refusal_number, some_number, handed_on}
+use Rattle.exec_outcome.specs.Outcome.{refused_by, kept_with}
 use Rattle.exec_questions.specs.Laws.Overruns.{refused_asked, asked_low, told_overruns}
 use Rattle.exec_questions.proofs.overruns.Goals as goal
 
-pub returns-then-n-ne0 : goal.returns-then-n-ne0
-returns-then-n-ne0 c =
-    let s = c.args in
-    let e = c.sound-sound in
-    let n = c.of_asked-n in
-    refused_asked s.rig s.cycles s.st s.task e.result e.ensures n.result n.ensures c.if-n-ne0.true c.refused.result c.refused.ensures
+pub returns-in_err-of_asked : goal.returns-in_err-of_asked
+returns-in_err-of_asked c =
+    let a = c.args in
+    let g = a.rig.now in
+    let cy = a.cycles.now in
+    let s = a.st.now in
+    let n = refusal_number c.in_err-of_asked.field-0.0 in
+    rw (handed_on c.from_residual.result _ c.from_residual.ensures.1)
+    (refused_asked g cy s a.task c.sound-sound.result c.sound-sound.ensures n c.in_err-of_asked.ensures (some_number _) (refused_by s n) refl)
 
 pub bounds-st-t : goal.bounds-st-t
 bounds-st-t c =
-    let s = c.args in
-    let e = c.sound-sound in
-    let n = c.of_asked-n in
-    let low = asked_low s.rig s.cycles s.st s.task e.result e.ensures n.result n.ensures c.if-n-ne0.false in
+    let a = c.args in
+    let g = a.rig.now in
+    let cy = a.cycles.now in
+    let s = a.st.now in
+    let low = asked_low g cy s a.task c.sound-sound.result c.sound-sound.ensures 0 c.in_ok-of_asked.ensures refl in
     omega (arith, low.0, low.1)
 
 pub returns : goal.returns
 returns c =
-    let s = c.args in
-    let e = c.sound-sound in
-    let n = c.of_asked-n in
-    told_overruns s.rig s.cycles s.st s.task e.result e.ensures n.result n.ensures c.if-n-ne0.false _ refl c.kept.result c.kept.ensures
+    let a = c.args in
+    let g = a.rig.now in
+    let cy = a.cycles.now in
+    let s = a.st.now in
+    rw c.of_value.ensures
+    (told_overruns g cy s a.task c.sound-sound.result c.sound-sound.ensures 0 c.in_ok-of_asked.ensures refl _ refl (kept_with s _) refl)

@@ -22,9 +22,8 @@ use Rattle.exec_state.specs.View.{rig_of, view_of}
 use Rattle.exec_state.specs.declared.State.{State}
 use Rattle.exec_sound.specs.Sound.{SoundParts}
 use Rattle.exec_refusals.specs.Numbers.{not_sound_no}
-use Rattle.exec_outcome.specs.Outcome.{Tells, refused_by, kept_with}
+use Rattle.exec_outcome.specs.Outcome.{Outcome, Tells, refused_by, kept_with}
 use Rattle.exec_outcome.specs.Laws.Meeting.{kept_tells}
-use Rattle.exec_outcome.specs.declared.Outcome.{Outcome}
 
 module _ (g : Rig) (cycles : List Cycle) (s : State) where
   asked_lent : [] ≡ R.lent R.next_waking

@@ -13,9 +13,8 @@ use Rattle.exec_state.specs.declared.State.{State}
 use Rattle.exec_sound.specs.Sound.{SoundParts}
 use Rattle.exec_sound.specs.Laws.RightRig.{rig_ok}
 use Rattle.exec_refusals.specs.Rows.{judge, asked_rows}
-use Rattle.exec_outcome.specs.Outcome.{Tells, refused_by, kept_with}
+use Rattle.exec_outcome.specs.Outcome.{Outcome, Tells, refused_by, kept_with}
 use Rattle.exec_outcome.specs.Laws.Meeting.{judged_sound, judged_none, judged_tells, kept_tells}
-use Rattle.exec_outcome.specs.declared.Outcome.{Outcome}
 
 module _ (g : Rig) (cycles : List Cycle) (s : State) (t : ℕ) where
   table : R.decide (asked_rows g.tasks t) ≡ R.refusal (rig_of g cycles) (view_of s) (R.read_overruns t)

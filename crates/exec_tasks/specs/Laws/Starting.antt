@@ -23,12 +23,11 @@ use Rattle.exec_state.specs.Post.{Blank, Scheduled}
 use Rattle.exec_serving.specs.Post.{Servable}
 use Rattle.exec_serving.specs.View.{rig_in_cycle}
 use Rattle.exec_state.specs.declared.State.{State}
-use Rattle.exec_state.specs.declared.Work.{Work}
+use Rattle.exec_state.specs.Work.{Work}
 use Rattle.exec_sound.specs.Sound.{SoundParts}
 use Rattle.exec_sound.specs.Laws.RightRig.{rig_ok}
-use Rattle.exec_outcome.specs.Outcome.{telling_of, answer_in}
+use Rattle.exec_outcome.specs.Outcome.{Outcome, telling_of, answer_in}
 use Rattle.exec_outcome.specs.Laws.Settling.{Settles, empty_cycle, Settled, fits, servable, effect_low, empty_plain}
-use Rattle.exec_outcome.specs.declared.Outcome.{Outcome}
 
 -- the rules' start: the state that the record shows, what the serving came to; the record is sound
 pub record Began (g : Rig) (cycles : List Cycle) (o : Outcome) : Type 0 where

@@ -1,6 +1,6 @@
 -- Calls that name a task, and the finish: what the state's methods ask and give.
-use Rattle.std.specs.Prelude.{◌≡◌, refl, Bool, List, [], ℕ, zero, suc, ◌<◌, ◌≤◌, eqb, ltb}
-use Rattle.std.proofs.Common.{sym, subst, arith, le-ltb}
+use Rattle.std.specs.Prelude.{◌≡◌, refl, Bool, not, List, [], ℕ, zero, suc, ◌<◌, ◌≤◌, eqb, ltb, get_or}
+use Rattle.std.proofs.Common.{sym, ap, ◌∙◌, subst, arith, le-ltb}
 use Rattle.chains.specs.Held as L
 use Rattle.rig.specs.Rules.{Right}
 use Rattle.rig.specs.declared.Cycle.{Cycle}
@@ -10,12 +10,13 @@ use Rattle.rules.specs.Calls as R
 use Rattle.rules_laws.specs.Acceptance.{named_is, somebody_runs}
 use Rattle.exec_state.specs.View.{rig_of, view_of, work_of}
 use Rattle.exec_state.specs.Post.{CancelOk, Finished, Terminated, Cancelled, Scheduled}
-use Rattle.exec_state.specs.declared.Work.{Work}
+use Rattle.exec_state.specs.Work.{Work}
 use Rattle.exec_state.specs.declared.State.{State}
 use Rattle.exec_sound.specs.Sound.{SoundParts}
 use Rattle.exec_sound.specs.Laws.RightRig.{bounded}
 use Rattle.exec_sound.specs.Laws.Check.{placed, running_low}
 use Rattle.exec_refusals.specs.Rows.{task_rows, run_rows}
+use Rattle.exec_outcome.specs.Laws.Tables.{schedule_table, cancel_table, terminate_table}
 
 -- "Active is 2 or 3."
 pub not_active_lem : (n : ℕ) → ltb n 2 ≡ eqb (S.active n) 0
@@ -25,6 +26,24 @@ not_active_lem (suc (suc n)) = le-ltb (suc (suc n)) 2 (omega arith)
 
 pub cancel_ok : (g : Rig) (cycles : List Cycle) → Right g cycles → CancelOk g
 cancel_ok g cycles h = bounded g.controller 65 64 h.shaped.controller (λ t b. omega (arith, (placed g cycles h).controller t b))
+
+-- the tables of these calls, by what the code reads of the task's state
+module _ (g : Rig) (cycles : List Cycle) (s : State) (t u : ℕ) (e : u ≡ get_or s.state t 0) where
+  rows : Bool → List R.Refusal
+  rows wrong = task_rows s.running g.tasks g.controller t wrong
+
+  pub schedule_by : R.decide (task_rows s.running g.tasks g.controller t (not (eqb u 0))) ≡ R.refusal (rig_of g cycles) (view_of s) (R.schedule t)
+  unfolding rows
+  schedule_by = ap (λ (n : ℕ). R.decide (rows (not (eqb n 0)))) e ∙ schedule_table g cycles s t
+
+  pub cancel_by : R.decide (task_rows s.running g.tasks g.controller t (eqb u 0)) ≡ R.refusal (rig_of g cycles) (view_of s) (R.cancel t)
+  unfolding rows
+  cancel_by = ap (λ (n : ℕ). R.decide (rows (eqb n 0))) e ∙ cancel_table g cycles s t
+
+  pub terminate_by : R.decide (task_rows s.running g.tasks g.controller t (ltb u 2)) ≡ R.refusal (rig_of g cycles) (view_of s) (R.terminate t)
+  unfolding rows
+  terminate_by =
+      ap (λ (n : ℕ). R.decide (rows (ltb n 2))) e ∙ ap (λ (b : Bool). R.decide (rows b)) (not_active_lem (get_or s.state t 0)) ∙ terminate_table g cycles s t
 
 module _ (g : Rig) (cycles : List Cycle) (s : State) (h : SoundParts g cycles s) where
   -- the task that is named is there

@@ -15,9 +15,8 @@ use Rattle.start_levels.specs.Laws.Meaning.{meaning}
 use Rattle.exec_sound.specs.Sound.{SoundParts}
 use Rattle.exec_sound.specs.Laws.RightRig.{rig_ok}
 use Rattle.exec_refusals.specs.Rows.{judge, why_rows}
-use Rattle.exec_outcome.specs.Outcome.{Tells, refused_by, kept_with}
+use Rattle.exec_outcome.specs.Outcome.{Outcome, Tells, refused_by, kept_with}
 use Rattle.exec_outcome.specs.Laws.Meeting.{judged_sound, judged_none, judged_tells, kept_tells}
-use Rattle.exec_outcome.specs.declared.Outcome.{Outcome}
 
 module _ (g : Rig) (cycles : List Cycle) (s : State) (t d : ℕ) where
   table : R.decide (why_rows g.tasks s.state t d) ≡ R.refusal (rig_of g cycles) (view_of s) (R.why_not t d)

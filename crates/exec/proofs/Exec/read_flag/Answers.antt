@@ -1,4 +1,5 @@
+use Rattle.exec.specs.Laws.Meeting.{told_meets}
 use Rattle.exec.proofs.Exec.read_flag.Goals as goal
 
 pub returns : goal.returns
-returns c = c.after.ensures _ _ c.read_flag.ensures
+returns c = rw c.answer_of.ensures (told_meets c.args.self _ c.args.self.st c.read_flag-told.result _ c.read_flag-told.ensures)
