@@ -2,7 +2,7 @@
 ghost use Rattle.std.specs.Prelude.{◌≡◌};
 ghost use Rattle.host_replies.specs.Told.{reply_of, coded};
 
-use crate::{Coded, Reply};
+use crate::{Coded, NOTHING, Reply};
 use exec::{Answer, Step};
 
 fn reply_of(a: Answer, count: u32, running: u32) -> Reply
@@ -10,8 +10,6 @@ fn reply_of(a: Answer, count: u32, running: u32) -> Reply
 {
     match a {
         Answer::Accepted(p) => Reply {
-            refusal: 0,
-            line: 0,
             served: p.served,
             words: p.words,
             value: p.value,
@@ -19,17 +17,13 @@ fn reply_of(a: Answer, count: u32, running: u32) -> Reply
             running,
             woken: p.woken,
             activated: p.activated,
+            ..NOTHING
         },
         Answer::Refused(n) => Reply {
             refusal: n as u32,
-            line: 0,
-            served: 0,
-            words: 0,
-            value: 0,
             count,
             running,
-            woken: 0,
-            activated: 0,
+            ..NOTHING
         },
     }
 }
@@ -38,8 +32,9 @@ fn reply_of(a: Answer, count: u32, running: u32) -> Reply
 pub fn told(s: Step) -> Coded
     ensures { result ≡ coded s }
 {
-    let exec = s.exec;
-    let answer = s.answer;
-    let reply = reply_of(answer, exec.st.count, exec.st.running as u32);
-    Coded { exec, reply }
+    let reply = reply_of(s.answer, s.exec.st.count, s.exec.st.running as u32);
+    Coded {
+        exec: s.exec,
+        reply,
+    }
 }

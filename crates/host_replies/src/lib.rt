@@ -13,7 +13,7 @@ pub use starting::start;
 // flag's value, the count and the running task of the record after the call, and how many waiting tasks the services made
 // dispatchable and how many they activated.
 #[repr(C)]
-#[derive(Clone, Copy)]
+#[derive(Clone, Copy, Debug, PartialEq, Eq)]
 pub struct Reply {
     pub refusal: u32,
     pub line: u32,
@@ -25,6 +25,19 @@ pub struct Reply {
     pub woken: u32,
     pub activated: u32,
 }
+
+// All zeros: a reply names what it tells beside them.
+const NOTHING: Reply = Reply {
+    refusal: 0,
+    line: 0,
+    served: 0,
+    words: 0,
+    value: 0,
+    count: 0,
+    running: 0,
+    woken: 0,
+    activated: 0,
+};
 
 // The record after a call, and the reply.
 #[derive(Clone, Copy)]

@@ -2,24 +2,21 @@
 ghost use Rattle.std.specs.Prelude.{◌≡◌};
 ghost use Rattle.host_replies.specs.Told.{refused_file, StartRepliesFrom};
 
-use crate::{Coded, Reply};
+use crate::{Coded, NOTHING, Reply};
 
+// A number: what reading a file answers has the refusal so, and C does too.
 fn refused(number: u32, line: u32) -> Coded
     ensures { result ≡ refused_file number line }
 {
-    let exec = exec::none();
     let reply = Reply {
         refusal: number,
         line,
-        served: 0,
-        words: 0,
-        value: 0,
-        count: 0,
-        running: 0,
-        woken: 0,
-        activated: 0,
+        ..NOTHING
     };
-    Coded { exec, reply }
+    Coded {
+        exec: exec::none(),
+        reply,
+    }
 }
 
 pub fn start(file: &[u8]) -> Coded
@@ -29,8 +26,5 @@ pub fn start(file: &[u8]) -> Coded
     if a.no != 0 {
         return refused(a.no as u32, a.line as u32);
     }
-    let rig = a.rig;
-    let cycles = a.cycles;
-    let table = rig::table_of(cycles);
-    crate::calls::told(exec::start(rig, table))
+    crate::calls::told(exec::start(a.rig, rig::table_of(a.cycles)))
 }

@@ -1,5 +1,5 @@
 -- THE REFUSALS' TEXTS: the build paper's table of refusal numbers, word by word.
-use Rattle.std.specs.Prelude.{ℕ, ◌+◌, ◌<◌, ◌≤◌, ◌≡◌, List, [], ◌∷◌, ◌++◌, length, get_or}
+use Rattle.std.specs.Prelude.{ℕ, ◌<◌, ◌≤◌, ◌≡◌, List, [], ◌∷◌, ◌++◌, length, get_or}
 use Rattle.laws.specs.Put.{put}
 use Rattle.put_text.specs.Text.{ascii}
 

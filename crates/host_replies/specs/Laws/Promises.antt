@@ -1,5 +1,5 @@
 -- FOR THE READER: what a host may rely on, from what it is told.
-use Rattle.std.specs.Prelude.{◌≡◌, refl, ◌≢◌, ◌⊎◌, ◌↔◌, List, ℕ, zero, suc}
+use Rattle.std.specs.Prelude.{◌≡◌, refl, ◌≢◌, ◌↔◌, List, ℕ, zero, suc}
 use Rattle.std.proofs.Common.{sym, ap, subst, ◌∙◌, ⊎_elim}
 use Rattle.rules.specs.Calls as R
 use Rattle.rules_laws.specs.Refusals.{code_is}

@@ -1,5 +1,5 @@
 -- THE STATEMENTS FIX THE RESULT: record, reply and lent words that meet what a call or a start owes are equal.
-use Rattle.std.specs.Prelude.{◌≡◌, ◌⊎◌, List, ℕ}
+use Rattle.std.specs.Prelude.{◌≡◌, List, ℕ}
 use Rattle.std.proofs.Common.{sym, ap, subst, ◌∙◌, inl, ⊎_elim}
 use Rattle.rig.specs.declared.Cycle.{Cycle}
 use Rattle.rig.specs.declared.Rig.{Rig}

@@ -19,5 +19,5 @@ returns-then-a-ne0 c =
 pub returns : goal.returns
 returns c =
     let r = c in
-    let t = c.table_of-table in
+    let t = c.table_of in
     file_started r.args.file.now r.read-a.result r.read-a.ensures c.if-a-ne0.false t.result t.ensures c.start.result c.start.ensures c.told.result c.told.ensures
