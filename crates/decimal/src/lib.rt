@@ -5,6 +5,8 @@ ghost use Rattle.std.specs.Prelude.{◌≡◌, ◌+◌, ◌≤◌, ◌<◌, leng
 ghost use Rattle.decimal.specs.Decimal.{cap, read_byte, number, dec};
 ghost use Rattle.put_text.specs.Wrote.{Wrote};
 
+// Three numbers above all values: too large, no decimal, nothing read yet. Numbers, not variants of an error: the contract is `number`, which
+// counts them among its values, and the theorems on it stay as they are.
 pub const CAP: u64 = 4294967296;
 
 const BAD: u64 = 4294967297;
@@ -19,13 +21,10 @@ const DIGIT: u64 = 48;
 fn step_on(m: u64, b: u8) -> u64
     ensures { result ≡ read_byte m b }
 {
-    if b < b'0' {
+    if b < b'0' || b'9' < b {
         return BAD;
     }
-    if b'9' < b {
-        return BAD;
-    }
-    let d = wide64(b) - DIGIT;
+    let d = b as u64 - DIGIT;
     if m == START {
         return d;
     }
@@ -39,34 +38,13 @@ fn step_on(m: u64, b: u8) -> u64
     if n < CAP { n } else { CAP }
 }
 
-// The same number in a wider type.
-pub fn wide64(x: u8) -> u64
-    ensures { (result ≡ x) × (result < 256) }
-{
-    x as u64
-}
-
-pub fn wide(x: u8) -> usize
-    ensures { (result ≡ x) × (result < 256) }
-{
-    x as usize
-}
-
-pub fn wide16(x: u16) -> usize
-    ensures { result ≡ x }
-{
-    x as usize
-}
-
 // What the field says: its value below CAP, CAP for every larger number, and above CAP where it is no decimal.
 pub fn number_in(f: &[u8]) -> u64
     ensures { result ≡ number f.now }
 {
     let mut m = START;
-    let mut i = 0;
-    while i < f.len() {
-        m = step_on(m, f[i]);
-        i += 1;
+    for b in f {
+        m = step_on(m, *b);
     }
     m
 }

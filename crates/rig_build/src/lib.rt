@@ -1,15 +1,19 @@
 // What is answered for a whole rig file.
 #![tactic(auto)]
 
-ghost use Rattle.std.specs.Prelude.{◌≡◌, ℕ, ◌≤◌, get_or};
-ghost use Rattle.rig_lines.specs.Kinds.{kind_rig};
-ghost use Rattle.rig_held.specs.Held.{held};
+ghost use Rattle.std.specs.Prelude.{◌≡◌, ℕ, ◌≤◌, length, get_or};
+ghost use Rattle.refusals.specs.Numbers.{refusal_number};
+ghost use Rattle.rig_whole.specs.Numbers.{rule_number};
+ghost use Rattle.rig_held.specs.Held.{held, Begins};
 ghost use Rattle.rig_build.specs.Read.{file_refused, file_accepted, behind, whole_file};
 
+use refusals::Refusal;
+use rig_held::Line;
 use rig_tables::CYCLES;
+use rig_whole::Rule;
 
 // What reading a file answers: the refusal number and its line; the whole-file rule that is broken, 0 for none; the rig and
-// its cycles.
+// its cycles. Numbers and a rig in every case, not a Result: "a refused rig is all zeros" is a promise of `read`, and `reading` speaks of this record.
 #[derive(Clone, Copy)]
 pub struct Answer {
     pub no: u8,
@@ -19,10 +23,7 @@ pub struct Answer {
     pub cycles: [rig::Cycle; CYCLES],
 }
 
-// The refusal of a file that breaks a rule over the whole of it.
-const BREAKS_A_RULE: u8 = 4;
-
-// The same numbers, each known to fit a byte.
+// The same numbers, each known to fit a byte: nine casts, since each has its own bound.
 pub fn bytes_of(v: [u64; 9]) -> [u8; 9]
     requires { (i : ℕ) → get_or v i 0 ≤ 255 }
     ensures { result ≡ v }
@@ -33,11 +34,11 @@ pub fn bytes_of(v: [u64; 9]) -> [u8; 9]
     ]
 }
 
-pub fn refused(no: u8, line: usize, rule: u16) -> Answer
-    ensures { result ≡ file_refused «no» line rule }
+pub fn refused(refusal: Refusal, line: usize, rule: u16) -> Answer
+    ensures { result ≡ file_refused (refusal_number refusal) line rule }
 {
     Answer {
-        no,
+        no: refusal.number(),
         line,
         rule,
         rig: rig::none(),
@@ -58,35 +59,25 @@ fn taken(g: rig::Rig, cycles: [rig::Cycle; CYCLES]) -> Answer
 }
 
 // The whole file: every line was right, and the rules over all of them are left.
-pub fn whole(lines: &[u8; rig_held::ROOM], n: usize) -> Answer
-    requires { (1 ≤ n) × (n ≤ 10240) × (get_or lines.now 0 0 ≡ kind_rig) }
-    ensures { result ≡ whole_file (held lines.now n) }
+pub fn whole(lines: &[Line]) -> Answer
+    requires begins { Begins lines.now }
+    requires few { length lines.now ≤ 10240 }
+    ensures { result ≡ whole_file (held lines.now) }
 {
-    let rule = rig_line_rules::line_rule(lines, n);
-    if rule != 0 {
-        return refused(BREAKS_A_RULE, 0, rule);
+    if let Err(rule) = rig_line_rules::line_rule(lines) {
+        return refused(Refusal::RuleBroken, 0, rule.number());
     }
-    let g = rig_filled::rig_from(lines, n);
-    let cycles = rig::cycles_of(rig_fill::table_from(lines, n));
-    let broken = rig_whole::broken(g, cycles);
-    if broken != 0 {
-        return refused(BREAKS_A_RULE, 0, behind(broken));
+    let g = rig_filled::rig_from(lines);
+    let cycles = rig::cycles_of(rig_fill::table_from(lines));
+    if let Err(rule) = rig_whole::first_broken(&g, &cycles) {
+        return refused(Refusal::RuleBroken, 0, behind(rule));
     }
     taken(g, cycles)
 }
 
 // A rule of the rig, numbered behind those of the lines.
-fn behind(rule: u8) -> u16
-    ensures { result ≡ behind rule }
+fn behind(rule: Rule) -> u16
+    ensures { result ≡ behind (rule_number rule) }
 {
-    if rule == 0 {
-        return 0;
-    }
-    5 + as_rule(rule)
-}
-
-fn as_rule(x: u8) -> u16
-    ensures { result ≡ x }
-{
-    x as u16
+    5 + rule.number() as u16
 }

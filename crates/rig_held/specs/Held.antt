@@ -1,13 +1,20 @@
--- Lines as they are held while a file is read: ten bytes a line, its kind, then its numbers.
-use Rattle.std.specs.Prelude.{ℕ, zero, suc, ◌+◌, ◌*◌, List, [], ◌∷◌, ◌++◌, get_or, take, drop}
+-- The lines that are held while a file is read, as lines of a file.
+use Rattle.std.specs.Prelude.{◌≡◌, List, [], ◌∷◌, take}
+use Rattle.rig_lines.specs.declared.Kind.TheVariants.{Rig}
+use Rattle.rig_lines.specs.Kind.{kind_number}
 use Rattle.rig_lines.specs.Kinds.{count_of}
 use Rattle.rig_lines.specs.Line.{Line}
+use Rattle.rig_held.specs.declared.Line.{Line as HeldLine}
 
--- the line that stands in the ten bytes from 10 times i on: as many numbers as its kind has
-unfoldable pub held_line : List ℕ → ℕ → Line
-held_line l i = record { kind = get_or l (10 * i) 0; nums = take (count_of (get_or l (10 * i) 0)) (drop (10 * i + 1) l) }
+-- its kind by number, and as many numbers as its kind has
+unfoldable pub held_line : HeldLine → Line
+held_line r = record { kind = kind_number r.kind; nums = take (count_of (kind_number r.kind)) r.numbers }
 
--- the first n lines
-unfoldable pub held : List ℕ → ℕ → List Line
-held l zero = []
-held l (suc n) = held l n ++ (held_line l n ∷ [])
+unfoldable pub held : List HeldLine → List Line
+held [] = []
+held (r ∷ rs) = held_line r ∷ held rs
+
+-- there is a line, and the first is the RIG line
+abbrev pub Begins : List HeldLine → Type 0
+Begins [] = ⊥
+Begins (r ∷ rs) = r.kind ≡ Rig

@@ -1,60 +1,79 @@
-// The lines of a rig file as they are held while it is read, ten bytes a line: its kind, then its numbers, 0 behind the last.
+// The lines of a rig file as they are held while it is read.
 #![tactic(auto)]
 
-ghost use Rattle.std.specs.Prelude.{◌≡◌, ◌∷◌, ◌*◌, ◌≤◌, ◌<◌, length};
-ghost use Rattle.laws.specs.Put.{put};
+ghost use Rattle.std.specs.Prelude.{◌≡◌, ◌∷◌, [], ◌++◌, ◌≤◌, ◌<◌, length};
+ghost use Rattle.rig_lines.specs.Kind.{kind_number};
 ghost use Rattle.rig_lines.specs.Whole.{is_kind, how_many};
 ghost use Rattle.rig_held.specs.Held.{held};
+
+use rig_lines::Kind;
+use std::marker::Model;
 
 // How many lines there is room for: a line of the right shape has at least four bytes, and a file at most 40,960.
 pub const MOST: usize = 10240;
 
-// How many bytes they take.
-pub const ROOM: usize = 102400;
-
-// The kinds of lines as bytes (the numbers of rig_lines).
-pub const RIG: u8 = 1;
-
-pub const TASK: u8 = 2;
-
-pub const CONDITION: u8 = 3;
-
-pub const LINE: u8 = 4;
-
-pub const FLAG: u8 = 5;
-
-pub const ROW: u8 = 6;
-
-// Line `i` is held.
-pub fn hold(lines: &mut [u8; ROOM], i: usize, kind: u8, v: [u8; 9])
-    requires { (i < 10240) × (length lines.old ≡ 102400) }
-    ensures { lines.new ≡ put lines.old (10 * i) (kind ∷ v) }
-{
-    let a = 10 * i;
-    lines[a] = kind;
-    lines[a + 1] = v[0];
-    lines[a + 2] = v[1];
-    lines[a + 3] = v[2];
-    lines[a + 4] = v[3];
-    lines[a + 5] = v[4];
-    lines[a + 6] = v[5];
-    lines[a + 7] = v[6];
-    lines[a + 8] = v[7];
-    lines[a + 9] = v[8];
+// A line: its kind, and its numbers, 0 behind the last. It takes ten bytes, so that all of them take the 102,400 bytes of stack that the header's figure counts.
+#[derive(Clone, Copy, Debug, PartialEq, Eq)]
+pub struct Line {
+    pub kind: Kind,
+    pub numbers: [u8; 9],
 }
 
-// How many lines of the first `n` are of a kind.
-pub fn how_many(lines: &[u8; ROOM], n: usize, kind: u8) -> usize
-    requires { n ≤ 10240 }
-    ensures { (result ≡ how_many (is_kind kind) (held lines.now n)) × (result ≤ n) }
+// The lines that are held, one behind the other.
+#[derive(Drop)]
+pub struct Held {
+    lines: [Line; MOST],
+    count: usize,
+}
+
+impl Model for Held {
+    ghost use Rattle.std.specs.Prelude.{List, ◌≤◌, take};
+    ghost use Rattle.rig_held.specs.declared.Line.{Line};
+
+    ghost Value = { List Line };
+
+    ghost view = { λ h. take h.count h.lines };
+
+    ghost invariant = { λ h. h.count ≤ 10240 };
+}
+
+impl Held {
+    pub fn none() -> Held
+        ensures { result ≡ [] }
+    {
+        Held {
+            lines: [Line {
+                kind: Kind::Rig,
+                numbers: [0; 9],
+            }; MOST],
+            count: 0,
+        }
+    }
+
+    pub fn hold(&mut self, kind: Kind, numbers: [u8; 9])
+        requires { length self.old < 10240 }
+        ensures { self.new ≡ self.old ++ (record { kind = kind; numbers = numbers } ∷ []) }
+    {
+        self.lines[self.count] = Line { kind, numbers };
+        self.count += 1;
+    }
+
+    pub fn lines(&self) -> &[Line]
+        ensures { result.now ≡ self.now }
+    {
+        &self.lines[..self.count]
+    }
+}
+
+// How many of the lines are of a kind.
+pub fn how_many(lines: &[Line], kind: Kind) -> usize
+    ensures { (result ≡ how_many (is_kind (kind_number kind)) (held lines.now)) × (result ≤ length lines.now) }
 {
     let mut c: usize = 0;
-    let mut i: usize = 0;
-    while i < n {
-        if lines[10 * i] == kind {
+    for line in lines {
+        if line.kind == kind {
             c += 1;
         }
-        i += 1;
     }
     c
 }

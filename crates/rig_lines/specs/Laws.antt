@@ -1,4 +1,5 @@
 pub mod Kinds
+pub mod Kind
 pub mod Judged
 pub mod Shape
 pub mod Turns

@@ -1,4 +1,5 @@
 pub mod Kinds
+pub mod Kind
 pub mod Line
 pub mod File
 pub mod Text

@@ -1,80 +1,89 @@
-// The kinds of a rig file's lines by number, and what a line of each kind has.
+// The kinds of a rig file's lines, and what a line of each kind has.
 #![tactic(auto)]
 
 ghost use Rattle.std.specs.Prelude.{◌≡◌, ℕ, ◌≤◌, ◌<◌, get_or};
-ghost use Rattle.rig_lines.specs.Kinds.{kind_of, count_of, sort_of, kind_of_letter};
+ghost use Rattle.rig_lines.specs.Kinds.{kind_of, count_of, sort_of};
+ghost use Rattle.rig_lines.specs.Kind.{kind_number, kind_report, names_number};
+ghost use Rattle.rig_lines.specs.declared.Names.TheVariants.{Task};
 
 // The kinds, in the order of their records: RIG, T, C, A, M and B lines.
-pub const RIG: usize = 1;
-
-pub const TASK: usize = 2;
-
-pub const CONDITION: usize = 3;
-
-pub const LINE: usize = 4;
-
-pub const FLAG: usize = 5;
-
-pub const ROW: usize = 6;
-
-// How many numbers a line of kind `k` has.
-pub fn count(k: usize) -> usize
-    ensures { (result ≡ count_of k) × (result ≤ 9) }
-{
-    match k {
-        RIG => 4,
-        TASK => 5,
-        CONDITION => 4,
-        LINE => 3,
-        FLAG => 2,
-        ROW => 7,
-        _ => 0,
-    }
+#[derive(Clone, Copy, Debug, PartialEq, Eq)]
+pub enum Kind {
+    Rig,
+    Task,
+    Condition,
+    Line,
+    Flag,
+    Row,
 }
 
-// What each number names: 1 a task, 2 a flag, 0 something else.
-pub fn sorts(k: usize) -> [u8; 9]
-    ensures { (j : ℕ) → j < 9 → get_or result j 0 ≡ sort_of k j }
-{
-    match k {
-        TASK => [1, 1, 0, 0, 2, 0, 0, 0, 0],
-        CONDITION => [1, 0, 0, 0, 0, 0, 0, 0, 0],
-        LINE => [1, 0, 2, 0, 0, 0, 0, 0, 0],
-        FLAG => [0, 2, 0, 0, 0, 0, 0, 0, 0],
-        _ => [0, 0, 0, 0, 0, 0, 0, 0, 0],
-    }
+// What a number of a line names.
+#[derive(Clone, Copy, Debug, PartialEq, Eq)]
+pub enum Names {
+    Task,
+    Flag,
+    Other,
 }
 
-// The kind of a one-letter name, 0 for none.
-fn letter(a: u8) -> usize
-    ensures { (result ≡ kind_of_letter a) × (result < 7) }
-{
-    match a {
-        b'T' => TASK,
-        b'C' => CONDITION,
-        b'A' => LINE,
-        b'M' => FLAG,
-        b'B' => ROW,
-        _ => 0,
-    }
-}
-
-// The kind of a name, 0 for none.
-pub fn kind_in(f: &[u8]) -> usize
-    ensures { (result ≡ kind_of f.now) × (result < 7) }
-{
-    if f.len() == 1 {
-        return letter(f[0]);
-    }
-    if f.len() == 3 {
-        if f[0] == b'R' {
-            if f[1] == b'I' {
-                if f[2] == b'G' {
-                    return RIG;
-                }
-            }
+impl Kind {
+    // Its number in the order of the records, from 1 on.
+    pub fn number(self) -> u8
+        ensures { result ≡ kind_number self }
+    {
+        match self {
+            Kind::Rig => 1,
+            Kind::Task => 2,
+            Kind::Condition => 3,
+            Kind::Line => 4,
+            Kind::Flag => 5,
+            Kind::Row => 6,
         }
-        return 0;
     }
-    0
+
+    // How many numbers a line of this kind has.
+    #[tactic(auto, unfolding(crate::specs::Kinds::count_of, crate::specs::Kinds::counts))]
+    pub fn count(self) -> usize
+        ensures { (result ≡ count_of (kind_number self)) × (result ≤ 9) }
+    {
+        match self {
+            Kind::Rig => 4,
+            Kind::Task => 5,
+            Kind::Condition => 4,
+            Kind::Line => 3,
+            Kind::Flag => 2,
+            Kind::Row => 7,
+        }
+    }
+
+    // What each number names.
+    pub fn names(self) -> [Names; 9]
+        ensures { (j : ℕ) → j < 9 → names_number (get_or result j Task) ≡ sort_of (kind_number self) j }
+    {
+        let o = Names::Other;
+        let t = Names::Task;
+        let f = Names::Flag;
+        match self {
+            Kind::Task => [t, t, o, o, f, o, o, o, o],
+            Kind::Condition => [t, o, o, o, o, o, o, o, o],
+            Kind::Line => [t, o, f, o, o, o, o, o, o],
+            Kind::Flag => [o, f, o, o, o, o, o, o, o],
+            Kind::Rig | Kind::Row => [o; 9],
+        }
+    }
+}
+
+// The kind of a name.
+#[tactic(auto, unfolding(crate::specs::Kinds::kind_of, crate::specs::Kinds::kind_of_letter))]
+pub fn kind_in(name: &[u8]) -> Option<Kind>
+    ensures { kind_report result ≡ kind_of name.now }
+{
+    match name {
+        b"RIG" => Some(Kind::Rig),
+        b"T" => Some(Kind::Task),
+        b"C" => Some(Kind::Condition),
+        b"A" => Some(Kind::Line),
+        b"M" => Some(Kind::Flag),
+        b"B" => Some(Kind::Row),
+        _ => None,
+    }
 }

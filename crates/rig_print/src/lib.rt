@@ -1,40 +1,27 @@
 // A line of a rig file as text, put into a buffer.
 #![tactic(auto)]
 
-ghost use Rattle.std.specs.Prelude.{◌≡◌, ◌∷◌, [], ◌+◌, ◌≤◌, ◌<◌, length};
+ghost use Rattle.std.specs.Prelude.{◌≡◌, ◌+◌, ◌≤◌, length};
 ghost use Rattle.put_text.specs.Wrote.{Wrote};
 ghost use Rattle.rig_lines.specs.Kinds.{name_of};
+ghost use Rattle.rig_lines.specs.Kind.{kind_number};
 ghost use Rattle.rig_print.specs.Line.{begun, line_text};
 
-// The letter of a kind that has one.
-fn letter(k: usize) -> u8
-    requires { k ≡ 1 → ⊥ }
-    ensures { name_of k ≡ result ∷ [] }
-{
-    if k == rig_lines::TASK {
-        return b'T';
-    }
-    if k == rig_lines::CONDITION {
-        return b'C';
-    }
-    if k == rig_lines::LINE {
-        return b'A';
-    }
-    if k == rig_lines::FLAG {
-        return b'M';
-    }
-    b'B'
-}
+use rig_lines::Kind;
 
-fn put_name(buf: &mut [u8], at: usize, k: usize) -> usize
-    requires { at + length (name_of k) ≤ length buf.old }
-    ensures { Wrote buf.old at (name_of k) buf.new result }
+// The name that a line of a kind begins with.
+#[tactic(auto, unfolding(rig_lines::specs::Kinds::name_of))]
+fn name(kind: Kind) -> &'static [u8]
+    ensures { result.now ≡ name_of (kind_number kind) }
 {
-    if k == rig_lines::RIG {
-        return put_text::put_text(buf, at, b"RIG");
+    match kind {
+        Kind::Rig => b"RIG",
+        Kind::Task => b"T",
+        Kind::Condition => b"C",
+        Kind::Line => b"A",
+        Kind::Flag => b"M",
+        Kind::Row => b"B",
     }
-    buf[at] = letter(k);
-    at + 1
 }
 
 // The first `m` numbers, each after a tab.
@@ -43,25 +30,20 @@ fn put_fields(buf: &mut [u8], at: usize, m: usize, v: [u8; 9]) -> usize
     ensures { Wrote buf.old at (begun v m) buf.new result }
 {
     let mut p = at;
-    let mut f: usize = 0;
-    while f < m {
+    for f in 0..m {
         buf[p] = b'\t';
-        let a = p + 1;
-        let x = decimal::wide64(v[f]);
-        p = decimal::put_number(&mut *buf, a, x);
-        f += 1;
+        p = decimal::put_number(&mut *buf, p + 1, v[f] as u64);
     }
     p
 }
 
 // One line: its kind's name, its numbers and LF.
-pub fn put_line(buf: &mut [u8], at: usize, k: usize, v: [u8; 9]) -> usize
-    requires { (k < 7) × (at + length (line_text k v) ≤ length buf.old) }
-    ensures { Wrote buf.old at (line_text k v) buf.new result }
+pub fn put_line(buf: &mut [u8], at: usize, kind: Kind, v: [u8; 9]) -> usize
+    requires { at + length (line_text (kind_number kind) v) ≤ length buf.old }
+    ensures { Wrote buf.old at (line_text (kind_number kind) v) buf.new result }
 {
-    let m = rig_lines::count(k);
-    let p = put_name(&mut *buf, at, k);
-    let q = put_fields(&mut *buf, p, m, v);
+    let p = put_text::put_text(&mut *buf, at, name(kind));
+    let q = put_fields(&mut *buf, p, kind.count(), v);
     buf[q] = b'\n';
     q + 1
 }

@@ -8,14 +8,14 @@ use mathlib.Core.List.{List, [], ◌∷◌, ◌++◌, map, append_assoc, append-
 use native.Mathlib.Omega.{arith}
 use native.Mathlib.Nat.{le_antisymm}
 use lib.Dec.{eqb, ltb}
-use lib.ListN.{length, get_or, set, take, drop, replicate, length-set}
+use lib.ListN.{length, get_or, set, take, drop, replicate, length-append, length-set}
 use lib.Seq.{get_or-set_same, get_or-set_other, take_at}
 use borrow.Author.Tests.{eqb-true, eqb-false, ne_eqb, ltb-true, ltb-false}
 use mir.Val.{Fits}
-use mir.Syntax.{w8, w64}
+use mir.Syntax.{w64}
 use Rattle.laws.specs.Cases.{by, and_no, and_true}
 use Rattle.laws.specs.Put.{put}
-use Rattle.laws.specs.Laws.Put.{length_put, put_none}
+use Rattle.laws.specs.Laws.Put.{put_none}
 use Rattle.laws.specs.Laws.Tables.{zeros_at}
 use Rattle.decimal.specs.Decimal.{cap, number}
 use Rattle.text.specs.Split.{split, part, rest}
@@ -27,21 +27,25 @@ use Rattle.rig_lines.specs.Laws.Judged.{Faultless, judged_one, judged_two, judge
 use Rattle.rig_lines.proofs.Laws.Order.{first_rig}
 use Rattle.rig_lines.proofs.Laws.RoundTrip.{written, some_line}
 use Rattle.rig_lines.specs.Laws.Turns.{said, fault_line, lines_line, lines_end, end_clean, end_empty, end_open, rest_turn, decimals_turn, decimals_bad, put_turn, put_at, timed_same, rank_same}
-use Rattle.rig_held.specs.Held.{held_line, held}
-use Rattle.rig_held.specs.Laws.Lines.{held_none, held_put, held_first, held_kind}
+use Rattle.rig_lines.specs.declared.Kind.{Kind}
+use Rattle.rig_lines.specs.Kind.{kind_number}
+use Rattle.rig_lines.specs.Laws.Kind.{only_rig}
+use Rattle.rig_held.specs.declared.Line.{Line as HeldLine}
+use Rattle.rig_held.specs.Held.{held_line, held, Begins}
+use Rattle.rig_held.specs.Laws.Lines.{held_none, held_put, held_kind}
 
 abbrev pub zeros : ℕ → List ℕ
 zeros n = replicate n 0
 
 -- between lines: what is left has the fault that the whole has, and the lines so far are held
-pub record InLines (s h : List ℕ) (n count prev at : ℕ) : Type 0 where
+pub record InLines (s : List ℕ) (h : List HeldLine) (n count prev at : ℕ) : Type 0 where
   pub len : n ≡ length s
   pub room : n ≤ 40960
   pub low : at ≤ n
   pub few : 4 * count ≤ at
-  pub size : length h ≡ 102400
+  pub size : length h ≡ count
   pub left : first_fault (count + 1) prev (split 10 (part at n s)) ≡ fault_of s
-  pub made : held h count ++ lines_in (split 10 (part at n s)) ≡ lines_of s
+  pub made : held h ++ lines_in (split 10 (part at n s)) ≡ lines_of s
 
 -- a kind k, of m numbers
 pub record Sort (k m : ℕ) : Type 0 where
@@ -51,7 +55,7 @@ pub record Sort (k m : ℕ) : Type 0 where
   pub nine : m ≤ 9
 
 -- within a line from `at` to its end e, whose name ends at q: its kind is k
-pub record OfLine (s h : List ℕ) (n count prev at e q k : ℕ) : Type 0 where
+pub record OfLine (s : List ℕ) (h : List HeldLine) (n count prev at e q k : ℕ) : Type 0 where
   pub lines : InLines s h n count prev at
   pub end : Found s at n 10 e
   pub inside : e < n
@@ -63,7 +67,7 @@ abbrev pub nums : List ℕ → ℕ → ℕ → List ℕ
 nums s p e = map number (rest 9 (part p e s))
 
 -- before the f-th field, at p: the numbers so far stand in v
-pub record InFields (s h : List ℕ) (n count prev at e q k m : ℕ) (v : List ℕ) (p f : ℕ) : Type 0 where
+pub record InFields (s : List ℕ) (h : List HeldLine) (n count prev at e q k m : ℕ) (v : List ℕ) (p f : ℕ) : Type 0 where
   pub of : OfLine s h n count prev at e q k
   pub sort : Sort k m
   pub low : p ≤ e
@@ -76,7 +80,7 @@ pub record InFields (s h : List ℕ) (n count prev at e q k m : ℕ) (v : List �
   pub filled : put v f (nums s p e) ≡ put (zeros 9) 0 (nums s q e)
 
 -- a line whose shape is right, and its numbers in v
-pub record Shaped (s h : List ℕ) (n count prev at e q k m : ℕ) (v : List ℕ) : Type 0 where
+pub record Shaped (s : List ℕ) (h : List HeldLine) (n count prev at e q k m : ℕ) (v : List ℕ) : Type 0 where
   pub of : OfLine s h n count prev at e q k
   pub sort : Sort k m
   pub small : (i : ℕ) → get_or v i 0 ≤ cap
@@ -86,12 +90,22 @@ pub record Shaped (s h : List ℕ) (n count prev at e q k m : ℕ) (v : List ℕ
   pub same : (i : ℕ) → get_or v i 0 ≡ get_or (nums s q e) i 0
   pub nine : length v ≡ 9
 
-pub lines_start : (s h : List ℕ) (n : ℕ) → n ≡ length s → length s ≤ 40960 → length h ≡ 102400 → InLines s h n 0 0 0
+pub lines_start : (s : List ℕ) (n : ℕ) → n ≡ length s → length s ≤ 40960 → InLines s [] n 0 0 0
 unfolding fault_of lines_of
-lines_start s h n e r z =
-    record { len = e; room = omega arith; low = omega arith; few = omega arith; size = z; left = rw (e, part_all s); made = rw (e, part_all s, held_none h) }
+lines_start s n e r =
+    record { len = e; room = omega arith; low = omega arith; few = omega arith; size = refl; left = rw (e, part_all s); made = rw (e, part_all s, held_none) }
 
-module _ (s h : List ℕ) (n count prev at e : ℕ) (w : InLines s h n count prev at) (we : Found s at n 10 e) (d : e ≡ n) where
+-- lines that are held begin with the RIG line where they do as lines of a file
+begins : (h : List HeldLine) (r : Line) (rs : List Line) → held h ≡ r ∷ rs → r.kind ≡ kind_rig → Begins h
+unfolding held
+begins [] r rs e k = let z : 0 ≡ suc (length rs) = ap length e in absurd (omega arith)
+begins (x ∷ xs) r rs e k = only_rig x.kind (sym (held_kind x) ∙ (ap front e ∙ k))
+  where
+    front : List Line → ℕ
+    front [] = 0
+    front (y ∷ ys) = y.kind
+
+module _ (s : List ℕ) (h : List HeldLine) (n count prev at e : ℕ) (w : InLines s h n count prev at) (we : Found s at n 10 e) (d : e ≡ n) where
   pub leave_open : at < n → fault_of s ≡ fault 1 (count + 1)
   leave_open t = sym w.left ∙ end_open s n at e (omega arith) we d (count + 1) prev t
 
@@ -102,30 +116,23 @@ module _ (s h : List ℕ) (n count prev at e : ℕ) (w : InLines s h n count pre
     pub leave_clean : fault_of s ≡ fault 0 0
     leave_clean = sym w.left ∙ end_clean s n at e (omega arith) we d (count + 1) prev (omega arith) (omega arith)
 
-    pub leave_held : held h count ≡ lines_of s
-    leave_held = sym (ap (λ (x : List Line). held h count ++ x) (lines_end s n at e (omega arith) we d) ∙ append-nil (held h count)) ∙ w.made
+    pub leave_held : held h ≡ lines_of s
+    leave_held = sym (ap (λ (x : List Line). held h ++ x) (lines_end s n at e (omega arith) we d) ∙ append-nil (held h)) ∙ w.made
 
-    -- what the whole file's answer asks: there is a line, there is room for all, and the first is the RIG line
-    pub leave_known : (1 ≤ count) × (count ≤ 10240) × (get_or h 0 0 ≡ kind_rig)
-    leave_known =
+    -- what the whole file's answer asks: the first line is the RIG line, and there is room for all
+    pub leave_begins : Begins h
+    leave_begins =
+        let z : (fault_of s).no ≡ 0 = ap (λ (x : Fault). x.no) leave_clean in
+        let l = some_line s z in
+        let g = (written s z).1 in
+        begins h l.0 l.1 (leave_held ∙ l.2) (first_rig l.0 (subst (λ (x : List Line). Faultless 0 x) l.2 g).1)
+
+    pub leave_few : length h ≤ 10240
+    leave_few =
         let f = w.few in
         let o = w.room in
-        (omega arith, omega arith, first)
-      where
-        z : (fault_of s).no ≡ 0
-        z = ap (λ (x : Fault). x.no) leave_clean
-
-        first : get_or h 0 0 ≡ kind_rig
-        first =
-            let l = some_line s z in
-            let g = (written s z).1 in
-            let k = held_first h count (omega arith) in
-            let c : held_line h 0 ≡ l.0 = ap (λ (x : List Line). front x) (sym k.1 ∙ (leave_held ∙ l.2)) in
-            sym (held_kind h 0) ∙ (ap (λ (x : Line). x.kind) c ∙ first_rig l.0 (subst (λ (x : List Line). Faultless 0 x) l.2 g).1)
-          where
-            front : List Line → Line
-            front [] = held_line h 0
-            front (x ∷ xs) = x
+        let z = w.size in
+        omega arith
 
 small_set : (v : List ℕ) (f x : ℕ) → f < length v → x ≤ cap → ((i : ℕ) → get_or v i 0 ≤ cap) → (i : ℕ) → get_or (set v f x) i 0 ≤ cap
 small_set v f x h g w i =
@@ -133,7 +140,7 @@ small_set v f x h g w i =
     (λ t. let q = eqb-true i f t in rw (q, get_or-set_same v f x 0 h) g)
     (λ t. rw (get_or-set_other v f i x 0 (eqb-false i f t)) (w i))
 
-module _ (s h : List ℕ) (n count prev at e q k : ℕ) (w : OfLine s h n count prev at e q k) where
+module _ (s : List ℕ) (h : List HeldLine) (n count prev at e q k : ℕ) (w : OfLine s h n count prev at e q k) where
   -- the line's judgement is the file's
   whole : cond (eqb (judge prev (said s at q e)) 0) (first_fault (count + 1 + 1) (placed (said s at q e)) (split 10 (part (e + 1) n s))) (fault (judge prev (said s at q e)) (count + 1))
       ≡ fault_of s
@@ -143,7 +150,7 @@ module _ (s h : List ℕ) (n count prev at e q k : ℕ) (w : OfLine s h n count 
   faulty j d = sym (rw (d, ne_eqb (suc j) 0 (omega arith)) at whole)
 
   -- a line without a fault is held, and the next one comes
-  goes_on : judge prev (said s at q e) ≡ 0 → at + 4 ≤ e + 1 → (g : List ℕ) → length g ≡ 102400 → held g (count + 1) ≡ held h count ++ (said s at q e ∷ []) →
+  goes_on : judge prev (said s at q e) ≡ 0 → at + 4 ≤ e + 1 → (g : List HeldLine) → length g ≡ count + 1 → held g ≡ held h ++ (said s at q e ∷ []) →
       InLines s g n (count + 1) (placed (said s at q e)) (e + 1)
   goes_on d far g z u =
       let f = w.lines in
@@ -155,8 +162,8 @@ module _ (s h : List ℕ) (n count prev at e q k : ℕ) (w : OfLine s h n count 
         size = z;
         left = rw d at whole;
         made = ap (λ (x : List Line). x ++ lines_in (split 10 (part (e + 1) n s))) u
-            ∙ (append_assoc (held h count) (said s at q e ∷ []) (lines_in (split 10 (part (e + 1) n s)))
-            ∙ (sym (ap (λ (x : List Line). held h count ++ x) (lines_line s n at e q (omega arith) w.end w.inside w.name)) ∙ f.made));
+            ∙ (append_assoc (held h) (said s at q e ∷ []) (lines_in (split 10 (part (e + 1) n s)))
+            ∙ (sym (ap (λ (x : List Line). held h ++ x) (lines_line s n at e q (omega arith) w.end w.inside w.name)) ∙ f.made));
       }
 
   not_shaped : shaped (said s at q e) ≡ false → fault_of s ≡ fault 1 (count + 1)
@@ -193,7 +200,7 @@ module _ (s h : List ℕ) (n count prev at e q k : ℕ) (w : OfLine s h n count 
         filled = refl;
       }
 
-module _ (s h : List ℕ) (n count prev at e q k m : ℕ) (v : List ℕ) (p f : ℕ) (w : InFields s h n count prev at e q k m v p f) where
+module _ (s : List ℕ) (h : List HeldLine) (n count prev at e q k m : ℕ) (v : List ℕ) (p f : ℕ) (w : InFields s h n count prev at e q k m v p f) where
   -- a wrong number of fields, or one that is no decimal
   miscounted : (length (nums s q e) ≡ m → ⊥) → fault_of s ≡ fault 1 (count + 1)
   unfolding shaped
@@ -278,7 +285,7 @@ two (suc (suc (suc (suc (suc zero))))) a b = omega arith
 two (suc (suc (suc (suc (suc (suc zero)))))) a b = omega arith
 two (suc (suc (suc (suc (suc (suc (suc k))))))) a b = absurd (omega arith)
 
-module _ (s h : List ℕ) (n count prev at e q k m : ℕ) (v : List ℕ) (w : Shaped s h n count prev at e q k m v) where
+module _ (s : List ℕ) (h : List HeldLine) (n count prev at e q k m : ℕ) (v : List ℕ) (w : Shaped s h n count prev at e q k m v) where
   -- at least four bytes, so that there is room for the line
   far : at + 4 ≤ e + 1
   far =
@@ -288,8 +295,8 @@ module _ (s h : List ℕ) (n count prev at e q k m : ℕ) (v : List ℕ) (w : Sh
       let d = w.long in
       omega arith
 
-  pub room_left : (count < 10240) × (length h ≡ 102400)
-  room_left = let a = far in let b = w.of.lines.few in let c = w.of.lines.room in let d = w.of.inside in (omega arith, w.of.lines.size)
+  pub room_left : length h < 10240
+  room_left = let a = far in let b = w.of.lines.few in let c = w.of.lines.room in let d = w.of.inside in let z = w.of.lines.size in omega arith
 
   -- the sizes, as the code tests them
   as_sized : sized (said s at q e) ≡ (fits k 0 (take m v) && timed k v)
@@ -315,28 +322,32 @@ module _ (s h : List ℕ) (n count prev at e q k m : ℕ) (v : List ℕ) (w : Sh
       pub misplaced : false ≡ follows prev k r → fault_of s ≡ fault 3 (count + 1)
       misplaced t = faulty s h n count prev at e q k w.of 2 ((judged_three prev (said s at q e)).1 (w.shape, as_sized ∙ sym size, order false t))
 
-      pub next_line : true ≡ follows prev k r → (u g : List ℕ) → u ≡ v → g ≡ put h (10 * count) (k ∷ u) → InLines s g n (count + 1) r (e + 1)
-      next_line t u g a b =
-          let l = room_left in
-          let x : length u ≡ 9 = ap length a ∙ w.nine in
-          let f : 10 * count + 10 ≤ length h = let y = l.0 in let z = l.1 in omega arith in
-          let z : length g ≡ 102400 = ap length b ∙ (length_put h (10 * count) (k ∷ u) (omega arith) ∙ l.1) in
-          let j : take (count_of k) u ≡ nums s q e = ap₂ (λ (y : ℕ) (o : List ℕ). take y o) (sym w.sort.count) a ∙ w.numbers in
-          let o : held g (count + 1) ≡ held h count ++ (said s at q e ∷ []) =
-          ap (λ (y : List ℕ). held y (count + 1)) b
-          ∙ (held_put h count k u x f ∙ ap₂ (λ (y : ℕ) (d : List ℕ). held h count ++ (record { kind = y; nums = d } ∷ [])) w.of.kind j) in
-          rw here
+      pub next_line : true ≡ follows prev k r → (kind : Kind) → kind_number kind ≡ k → (u : List ℕ) → u ≡ v → (g : List HeldLine) → g ≡ h ++ (record { kind = kind; numbers = u } ∷ []) →
+          InLines s g n (length g) r (e + 1)
+      unfolding held_line
+      next_line t kind c u a g b =
+          let z : length g ≡ count + 1 = ap length b ∙ (length-append h (record { kind = kind; numbers = u } ∷ []) ∙ ap (λ (x : ℕ). x + 1) w.of.lines.size) in
+          let o : held g ≡ held h ++ (said s at q e ∷ []) = ap held b ∙ (held_put h (record { kind = kind; numbers = u }) ∙ ap (λ (x : Line). held h ++ (x ∷ [])) (as_said kind c u a)) in
+          rw (here, z)
           (goes_on s h n count prev at e q k w.of (sound_judged prev (said s at q e) (record { shape = w.shape; size = as_sized ∙ sym size; order = order true t })) far g z o)
+        where
+          record_of : ℕ → List ℕ → Line
+          record_of y d = record { kind = y; nums = d }
+
+          as_said : (kind : Kind) → kind_number kind ≡ k → (u : List ℕ) → u ≡ v → held_line (record { kind = kind; numbers = u }) ≡ said s at q e
+          as_said kind c u a =
+              let j : take (count_of k) u ≡ nums s q e = ap₂ (λ (y : ℕ) (o : List ℕ). take y o) (sym w.sort.count) a ∙ w.numbers in
+              rw c (ap₂ (λ (y : ℕ) (d : List ℕ). record_of y d) w.of.kind j)
 
 -- ---- what the machine asks: places within their tables, and numbers that fit
 
 number_place : (x : ℕ) → x < 9 → Fits w64 (x * 8)
 number_place x h = record { fits = omega arith }
 
-pub line_number_lem : (s h : List ℕ) (n count prev at : ℕ) → InLines s h n count prev at → Fits w64 (count + 1)
+pub line_number_lem : (s : List ℕ) (h : List HeldLine) (n count prev at : ℕ) → InLines s h n count prev at → Fits w64 (count + 1)
 line_number_lem s h n count prev at w = let a = w.few in let b = w.low in let c = w.room in record { fits = omega arith }
 
-module _ (s h : List ℕ) (n count prev at e q k m : ℕ) (v : List ℕ) (p f : ℕ) (w : InFields s h n count prev at e q k m v p f) where
+module _ (s : List ℕ) (h : List HeldLine) (n count prev at e q k m : ℕ) (v : List ℕ) (p f : ℕ) (w : InFields s h n count prev at e q k m v p f) where
   pub field_next : p < e → Fits w64 (p + 1)
   field_next t = let a = w.of.inside in let c = w.of.lines.room in record { fits = omega arith }
 
@@ -358,12 +369,13 @@ module _ (s h : List ℕ) (n count prev at e q k m : ℕ) (v : List ℕ) (p f : 
 pub fields_shrink : (e p c : ℕ) → p < e → p + 1 ≤ c → e - c < e - p
 fields_shrink e p c h g = omega arith
 
-module _ (s h : List ℕ) (n count prev at e q k m : ℕ) (v : List ℕ) (w : Shaped s h n count prev at e q k m v) where
-  pub kind_byte : Fits w8 k
-  kind_byte = let a = w.sort.few in record { fits = omega arith }
-
+module _ (s : List ℕ) (h : List HeldLine) (n count prev at e q k m : ℕ) (v : List ℕ) (w : Shaped s h n count prev at e q k m v) where
   pub next_at : Fits w64 (e + 1)
   next_at = let a = w.of.inside in let c = w.of.lines.room in record { fits = omega arith }
 
   pub lines_shrink : n - (e + 1) < n - at
   lines_shrink = let a = w.of.inside in let c = w.of.end.low in omega arith
+
+-- the count of lines as the code takes it, of the lines that it is handed
+pub as_counted : (s : List ℕ) (h m : List HeldLine) (n prev at : ℕ) → m ≡ h → InLines s h n (length h) prev at → InLines s h n (length m) prev at
+as_counted s h m n prev at e w = rw e w

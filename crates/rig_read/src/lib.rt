@@ -5,13 +5,10 @@ ghost use Rattle.std.specs.Prelude.{◌≡◌, ◌≤◌, length};
 ghost use Rattle.rig_build.specs.Read.{by_lines};
 ghost use Rattle.rig_meaning.proofs.Reading.{read_of};
 
-// The refusals of a file by one of its lines, and the most bytes that a file has.
-const WRONG_SHAPE: u8 = 1;
+use refusals::Refusal;
+use rig_held::Held;
 
-const OUTSIDE_SIZE: u8 = 2;
-
-const OUT_OF_ORDER: u8 = 3;
-
+// The most bytes that a file has.
 const LONGEST: usize = 40960;
 
 // Lines one after the other, fields within them: the first fault leaves the loops from inside its line. A line that is right is held; the rules
@@ -21,28 +18,24 @@ fn read_lines(s: &[u8]) -> rig_build::Answer
     ensures { result ≡ by_lines s.now }
 {
     let n = s.len();
-    let mut held = [0u8; rig_held::ROOM];
-    let mut count: usize = 0;
+    let mut held = Held::none();
     let mut prev: u64 = 0;
     let mut at: usize = 0;
     let r = 'lines: loop {
+        let count = held.lines().len();
         let line = count + 1;
         let e = lines::line_of(s, at);
         if e == n {
-            if at < n {
-                break 'lines rig_build::refused(WRONG_SHAPE, line, 0);
+            if at < n || count == 0 {
+                break 'lines rig_build::refused(Refusal::WrongShape, line, 0);
             }
-            if count == 0 {
-                break 'lines rig_build::refused(WRONG_SHAPE, line, 0);
-            }
-            break 'lines rig_build::whole(&held, count);
+            break 'lines rig_build::whole(held.lines());
         }
         let q = text::find(s, at, e, b'\t');
-        let k = rig_lines::kind_in(&s[at..q]);
-        if k == 0 {
-            break 'lines rig_build::refused(WRONG_SHAPE, line, 0);
-        }
-        let m = rig_lines::count(k);
+        let Some(kind) = rig_lines::kind_in(&s[at..q]) else {
+            break 'lines rig_build::refused(Refusal::WrongShape, line, 0);
+        };
+        let m = kind.count();
         let mut v = [0u64; 9];
         let mut p = q;
         let mut f: usize = 0;
@@ -50,28 +43,24 @@ fn read_lines(s: &[u8]) -> rig_build::Answer
             let a = p + 1;
             let b = text::find(s, a, e, b'\t');
             let x = decimal::number_in(&s[a..b]);
-            if m <= f {
-                break 'lines rig_build::refused(WRONG_SHAPE, line, 0);
-            }
-            if decimal::CAP < x {
-                break 'lines rig_build::refused(WRONG_SHAPE, line, 0);
+            if m <= f || decimal::CAP < x {
+                break 'lines rig_build::refused(Refusal::WrongShape, line, 0);
             }
             v[f] = x;
             f += 1;
             p = b;
         }
         if f != m {
-            break 'lines rig_build::refused(WRONG_SHAPE, line, 0);
+            break 'lines rig_build::refused(Refusal::WrongShape, line, 0);
         }
-        if !rig_line_sizes::sized(k, m, v) {
-            break 'lines rig_build::refused(OUTSIDE_SIZE, line, 0);
+        if !rig_line_sizes::sized(kind, m, v) {
+            break 'lines rig_build::refused(Refusal::OutsideSize, line, 0);
         }
-        let here = rig_line_sizes::place_of(k, v);
-        if !rig_line_sizes::in_order(prev, k, here) {
-            break 'lines rig_build::refused(OUT_OF_ORDER, line, 0);
+        let here = rig_line_sizes::place_of(kind, v);
+        if !rig_line_sizes::in_order(prev, kind, here) {
+            break 'lines rig_build::refused(Refusal::OutOfOrder, line, 0);
         }
-        rig_held::hold(&mut held, count, k as u8, rig_build::bytes_of(v));
-        count = line;
+        held.hold(kind, rig_build::bytes_of(v));
         prev = here;
         at = e + 1;
     };
@@ -85,7 +74,7 @@ pub fn read(s: &[u8]) -> rig_build::Answer
     ensures { result ≡ read_of s.now }
 {
     if LONGEST < s.len() {
-        return rig_build::refused(OUTSIDE_SIZE, 0, 0);
+        return rig_build::refused(Refusal::OutsideSize, 0, 0);
     }
     read_lines(s)
 }

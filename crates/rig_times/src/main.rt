@@ -10,10 +10,7 @@ fn reads(s: &[u8]) -> bool {
 
 // Whether the first `n` bytes of `out` are those of `s`.
 fn begins(s: &[u8], out: &[u8], n: usize) -> bool {
-    if out.len() < n {
-        return false;
-    }
-    check::same(s, &out[..n])
+    n <= out.len() && check::same(s, &out[..n])
 }
 
 // Whether the rig of the file, written, is the file again.
@@ -31,24 +28,20 @@ fn writes_back(s: &[u8]) -> bool {
 
 fn read_times(s: &[u8], turns: u64) -> u64 {
     let mut n: u64 = 0;
-    let mut i: u64 = 0;
-    while i < turns {
+    for _ in 0..turns {
         if reads(s) {
             n += 1;
         }
-        i += 1;
     }
     n
 }
 
 fn write_times(s: &[u8], turns: u64) -> u64 {
     let mut n: u64 = 0;
-    let mut i: u64 = 0;
-    while i < turns {
+    for _ in 0..turns {
         if writes_back(s) {
             n += 1;
         }
-        i += 1;
     }
     n
 }

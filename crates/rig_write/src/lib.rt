@@ -8,40 +8,34 @@ ghost use Rattle.rig_write.specs.Kept.{kept, ended};
 ghost use Rattle.rig_write.specs.Written.{written_report, written_of, buffer_of};
 ghost use Rattle.rig_write.specs.File.{rig_line, is_task, task_line, is_condition, condition_line, is_line, flag_line, is_flag, cycle_line, is_row, row_line, file_of};
 
+use refusals::Refusal;
+use rig_lines::Kind;
 use rig_tables::{CONDITIONS, CYCLE_FLAGS, CYCLES, LINES, ROWS, TASK_PLACES};
 
 // The flags of all cycles, one behind the other.
 const CYCLE_PLACES: usize = CYCLES * CYCLE_FLAGS;
 
-fn byte(x: usize) -> u8
-    requires { x < 256 }
-    ensures { result ≡ x }
-{
-    x as u8
-}
-
-fn put_rig(buf: &mut [u8], at: usize, g: rig::Rig) -> usize
-    requires { at + length (ended (rig_line g)) ≤ length buf.old }
-    ensures { Wrote buf.old at (ended (rig_line g)) buf.new result }
+fn put_rig(buf: &mut [u8], at: usize, g: &rig::Rig) -> usize
+    requires { at + length (ended (rig_line g.now)) ≤ length buf.old }
+    ensures { Wrote buf.old at (ended (rig_line g.now)) buf.new result }
 {
     rig_print::put_line(
         &mut *buf,
         at,
-        rig_lines::RIG,
+        Kind::Rig,
         [1, g.tasks, g.flags, g.master, 0, 0, 0, 0, 0],
     )
 }
 
-fn put_tasks(buf: &mut [u8], at: usize, g: rig::Rig) -> usize
-    requires { at + length (text (kept 65 (is_task g) (task_line g))) ≤ length buf.old }
-    ensures { Wrote buf.old at (text (kept 65 (is_task g) (task_line g))) buf.new result }
+// Five loops, one for each kind, and not one loop over a closure: a closure would need a contract that says of each number its test and its line,
+// as long as the loop.
+fn put_tasks(buf: &mut [u8], at: usize, g: &rig::Rig) -> usize
+    requires { at + length (text (kept 65 (is_task g.now) (task_line g.now))) ≤ length buf.old }
+    ensures { Wrote buf.old at (text (kept 65 (is_task g.now) (task_line g.now))) buf.new result }
 {
-    let tasks = decimal::wide(g.tasks);
+    let tasks = g.tasks as usize;
     let mut p = at;
-    let mut i: usize = 0;
-    while i < TASK_PLACES {
-        let t = i;
-        i += 1;
+    for t in 0..TASK_PLACES {
         if t < 1 {
             continue;
         }
@@ -49,7 +43,7 @@ fn put_tasks(buf: &mut [u8], at: usize, g: rig::Rig) -> usize
             continue;
         }
         let v = [
-            byte(t),
+            t as u8,
             g.controller[t],
             g.priority[t],
             g.privileged[t],
@@ -59,26 +53,23 @@ fn put_tasks(buf: &mut [u8], at: usize, g: rig::Rig) -> usize
             0,
             0,
         ];
-        p = rig_print::put_line(&mut *buf, p, rig_lines::TASK, v);
+        p = rig_print::put_line(&mut *buf, p, Kind::Task, v);
     }
     p
 }
 
-fn put_conditions(buf: &mut [u8], at: usize, g: rig::Rig) -> usize
-    requires { at + length (text (kept 1040 (is_condition g) (condition_line g))) ≤ length buf.old }
-    ensures { Wrote buf.old at (text (kept 1040 (is_condition g) (condition_line g))) buf.new result }
+fn put_conditions(buf: &mut [u8], at: usize, g: &rig::Rig) -> usize
+    requires { at + length (text (kept 1040 (is_condition g.now) (condition_line g.now))) ≤ length buf.old }
+    ensures { Wrote buf.old at (text (kept 1040 (is_condition g.now) (condition_line g.now))) buf.new result }
 {
     let mut p = at;
-    let mut i: usize = 0;
-    while i < CONDITIONS {
-        let c = i;
-        i += 1;
+    for c in 0..CONDITIONS {
         if g.present[c] != 1 {
             continue;
         }
         let v = [
-            byte(c / 16),
-            byte(c % 16),
+            (c / 16) as u8,
+            (c % 16) as u8,
             g.latched[c],
             g.desired[c],
             0,
@@ -87,21 +78,18 @@ fn put_conditions(buf: &mut [u8], at: usize, g: rig::Rig) -> usize
             0,
             0,
         ];
-        p = rig_print::put_line(&mut *buf, p, rig_lines::CONDITION, v);
+        p = rig_print::put_line(&mut *buf, p, Kind::Condition, v);
     }
     p
 }
 
-fn put_lines(buf: &mut [u8], at: usize, g: rig::Rig) -> usize
-    requires { at + length (text (kept 1024 (is_line g) (flag_line g))) ≤ length buf.old }
-    ensures { Wrote buf.old at (text (kept 1024 (is_line g) (flag_line g))) buf.new result }
+fn put_lines(buf: &mut [u8], at: usize, g: &rig::Rig) -> usize
+    requires { at + length (text (kept 1024 (is_line g.now) (flag_line g.now))) ≤ length buf.old }
+    ensures { Wrote buf.old at (text (kept 1024 (is_line g.now) (flag_line g.now))) buf.new result }
 {
-    let n = decimal::wide16(g.lines);
+    let n = g.lines as usize;
     let mut p = at;
-    let mut i: usize = 0;
-    while i < LINES {
-        let a = i;
-        i += 1;
+    for a in 0..LINES {
         if n <= a {
             continue;
         }
@@ -116,45 +104,39 @@ fn put_lines(buf: &mut [u8], at: usize, g: rig::Rig) -> usize
             0,
             0,
         ];
-        p = rig_print::put_line(&mut *buf, p, rig_lines::LINE, v);
+        p = rig_print::put_line(&mut *buf, p, Kind::Line, v);
     }
     p
 }
 
-fn put_cycles(buf: &mut [u8], at: usize, table: [[u8; CYCLE_FLAGS]; CYCLES]) -> usize
-    requires { at + length (text (kept 960 (is_flag table) (cycle_line table))) ≤ length buf.old }
-    ensures { Wrote buf.old at (text (kept 960 (is_flag table) (cycle_line table))) buf.new result }
+fn put_cycles(buf: &mut [u8], at: usize, table: &[[u8; CYCLE_FLAGS]; CYCLES]) -> usize
+    requires { at + length (text (kept 960 (is_flag table.now) (cycle_line table.now))) ≤ length buf.old }
+    ensures { Wrote buf.old at (text (kept 960 (is_flag table.now) (cycle_line table.now))) buf.new result }
 {
     let mut p = at;
-    let mut i: usize = 0;
-    while i < CYCLE_PLACES {
+    for i in 0..CYCLE_PLACES {
         let c = i / 15;
-        let n = i % 15;
-        i += 1;
-        let flag = table[c][n];
+        let flag = table[c][i % 15];
         if flag == 0 {
             continue;
         }
         p = rig_print::put_line(
             &mut *buf,
             p,
-            rig_lines::FLAG,
-            [byte(c), flag, 0, 0, 0, 0, 0, 0, 0],
+            Kind::Flag,
+            [c as u8, flag, 0, 0, 0, 0, 0, 0, 0],
         );
     }
     p
 }
 
-fn put_rows(buf: &mut [u8], at: usize, g: rig::Rig) -> usize
-    requires { at + length (text (kept 64 (is_row g) (row_line g))) ≤ length buf.old }
-    ensures { Wrote buf.old at (text (kept 64 (is_row g) (row_line g))) buf.new result }
+fn put_rows(buf: &mut [u8], at: usize, g: &rig::Rig) -> usize
+    requires { at + length (text (kept 64 (is_row g.now) (row_line g.now))) ≤ length buf.old }
+    ensures { Wrote buf.old at (text (kept 64 (is_row g.now) (row_line g.now))) buf.new result }
 {
-    let n = decimal::wide(g.rows);
+    let n = g.rows as usize;
     let mut p = at;
-    let mut i: usize = 0;
-    while i < ROWS {
-        let k = i;
-        i += 1;
+    for k in 0..ROWS {
         if n <= k {
             continue;
         }
@@ -170,15 +152,15 @@ fn put_rows(buf: &mut [u8], at: usize, g: rig::Rig) -> usize
             0,
             0,
         ];
-        p = rig_print::put_line(&mut *buf, p, rig_lines::ROW, v);
+        p = rig_print::put_line(&mut *buf, p, Kind::Row, v);
     }
     p
 }
 
 // The whole file, from the buffer's start.
-fn put_file(buf: &mut [u8], g: rig::Rig, table: [[u8; CYCLE_FLAGS]; CYCLES]) -> usize
-    requires { length (file_of g table) ≤ length buf.old }
-    ensures { Wrote buf.old 0 (file_of g table) buf.new result }
+fn put_file(buf: &mut [u8], g: &rig::Rig, table: &[[u8; CYCLE_FLAGS]; CYCLES]) -> usize
+    requires { length (file_of g.now table.now) ≤ length buf.old }
+    ensures { Wrote buf.old 0 (file_of g.now table.now) buf.new result }
 {
     let a = put_rig(&mut *buf, 0, g);
     let b = put_tasks(&mut *buf, a, g);
@@ -188,14 +170,10 @@ fn put_file(buf: &mut [u8], g: rig::Rig, table: [[u8; CYCLE_FLAGS]; CYCLES]) -> 
     put_rows(&mut *buf, e, g)
 }
 
-// Refusals of the writer, and the most bytes that a file has.
-const BREAKS_A_RULE: u8 = 4;
-
-const WRONG_LENGTH: u8 = 10;
-
+// The most bytes that a file has.
 const LONGEST: usize = 40960;
 
-// What writing answers: the file's length, or the refusal number.
+// What writing answers: the file's length, or the refusal number. An entry's own answer, by whose names its contract and its callers go.
 #[derive(Clone, Copy)]
 pub enum Written {
     Done(usize),
@@ -208,13 +186,13 @@ pub fn write(buf: &mut [u8], g: rig::Rig, cycles: [rig::Cycle; CYCLES]) -> Writt
     ensures { (written_report result ≡ written_of g cycles (length buf.old)) × (buf.new ≡ buffer_of g cycles buf.old) }
 {
     if !rig_whole::right(g, cycles) {
-        return Written::Refused(BREAKS_A_RULE);
+        return Written::Refused(Refusal::RuleBroken.number());
     }
     let table = rig::table_of(cycles);
     let mut own = [0u8; LONGEST];
-    let n = put_file(&mut own, g, table);
+    let n = put_file(&mut own, &g, &table);
     if buf.len() < n {
-        return Written::Refused(WRONG_LENGTH);
+        return Written::Refused(Refusal::WrongLength.number());
     }
     put_text::put_text(&mut *buf, 0, &own[..n]);
     Written::Done(n)

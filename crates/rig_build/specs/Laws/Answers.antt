@@ -8,8 +8,6 @@ use Rattle.rig.specs.Forms.{cycles_of}
 use Rattle.rig.specs.declared.Cycle.{Cycle}
 use Rattle.rig.specs.declared.Rig.{Rig}
 use Rattle.rig_whole.specs.Tests.{first_broken}
-use Rattle.rig_whole.specs.Which.{BrokenFirst}
-use Rattle.rig_whole.specs.Laws.Which.{broken_computed}
 use Rattle.rig_lines.specs.Kinds.{kind_b}
 use Rattle.rig_lines.specs.Line.{Line}
 use Rattle.rig_lines.specs.File.{fault, fault_of, lines_of}
@@ -53,16 +51,16 @@ module _ (rs : List Line) (rule : ℕ) (e : rule ≡ first_false 1 (line_tests r
   pub whole_rows : rule ≡ 0 → how_many (is_kind kind_b) rs ≤ 64
   whole_rows z = ((line_rules rs).0 (sym e ∙ z)).rows
 
-  module _ (z : rule ≡ 0) (g : Rig) (f : g ≡ rig_from rs) (t : List (List ℕ)) (d : t ≡ table_from rs) (cycles : List Cycle) (h : cycles ≡ cycles_of t) (x : ℕ) (b : BrokenFirst g cycles x) where
+  module _ (z : rule ≡ 0) (g : Rig) (f : g ≡ rig_from rs) (t : List (List ℕ)) (d : t ≡ table_from rs) (cycles : List Cycle) (h : cycles ≡ cycles_of t) (x : ℕ) (b : x ≡ first_broken g cycles) where
     as_whole : judged rule g cycles ≡ whole_file rs
     unfolding whole_file
     as_whole = rw (e, f, h, d)
 
     pub whole_rig : (x ≡ 0 → ⊥) → (y : ℕ) → y ≡ behind x → file_refused 4 0 y ≡ whole_file rs
-    whole_rig n y q = judged_rig rule g cycles x y z (broken_computed g cycles x b) n q ∙ as_whole
+    whole_rig n y q = judged_rig rule g cycles x y z b n q ∙ as_whole
 
     pub whole_right : x ≡ 0 → file_accepted g cycles ≡ whole_file rs
-    whole_right q = judged_right rule g cycles x z (broken_computed g cycles x b) q ∙ as_whole
+    whole_right q = judged_right rule g cycles x z b q ∙ as_whole
 
 -- a faulty line's answer, and that of a file without one
 pub by_fault : (s : List ℕ) (j line : ℕ) → fault_of s ≡ fault (suc j) line → file_refused (suc j) line 0 ≡ by_lines s

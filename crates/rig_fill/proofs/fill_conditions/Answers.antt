@@ -1,27 +1,57 @@
 use borrow.Author.Rules.{rules}
-use mathlib.Core.Path.{◌≡◌, refl, ◌∙◌}
+use mathlib.Core.Path.{◌≡◌, refl}
 use native.Mathlib.Omega.{arith}
-use Prim.Native.Nat.{◌-◌, ◌+◌, ◌*◌}
-use Rattle.rig_held.specs.Held.{held_line}
+use Rattle.std.specs.Prelude.{length}
 use Rattle.rig_held.specs.Laws.Rules.{kind_yes, kind_no}
+use Rattle.rig_lines.specs.declared.Kind.TheVariants.{Condition}
+use Rattle.rig_lines.specs.Laws.Kind.{differs_yes, differs_no}
 use Rattle.rig_lines.specs.Kinds.{kind_c, count_of, counts}
-use Rattle.rig_fill.specs.OfLines.{condition_place}
-use Rattle.rig_fill.specs.Laws.Tables.{table_start, table_on, table_past, table_skip, says_at}
+use Rattle.rig_fill.specs.Laws.Tables.{table_start, table_on, table_past, table_skip, table_all, says_at, place_said}
 use Rattle.rig_fill.proofs.fill_conditions.Goals as goal
 
-pub loop-i-init : goal.loop-i-init
-loop-i-init c = (search rules, (table_start _ _ _ _ _, (table_start _ _ _ _ _, table_start _ _ _ _ _)))
+pub loop-line-init : goal.loop-line-init
+loop-line-init c = (table_start _ _ _ _, table_start _ _ _ _, table_start _ _ _ _)
 
-pub loop-i-preserved-then-lines-a-ne-CONDITION : goal.loop-i-preserved-then-lines-a-ne-CONDITION
-loop-i-preserved-then-lines-a-ne-CONDITION c = let s = kind_no _ _ _ c.if-lines-a-ne-CONDITION.true in (omega arith, (table_skip _ _ _ _ _ _ _ c.loop-i.invariant.1.0 s _ refl, (table_skip _ _ _ _ _ _ _ c.loop-i.invariant.1.1.0 s _ refl, table_skip _ _ _ _ _ _ _ c.loop-i.invariant.1.1.1 s _ refl)))
+pub loop-line-preserved-then-ne : goal.loop-line-preserved-then-ne
+loop-line-preserved-then-ne c =
+    let w = c.loop-line.invariant in
+    let h = c.loop-line-test.true in
+    let s = kind_no _ kind_c (differs_yes _ Condition _ c.ne.ensures c.if-ne.true) in
+    (table_skip _ _ _ _ _ _ _ h _ w.0 s _ refl, table_skip _ _ _ _ _ _ _ h _ w.1 s _ refl, table_skip _ _ _ _ _ _ _ h _ w.2 s _ refl)
 
-pub loop-i-preserved-then-p-ge-CONDITIONS : goal.loop-i-preserved-then-p-ge-CONDITIONS
+pub loop-line-preserved-then-p-ge-CONDITIONS : goal.loop-line-preserved-then-p-ge-CONDITIONS
 unfolding count_of counts
-loop-i-preserved-then-p-ge-CONDITIONS c = let e = c.if-lines-a-ne-CONDITION.false in let s = kind_yes _ _ _ e in let q0 = c.wide.ensures.0 ∙ says_at c.args.lines.now c.loop-i.i kind_c 0 e (omega arith) in let q1 = c.wide-in-loop-i.ensures.0 ∙ says_at c.args.lines.now c.loop-i.i kind_c 1 e (omega arith) in let q : 16 * c.wide.result + c.wide-in-loop-i.result ≡ condition_place (held_line c.args.lines.now c.loop-i.i) = omega (arith, q0, q1) in (omega arith, (table_past _ _ _ _ _ _ _ c.loop-i.invariant.1.0 s _ q (omega (arith, c.requires.1, c.if-p-ge-CONDITIONS.true)) _ refl, (table_past _ _ _ _ _ _ _ c.loop-i.invariant.1.1.0 s _ q (omega (arith, c.requires.2, c.if-p-ge-CONDITIONS.true)) _ refl, table_past _ _ _ _ _ _ _ c.loop-i.invariant.1.1.1 s _ q (omega (arith, c.requires.3, c.if-p-ge-CONDITIONS.true)) _ refl)))
+loop-line-preserved-then-p-ge-CONDITIONS c =
+    let p : length c.args.present.now ≡ 1040 = search rules in
+    let a : length c.args.latched.now ≡ 1040 = search rules in
+    let b : length c.args.desired.now ≡ 1040 = search rules in
+    let w = c.loop-line.invariant in
+    let h = c.loop-line-test.true in
+    let e = differs_no _ Condition _ c.ne.ensures c.if-ne.false in
+    let s = kind_yes _ kind_c e in
+    let g = c.if-p-ge-CONDITIONS.true in (
+      table_past _ _ _ _ _ _ _ h _ w.0 s _ (place_said _ e) (omega (arith, p, g)) _ refl,
+      table_past _ _ _ _ _ _ _ h _ w.1 s _ (place_said _ e) (omega (arith, a, g)) _ refl,
+      table_past _ _ _ _ _ _ _ h _ w.2 s _ (place_said _ e) (omega (arith, b, g)) _ refl,
+    )
 
-pub loop-i-preserved : goal.loop-i-preserved
+pub loop-line-preserved : goal.loop-line-preserved
 unfolding count_of counts
-loop-i-preserved c = let e = c.if-lines-a-ne-CONDITION.false in let s = kind_yes _ _ _ e in let q0 = c.wide.ensures.0 ∙ says_at c.args.lines.now c.loop-i.i kind_c 0 e (omega arith) in let q1 = c.wide-in-loop-i.ensures.0 ∙ says_at c.args.lines.now c.loop-i.i kind_c 1 e (omega arith) in let q : 16 * c.wide.result + c.wide-in-loop-i.result ≡ condition_place (held_line c.args.lines.now c.loop-i.i) = omega (arith, q0, q1) in (omega arith, (table_on _ _ _ _ _ _ _ c.loop-i.invariant.1.0 s _ _ q refl _ refl, (table_on _ _ _ _ _ _ _ c.loop-i.invariant.1.1.0 s _ _ q (says_at c.args.lines.now c.loop-i.i kind_c 2 e (omega arith)) _ refl, table_on _ _ _ _ _ _ _ c.loop-i.invariant.1.1.1 s _ _ q (says_at c.args.lines.now c.loop-i.i kind_c 3 e (omega arith)) _ refl)))
+loop-line-preserved c =
+    let w = c.loop-line.invariant in
+    let h = c.loop-line-test.true in
+    let e = differs_no _ Condition _ c.ne.ensures c.if-ne.false in
+    let s = kind_yes _ kind_c e in (
+      table_on _ _ _ _ _ _ _ h _ w.0 s _ _ (place_said _ e) refl _ refl,
+      table_on _ _ _ _ _ _ _ h _ w.1 s _ _ (place_said _ e) (says_at _ kind_c 2 e (omega arith)) _ refl,
+      table_on _ _ _ _ _ _ _ h _ w.2 s _ _ (place_said _ e) (says_at _ kind_c 3 e (omega arith)) _ refl,
+    )
 
-pub returns : goal.returns
-returns c = let e : c.loop-i.i ≡ c.args.n = omega arith in (rw e at c.loop-i.invariant.1.0, rw e at c.loop-i.invariant.1.1.0, rw e at c.loop-i.invariant.1.1.1)
+pub returns-clause-present : goal.returns-clause-present
+returns-clause-present c = table_all _ _ _ _ _ _ c.loop-line-test.false _ c.loop-line.invariant.0
+
+pub returns-clause-latched : goal.returns-clause-latched
+returns-clause-latched c = table_all _ _ _ _ _ _ c.loop-line-test.false _ c.loop-line.invariant.1
+
+pub returns-clause-desired : goal.returns-clause-desired
+returns-clause-desired c = table_all _ _ _ _ _ _ c.loop-line-test.false _ c.loop-line.invariant.2

@@ -1,26 +1,51 @@
 use borrow.Author.Rules.{rules}
 use mathlib.Core.Path.{◌≡◌, sym, ap, ◌∙◌}
-use mathlib.Core.Bool.{true, false}
 use native.Mathlib.Omega.{arith}
-use Prim.Native.Nat.{ℕ, ◌-◌, ◌<◌, ◌*◌}
-use lib.ListN.{get_or}
+use Rattle.std.specs.Prelude.{◌<◌, true, false, get_or}
 use Rattle.laws.specs.Laws.All.{all_zero, all_next, all_not}
-use Rattle.rig_lines.specs.Kinds.{count_of, sort_of}
+use Rattle.rig_lines.specs.Kind.{kind_number, names_number}
+use Rattle.rig_lines.specs.Kinds.{count_of}
 use Rattle.rig_marks.specs.Laws.Marks.{task_over, task_under, flag_over, flag_under, other_under, under_all}
 use Rattle.rig_marks.proofs.line_under.Goals as goal
-use Rattle.rig_marks.proofs.line_under.Goals.{else-sort-j-eq-NAMES_TASK+else-sort-j-eq-NAMES_FLAG, else-sort-j-eq-NAMES_TASK+then-sort-j-eq-NAMES_FLAG+else-flags-x, then-sort-j-eq-NAMES_TASK+else-tasks-x}
+use Rattle.rig_marks.proofs.line_under.Goals.{in-Task, in-Flag, in-Other}
 
 pub loop-j-init : goal.loop-j-init
-loop-j-init c = (search rules, (c.count-m.ensures.0 ∙ ap count_of c.wide-k.ensures.0, all_zero _))
+loop-j-init c = all_zero _
 
-pub returns-then-tasks-x : goal.returns-then-tasks-x
-returns-then-tasks-x c = let W = c.wide-k.ensures.0 in let s = c.sorts-sort.ensures c.loop-j.j (omega arith) in let h : c.loop-j.j < count_of (get_or c.args.lines.now (10 * c.args.i) 0) = omega (arith, c.loop-j-test.true, c.loop-j.invariant.1.0) in let K : sort_of (get_or c.args.lines.now (10 * c.args.i) 0) c.loop-j.j ≡ get_or c.sorts-sort.result c.loop-j.j 0 = ap (λ (x : ℕ). sort_of x c.loop-j.j) (sym W) ∙ sym s in under_all _ _ _ _ _ c.loop-j.invariant.1.0 false (sym (all_not _ _ _ c.loop-j-test.true (task_over _ _ _ _ _ h (K ∙ c.if-sort-j-eq-NAMES_TASK.true) c.if-tasks-x.true)))
-
-pub returns-then-flags-x : goal.returns-then-flags-x
-returns-then-flags-x c = let W = c.wide-k.ensures.0 in let s = c.sorts-sort.ensures c.loop-j.j (omega arith) in let h : c.loop-j.j < count_of (get_or c.args.lines.now (10 * c.args.i) 0) = omega (arith, c.loop-j-test.true, c.loop-j.invariant.1.0) in let K : sort_of (get_or c.args.lines.now (10 * c.args.i) 0) c.loop-j.j ≡ get_or c.sorts-sort.result c.loop-j.j 0 = ap (λ (x : ℕ). sort_of x c.loop-j.j) (sym W) ∙ sym s in under_all _ _ _ _ _ c.loop-j.invariant.1.0 false (sym (all_not _ _ _ c.loop-j-test.true (flag_over _ _ _ _ _ h (λ q. c.if-sort-j-eq-NAMES_TASK.false (sym K ∙ q)) (K ∙ c.if-sort-j-eq-NAMES_FLAG.true) c.if-flags-x.true)))
+pub returns-then-most-x : goal.returns-then-most-x
+returns-then-most-x c =
+    let small : get_or c.args.line.now.numbers c.loop-j.j 0 < 256 = search rules in
+    let t = c.loop-j-test.true in
+    let k = c.count-j-end.ensures in
+    let h : c.loop-j.j < count_of (kind_number c.args.line.now.kind) = omega (arith, t, k.0) in
+    let s = c.names-names.ensures c.loop-j.j (omega (arith, t, k.1)) in
+    let over = c.if-most-x.true in
+    under_all c.args.line.now c.args.tasks c.args.flags _ k.0 false (sym (all_not _ _ _ t (elim c.match-names-j.branch [
+      | in-Task w ↦ task_over _ _ _ _ h (sym s ∙ ap names_number w.in-Task.is) (omega (arith, over, w.most-is))
+      | in-Flag w ↦
+          let e = sym s ∙ ap names_number w.in-Flag.is in
+          flag_over _ _ _ _ h (λ q. omega (arith, e, q)) e (omega (arith, over, w.most-is))
+      | in-Other w ↦ absurd (omega (arith, over, small, w.most-is))
+    ])))
 
 pub loop-j-preserved : goal.loop-j-preserved
-loop-j-preserved c = let W = c.wide-k.ensures.0 in let s = c.sorts-sort.ensures c.loop-j.j (omega arith) in let h : c.loop-j.j < count_of (get_or c.args.lines.now (10 * c.args.i) 0) = omega (arith, c.loop-j-test.true, c.loop-j.invariant.1.0) in let K : sort_of (get_or c.args.lines.now (10 * c.args.i) 0) c.loop-j.j ≡ get_or c.sorts-sort.result c.loop-j.j 0 = ap (λ (x : ℕ). sort_of x c.loop-j.j) (sym W) ∙ sym s in (omega arith, (c.loop-j.invariant.1.0, all_next _ _ c.loop-j.invariant.1.1 (elim c.if-sort-j-eq-NAMES_TASK.branch [ then-sort-j-eq-NAMES_TASK+else-tasks-x v ↦ task_under _ _ _ _ _ h (K ∙ v.if-sort-j-eq-NAMES_TASK.true) v.if-tasks-x.false | else-sort-j-eq-NAMES_TASK+then-sort-j-eq-NAMES_FLAG+else-flags-x v ↦ flag_under _ _ _ _ _ h (λ q. v.if-sort-j-eq-NAMES_TASK.false (sym K ∙ q)) (K ∙ v.if-sort-j-eq-NAMES_FLAG.true) v.if-flags-x.false | else-sort-j-eq-NAMES_TASK+else-sort-j-eq-NAMES_FLAG v ↦ other_under _ _ _ _ _ h (λ q. v.if-sort-j-eq-NAMES_TASK.false (sym K ∙ q)) (λ q. v.if-sort-j-eq-NAMES_FLAG.false (sym K ∙ q)) ])))
+loop-j-preserved c =
+    let t = c.loop-j-test.true in
+    let k = c.count-j-end.ensures in
+    let h : c.loop-j.j < count_of (kind_number c.args.line.now.kind) = omega (arith, t, k.0) in
+    let s = c.names-names.ensures c.loop-j.j (omega (arith, t, k.1)) in
+    let below = c.if-most-x.false in
+    all_next _ _ c.loop-j.invariant (elim c.match-names-j.branch [
+      | in-Task w ↦ task_under _ _ _ _ h (sym s ∙ ap names_number w.in-Task.is) (omega (arith, below, w.most-is))
+      | in-Flag w ↦
+          let e = sym s ∙ ap names_number w.in-Flag.is in
+          flag_under _ _ _ _ h (λ q. omega (arith, e, q)) e (omega (arith, below, w.most-is))
+      | in-Other w ↦
+          let e = sym s ∙ ap names_number w.in-Other.is in
+          other_under _ _ _ _ h (λ q. omega (arith, e, q)) (λ q. omega (arith, e, q))
+    ])
 
 pub returns : goal.returns
-returns c = let e : c.loop-j.j ≡ c.count-m.result = omega arith in under_all _ _ _ _ _ c.loop-j.invariant.1.0 true (sym (rw e at c.loop-j.invariant.1.1))
+returns c =
+    let e : c.loop-j.j ≡ c.count-j-end.result = omega (arith, c.loop-j-test.false, c.loop-j.auto.j-end) in
+    under_all c.args.line.now c.args.tasks c.args.flags _ c.count-j-end.ensures.0 true (sym (rw e at c.loop-j.invariant))

@@ -1,20 +1,16 @@
-use borrow.Author.Rules.{rules}
-use mathlib.Core.Path.{◌≡◌, sym, ◌∙◌}
-use mathlib.Core.Bool.{true}
-use native.Mathlib.Omega.{arith}
-use Prim.Native.Nat.{◌-◌}
+use mathlib.Core.Path.{sym, ◌∙◌}
 use borrow.Author.Tests.{not-true, not-false}
-use Rattle.rig_held.specs.Laws.Rules.{every_none, every_on, every_not}
+use Rattle.rig_held.specs.Laws.Rules.{every_none, every_on, every_not, every_all}
 use Rattle.rig_marks.proofs.none_above.Goals as goal
 
-pub loop-i-init : goal.loop-i-init
-loop-i-init c = (search rules, every_none _ _)
+pub loop-line-init : goal.loop-line-init
+loop-line-init c = every_none _
 
 pub returns-then-not-line_under : goal.returns-then-not-line_under
-returns-then-not-line_under c = sym (every_not _ _ _ _ c.loop-i-test.true (sym c.line_under.ensures ∙ not-true _ c.if-not-line_under.true-raw))
+returns-then-not-line_under c = sym (every_not _ _ _ _ c.loop-line-test.true (sym c.line_under.ensures ∙ not-true _ c.if-not-line_under.true-raw))
 
-pub loop-i-preserved : goal.loop-i-preserved
-loop-i-preserved c = (omega arith, every_on _ _ _ c.loop-i.invariant.1 (sym c.line_under.ensures ∙ not-false _ c.if-not-line_under.false-raw))
+pub loop-line-preserved : goal.loop-line-preserved
+loop-line-preserved c = every_on _ _ _ _ c.loop-line-test.true c.loop-line.invariant (sym c.line_under.ensures ∙ not-false _ c.if-not-line_under.false-raw)
 
 pub returns : goal.returns
-returns c = let e : c.loop-i.i ≡ c.args.n = omega arith in sym (rw e at c.loop-i.invariant.1)
+returns c = sym (every_all _ _ _ c.loop-line-test.false c.loop-line.invariant)

@@ -1,10 +1,6 @@
-use Prim.Native.Nat.{◌-◌}
 use Rattle.rig_write.specs.Laws.Kept.{InKept}
 use Rattle.rig_write.specs.File.{is_line, flag_line}
 use Rattle.rig_write.proofs.put_lines.Given as goal
 
-abbrev pub invariant-loop-i : goal.invariant-loop-i
-invariant-loop-i l = InKept l.initial.buf l.buf l.at 1024 (is_line l.g) (flag_line l.g) l.p l.i
-
-abbrev pub decreases-loop-i : goal.decreases-loop-i
-decreases-loop-i l = 1024 - l.i
+abbrev pub invariant-loop-a : goal.invariant-loop-a
+invariant-loop-a l = InKept l.initial.buf l.buf l.at 1024 (is_line l.g) (flag_line l.g) l.p l.a

@@ -1,4 +1,3 @@
-use native.Mathlib.Omega.{arith}
 use Prim.Native.Nat.{◌+◌, ◌≤◌}
 use mathlib.Core.Path.{sym, subst}
 use mathlib.Core.List.{List}
@@ -11,9 +10,9 @@ use Rattle.rig_write.proofs.put_rig.Goals as goal
 pub put_line-requires : goal.put_line-requires
 put_line-requires c =
     let s = c in
-    (omega arith, subst (λ (t : List ℕ). s.args.at + length t ≤ length s.args.buf.now) (sym (rig_text_lem s.args.g)) s.requires)
+    subst (λ (t : List ℕ). s.args.at + length t ≤ length s.args.buf.now) (sym (rig_text_lem s.args.g.now)) s.requires
 
 pub returns : goal.returns
 returns c =
     let s = c in
-    wrote_as _ _ _ _ _ _ (rig_text_lem s.args.g) c.put_line.ensures
+    wrote_as _ _ _ _ _ _ (rig_text_lem s.args.g.now) c.put_line.ensures

@@ -12,7 +12,7 @@ use Rattle.rig_write.proofs.write.Goals as goal
 pub returns-then-not-right : goal.returns-then-not-right
 returns-then-not-right c =
     let s = c in
-    not_right s.args.g s.args.cycles s.args.buf.now (λ h. true≢false (sym (c.right.ensures.1 h) ∙ not-true _ c.if-not-right.true-raw))
+    rw c.number.ensures (not_right s.args.g s.args.cycles s.args.buf.now (λ h. true≢false (sym (c.right.ensures.1 h) ∙ not-true _ c.if-not-right.true-raw)))
 
 pub put_file-n-requires : goal.put_file-n-requires
 put_file-n-requires c =
@@ -27,7 +27,7 @@ returns-then-buf-n c =
     let w = c.put_file-n in
     let t = c in
     let s = t in
-    too_short s.args.g s.args.cycles s.args.buf.now (is_right) t.table_of-table.result t.table_of-table.ensures w.result w.ensures.place c.if-buf-n.true
+    rw c.number-then-buf-n.ensures (too_short s.args.g s.args.cycles s.args.buf.now (is_right) t.table_of-table.result t.table_of-table.ensures w.result w.ensures.place c.if-buf-n.true)
 
 pub slice_bounds-own-end : goal.slice_bounds-own-end
 slice_bounds-own-end c =
