@@ -1,13 +1,14 @@
 -- Laws: turns of the search for a culprit.
 -- Assumes nothing.
-use Rattle.std.specs.Prelude.{ℕ, ◌+◌, ◌≤◌, ◌<◌, ◌≡◌, Bool, cond, List}
-use Rattle.std.proofs.Common.{arith, le_antisymm}
+use Rattle.std.specs.Prelude.{ℕ, ◌+◌, ◌≤◌, ◌<◌, ◌≡◌, Bool, cond, List, None, Some, zero, suc, refl}
+use Rattle.std.proofs.Common.{arith, le_antisymm, ne_eqb}
 use Rattle.std.proofs.Math.ListN.{length}
 use Rattle.text.specs.Split.{split, part}
 use Rattle.text.specs.Laws.Split.{split_cons}
 use Rattle.text.specs.Laws.Parts.{Found, length_part}
 use Rattle.rig_shapes.specs.Laws.{one_piece, more_pieces, nothing_left}
-use Rattle.rig_culprits.specs.Culprits.{first_at}
+use Rattle.rig_suspects.specs.Suspects.{counted}
+use Rattle.rig_culprits.specs.Culprits.{Culprit, first_at, found_as}
 
 module _ (s : List ℕ) (at e : ℕ) (w : Found s at (length s) 10 e) where
   -- the first line that a test finds
@@ -27,3 +28,19 @@ module _ (s : List ℕ) (at e : ℕ) (w : Found s at (length s) 10 e) where
 -- nothing stands at the end of a file
 pub first_none : (s : List ℕ) (at : ℕ) (h : at ≤ length s) (k : length s ≤ at) (test : ℕ → ℕ → Bool) (n : ℕ) → first_at test n at (split 10 (part at (length s) s)) ≡ 0
 first_none s at h k test n = first_end s at at (nothing_left s at h k) test n (le_antisymm h k)
+
+-- what is found, told with 0 for nothing
+abbrev told : ℕ → ℕ → Culprit
+told k x = record { what = k; number = x }
+
+pub told_none : (k n : ℕ) → None ≡ counted n → told 0 0 ≡ found_as k n
+unfolding counted found_as
+told_none k zero h = refl
+told_none k (suc n) h = cc
+
+pub told_some : (k n x : ℕ) → Some x ≡ counted n → told k x ≡ found_as k n
+unfolding counted found_as
+told_some k zero x h = cc
+told_some k (suc n) x h =
+    let e : x ≡ suc n = cc in
+    rw (e, ne_eqb (suc n) 0 (λ z. let y : ⊥ = omega arith in y))

@@ -2,45 +2,55 @@
 #![tactic(auto)]
 
 ghost use Rattle.std.specs.Prelude.{◌≡◌, ◌≤◌, ◌<◌, length};
-ghost use Rattle.rig_culprits.specs.Culprits.{guilty, culprit_line, found_as, culprit_of};
+ghost use Rattle.rig_suspects.specs.Suspects.{counted};
+ghost use Rattle.rig_culprits.specs.Culprits.{guilty, culprit_line, culprit_told, culprit_of, rule_of};
 
-// The rules, by the numbers that the reader gives them.
-pub const ABOVE: u16 = 1;
+// The rules over the whole file that a sentence tells apart.
+#[derive(Debug, Clone, Copy, PartialEq, Eq)]
+pub enum Rule {
+    Above = 1,
+    ManyA = 2,
+    ManyB = 3,
+    NoT = 4,
+    Crowded = 5,
+    Controller = 21,
+    Shared = 22,
+    MinorActivation = 23,
+    NoC = 24,
+    NoA = 25,
+    MinorCondition = 26,
+    SameAddress = 27,
+}
 
-pub const MANY_A: u16 = 2;
+impl Rule {
+    // The rule that the reader gives a number: those of the lines, then those of the rig, 5 behind. No line of a file leads to any other.
+    #[tactic(auto, unfolding(crate::specs::Culprits::rule_of))]
+    pub fn of_number(number: u16) -> Option<Rule>
+        ensures { result ≡ rule_of number }
+    {
+        match number {
+            1 => Some(Rule::Above),
+            2 => Some(Rule::ManyA),
+            3 => Some(Rule::ManyB),
+            4 => Some(Rule::NoT),
+            5 => Some(Rule::Crowded),
+            21 => Some(Rule::Controller),
+            22 => Some(Rule::Shared),
+            23 => Some(Rule::MinorActivation),
+            24 => Some(Rule::NoC),
+            25 => Some(Rule::NoA),
+            26 => Some(Rule::MinorCondition),
+            27 => Some(Rule::SameAddress),
+            _ => None,
+        }
+    }
+}
 
-pub const MANY_B: u16 = 3;
-
-pub const NO_T: u16 = 4;
-
-pub const CROWDED: u16 = 5;
-
-pub const CONTROLLER: u16 = 21;
-
-pub const SHARED: u16 = 22;
-
-pub const MINOR_ACTIVATION: u16 = 23;
-
-pub const NO_C: u16 = 24;
-
-pub const NO_A: u16 = 25;
-
-pub const MINOR_CONDITION: u16 = 26;
-
-pub const SAME_ADDRESS: u16 = 27;
-
-// What a culprit's number counts.
-pub const NOTHING: u8 = 0;
-
-pub const LINE: u8 = 1;
-
-pub const TASK: u8 = 2;
-
-// A line, counted from 1, or a task; nothing where none is found.
-#[derive(Clone, Copy)]
-pub struct Culprit {
-    pub what: u8,
-    pub number: usize,
+// A line, counted from 1, or a task.
+#[derive(Debug, Clone, Copy, PartialEq, Eq)]
+pub enum Culprit {
+    Line(usize),
+    Task(usize),
 }
 
 // Whether the line from `at` to `e` is the rule's culprit. Where a rule can be broken by the lines up to this one alone, it is the one
@@ -49,23 +59,21 @@ fn is_guilty(s: &[u8], rule: u16, at: usize, e: usize) -> bool
     requires { (at ≤ e) × (e < length s.now) }
     ensures { result ≡ guilty rule s.now at e }
 {
-    let next = e + 1;
-    if rule == CONTROLLER {
+    if rule == Rule::Controller as u16 {
         return rig_suspects::is_stray(s, &s[at..e]);
     }
-    if rule == SHARED {
-        return rig_suspects::is_shared(s, &s[at..e], next);
+    if rule == Rule::Shared as u16 {
+        return rig_suspects::is_shared(s, &s[at..e], e + 1);
     }
-    if rule == NO_A {
+    if rule == Rule::NoA as u16 {
         return rig_suspects::is_unused(s, &s[at..e]);
     }
-    let a = rig_read::read(&s[0..next]);
-    a.rule == rule
+    rig_read::read(&s[0..e + 1]).rule == rule
 }
 
-// The first line that is the rule's culprit, counted from 1; 0 for none.
-fn first_guilty(s: &[u8], rule: u16) -> usize
-    ensures { result ≡ culprit_line rule s.now }
+// The first line that is the rule's culprit, counted from 1.
+fn first_guilty(s: &[u8], rule: u16) -> Option<usize>
+    ensures { result ≡ counted (culprit_line rule s.now) }
 {
     let n = s.len();
     let mut at: usize = 0;
@@ -73,35 +81,23 @@ fn first_guilty(s: &[u8], rule: u16) -> usize
     while at < n {
         let e = lines::line_of(s, at);
         if e == n {
-            return 0;
+            return None;
         }
         if is_guilty(s, rule, at, e) {
-            return line;
+            return Some(line);
         }
         at = e + 1;
         line += 1;
     }
-    0
+    None
 }
 
-fn found(what: u8, number: usize) -> Culprit
-    ensures { result ≡ found_as what number }
+// The culprit of a rule over the whole file. The rule is the number that the reader answers (rig_build::Answer), which may be one that no Rule has.
+pub fn culprit_of(s: &[u8], rule: u16) -> Option<Culprit>
+    ensures { culprit_told result ≡ culprit_of rule s.now }
 {
-    if number == 0 {
-        return Culprit {
-            what: NOTHING,
-            number: 0,
-        };
+    if rule == Rule::NoT as u16 {
+        return Some(Culprit::Task(rig_suspects::missing_task(s)? as usize));
     }
-    Culprit { what, number }
-}
-
-// The culprit of a rule over the whole file.
-pub fn culprit_of(s: &[u8], rule: u16) -> Culprit
-    ensures { result ≡ culprit_of rule s.now }
-{
-    if rule == NO_T {
-        return found(TASK, rig_suspects::missing_task(s) as usize);
-    }
-    found(LINE, first_guilty(s, rule))
+    Some(Culprit::Line(first_guilty(s, rule)?))
 }

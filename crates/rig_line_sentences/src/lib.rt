@@ -1,64 +1,41 @@
 // The sentence that is said of a refused line: by the reason of its wrong shape, or by the refusal.
 #![tactic(auto)]
 
-ghost use Rattle.std.specs.Prelude.{◌+◌, ◌≤◌, length};
-ghost use Rattle.put_text.specs.Wrote.{Wrote};
+ghost use Rattle.std.specs.Prelude.{◌≡◌};
+ghost use Rattle.rig_shapes.specs.Shape.{reason_number};
 ghost use Rattle.rig_line_sentences.specs.Sentences.{shape_sentence, line_sentence};
 
-use put_text::put_text;
+use rig_shapes::Reason;
 
-pub fn of_shape(out: &mut [u8], at: usize, reason: u8) -> usize
-    requires { at + 128 ≤ length out.old }
-    ensures { Wrote out.old at (shape_sentence reason) out.new result }
+#[tactic(auto, unfolding(crate::specs::Sentences::shape_sentence))]
+pub fn of_shape(reason: Reason) -> &'static [u8]
+    ensures { result.now ≡ shape_sentence (reason_number reason) }
 {
     match reason {
-        rig_shapes::EMPTY_FILE => put_text(out, at, b"the file is empty"),
-        rig_shapes::NO_LINE_END => put_text(out, at, b"the last line has no line end (LF)"),
-        rig_shapes::BYTE_ORDER_MARK => put_text(
-            out,
-            at,
-            b"the file begins with a byte-order mark: save it without one",
-        ),
-        rig_shapes::CARRIAGE_RETURN => put_text(
-            out,
-            at,
-            b"the line has a carriage return (CR): lines end in LF alone",
-        ),
-        rig_shapes::EMPTY_LINE => put_text(out, at, b"the line is empty"),
-        rig_shapes::SPACE => put_text(
-            out,
-            at,
-            b"the line has a space: fields are parted by one tab",
-        ),
-        rig_shapes::UNKNOWN_KIND => put_text(
-            out,
-            at,
-            b"the line begins with no known kind: RIG, T, C, A, M or B",
-        ),
-        rig_shapes::TOO_FEW_FIELDS => put_text(
-            out,
-            at,
-            b"the line has too few fields for its kind",
-        ),
-        rig_shapes::TOO_MANY_FIELDS => put_text(
-            out,
-            at,
-            b"the line has too many fields for its kind",
-        ),
-        rig_shapes::SPARE_ZERO => put_text(out, at, b"a number has a spare zero in front"),
-        _ => put_text(out, at, b"a field is no decimal number"),
+        Reason::EmptyFile => b"the file is empty",
+        Reason::NoLineEnd => b"the last line has no line end (LF)",
+        Reason::ByteOrderMark => b"the file begins with a byte-order mark: save it without one",
+        Reason::CarriageReturn => b"the line has a carriage return (CR): lines end in LF alone",
+        Reason::EmptyLine => b"the line is empty",
+        Reason::Space => b"the line has a space: fields are parted by one tab",
+        Reason::UnknownKind => b"the line begins with no known kind: RIG, T, C, A, M or B",
+        Reason::TooFewFields => b"the line has too few fields for its kind",
+        Reason::TooManyFields => b"the line has too many fields for its kind",
+        Reason::SpareZero => b"a number has a spare zero in front",
+        Reason::NoDecimal => b"a field is no decimal number",
     }
 }
 
-pub fn of_line(out: &mut [u8], at: usize, number: u8, line: usize) -> usize
-    requires { at + 128 ≤ length out.old }
-    ensures { Wrote out.old at (line_sentence number line) out.new result }
+// By the number and the line that the reader answers.
+#[tactic(auto, unfolding(crate::specs::Sentences::line_sentence))]
+pub fn of_line(number: u8, line: usize) -> &'static [u8]
+    ensures { result.now ≡ line_sentence number line }
 {
     if line == 0 {
-        return put_text(out, at, b"the file is longer than 40,960 bytes");
+        return b"the file is longer than 40,960 bytes";
     }
     if number == 2 {
-        return put_text(out, at, b"a number is outside its size");
+        return b"a number is outside its size";
     }
-    put_text(out, at, b"the record is out of order or repeated")
+    b"the record is out of order or repeated"
 }

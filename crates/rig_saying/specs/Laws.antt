@@ -1,6 +1,6 @@
 -- Laws of sayings as they are written, part after part; and how long each part can be.
 -- Assumes nothing.
-use Rattle.std.specs.Prelude.{ℕ, suc, ◌+◌, ◌≤◌, ◌<◌, ◌≡◌, refl, ◌≢◌, Bool, true, false, cond, eqb, length}
+use Rattle.std.specs.Prelude.{ℕ, suc, ◌+◌, ◌≤◌, ◌<◌, ◌≡◌, refl, ◌≢◌, Bool, true, false, eqb, length}
 use Rattle.std.proofs.Math.Path.{sym, subst}
 use Rattle.std.proofs.Common.{ap, ◌∙◌, inr, ⊎_elim, arith, add-one, length-take, eq-eqb, ne_eqb}
 use Rattle.std.proofs.Math.Logic.{inl}
@@ -15,8 +15,7 @@ use Rattle.put_text.specs.Laws.Wrote.{wrote_then, wrote_as, wrote_none, wrote_sa
 use Rattle.rig_build.specs.declared.Answer.{Answer}
 use Rattle.rig_meaning.proofs.Reading.{read_of}
 use Rattle.rig_shapes.specs.Shape.{reason_of}
-use Rattle.rig_culprits.specs.declared.Culprit.{Culprit}
-use Rattle.rig_culprits.specs.Culprits.{culprit_of}
+use Rattle.rig_culprits.specs.Culprits.{Culprit, culprit_of}
 use Rattle.rig_phrases.specs.Phrases.{refused_by_text, at_line_text, colon_text, culprit_line_text, culprit_task_text, end_text}
 use Rattle.rig_line_sentences.specs.Sentences.{shape_sentence, line_sentence}
 use Rattle.rig_rule_sentences.specs.Sentences.{rule_sentence}
@@ -59,7 +58,7 @@ shape_short n =
     (short 128 (eqb n 9) _ _ (omega arith)
     (short 128 (eqb n 10) _ _ (omega arith) (omega arith))))))))))
 
-line_short : (n line : ℕ) → length (line_sentence n line) ≤ 128
+pub line_short : (n line : ℕ) → length (line_sentence n line) ≤ 128
 unfolding line_sentence
 line_short n line = short 128 (eqb line 0) _ _ (omega arith) (short 128 (eqb n 2) _ _ (omega arith) (omega arith))
 

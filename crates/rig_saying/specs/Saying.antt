@@ -1,6 +1,6 @@
 -- WHAT IS SAID OF A RIG FILE, byte by byte: how much it holds, or the refusal with its number, its line where it has one, a sentence, and for a
 -- rule over the whole file the line or the task that breaks it.
-use Rattle.std.specs.Prelude.{ℕ, zero, suc, ◌+◌, ◌≤◌, ◌<◌, ◌≡◌, ◌⊎◌, Bool, cond, List, [], ◌++◌, eqb, length, get_or, take}
+use Rattle.std.specs.Prelude.{ℕ, zero, suc, ◌≤◌, ◌<◌, ◌≡◌, ◌⊎◌, Bool, cond, List, [], ◌++◌, eqb, length, get_or, take}
 use Rattle.rig.specs.declared.Rig.{Rig}
 use Rattle.rig_build.specs.declared.Answer.{Answer}
 use Rattle.rig_meaning.proofs.Reading.{read_of}
@@ -8,8 +8,7 @@ use Rattle.text.specs.Split.{part}
 use Rattle.bench_script.specs.Input.{rig_end}
 use Rattle.put_text.specs.Wrote.{Wrote}
 use Rattle.rig_shapes.specs.Shape.{reason_of}
-use Rattle.rig_culprits.specs.declared.Culprit.{Culprit}
-use Rattle.rig_culprits.specs.Culprits.{culprit_of, a_line_of_the_file, a_task}
+use Rattle.rig_culprits.specs.Culprits.{Culprit, culprit_of, a_line_of_the_file, a_task}
 use Rattle.rig_phrases.specs.Phrases.{refused_by_text, at_line_text, colon_text, culprit_line_text, culprit_task_text, end_text}
 use Rattle.rig_line_sentences.specs.Sentences.{shape_sentence, line_sentence}
 use Rattle.rig_rule_sentences.specs.Sentences.{rule_sentence}

@@ -5,7 +5,12 @@ mod counts;
 
 ghost use Rattle.std.specs.Prelude.{◌+◌, ◌≤◌, length};
 ghost use Rattle.put_text.specs.Wrote.{Wrote};
+ghost use Rattle.rig_culprits.specs.Culprits.{culprit_told};
 ghost use Rattle.rig_saying.specs.Saying.{line_text, head_text, culprit_text, why_text, refused_text, right_text, rig_part, Said, CountsOf};
+
+use put_text::put_text;
+use rig_culprits::{Culprit, Rule};
+use rig_phrases::{put_count, put_number};
 
 // More than the longest saying has.
 pub const ROOM: usize = 1024;
@@ -16,11 +21,11 @@ fn line_part(out: &mut [u8], at: usize, line: usize) -> usize
     ensures { Wrote out.old at (line_text line) out.new result }
 {
     if line == 0 {
-        return rig_phrases::colon(out, at);
+        return put_text(out, at, b": ");
     }
-    let a = rig_phrases::at_line(&mut *out, at);
-    let b = rig_phrases::put_number(&mut *out, a, line as u64);
-    rig_phrases::colon(out, b)
+    let a = put_text(&mut *out, at, b" at line ");
+    let b = put_number(&mut *out, a, line as u64);
+    put_text(out, b, b": ")
 }
 
 // The refusal's number, and its line where it has one.
@@ -28,25 +33,29 @@ fn head(out: &mut [u8], number: u8, line: usize) -> usize
     requires { 1024 ≤ length out.old }
     ensures { Wrote out.old 0 (head_text number line) out.new result }
 {
-    let a = rig_phrases::refused_by(&mut *out, 0);
-    let b = rig_phrases::put_number(&mut *out, a, number as u64);
+    let a = put_text(&mut *out, 0, b"refused by ");
+    let b = put_number(&mut *out, a, number as u64);
     line_part(out, b, line)
 }
 
 // The line or the task that breaks a rule.
-fn culprit(out: &mut [u8], at: usize, who: rig_culprits::Culprit) -> usize
+fn culprit(out: &mut [u8], at: usize, who: Option<Culprit>) -> usize
     requires { at + 256 ≤ length out.old }
-    ensures { Wrote out.old at (culprit_text who) out.new result }
+    ensures { Wrote out.old at (culprit_text (culprit_told who)) out.new result }
 {
-    if who.what == rig_culprits::LINE {
-        let a = rig_phrases::culprit_line(&mut *out, at);
-        return rig_phrases::put_number(out, a, who.number as u64);
+    let Some(who) = who else {
+        return at;
+    };
+    match who {
+        Culprit::Line(n) => {
+            let a = put_text(&mut *out, at, b": line ");
+            put_number(out, a, n as u64)
+        }
+        Culprit::Task(n) => {
+            let a = put_text(&mut *out, at, b": task ");
+            put_number(out, a, n as u64)
+        }
     }
-    if who.what == rig_culprits::TASK {
-        let a = rig_phrases::culprit_task(&mut *out, at);
-        return rig_phrases::put_number(out, a, who.number as u64);
-    }
-    at
 }
 
 fn why(out: &mut [u8], at: usize, file: &[u8], number: u8, line: usize, rule: u16) -> usize
@@ -54,15 +63,15 @@ fn why(out: &mut [u8], at: usize, file: &[u8], number: u8, line: usize, rule: u1
     ensures { Wrote out.old at (why_text file.now number line rule) out.new result }
 {
     if number == 4 {
-        let a = rig_rule_sentences::of_rule(&mut *out, at, rule);
-        let who = rig_culprits::culprit_of(file, rule);
-        return culprit(out, a, who);
+        let sentence = rig_rule_sentences::of_rule(Rule::of_number(rule));
+        let a = put_text(&mut *out, at, sentence);
+        return culprit(out, a, rig_culprits::culprit_of(file, rule));
     }
     if number == 1 {
-        let reason = rig_shapes::reason(file, line);
-        return rig_line_sentences::of_shape(out, at, reason);
+        let sentence = rig_line_sentences::of_shape(rig_shapes::why(file, line));
+        return put_text(out, at, sentence);
     }
-    rig_line_sentences::of_line(out, at, number, line)
+    put_text(out, at, rig_line_sentences::of_line(number, line))
 }
 
 fn refused(out: &mut [u8], file: &[u8], number: u8, line: usize, rule: u16) -> usize
@@ -71,17 +80,17 @@ fn refused(out: &mut [u8], file: &[u8], number: u8, line: usize, rule: u16) -> u
 {
     let a = head(&mut *out, number, line);
     let b = why(&mut *out, a, file, number, line, rule);
-    rig_phrases::end(out, b)
+    put_text(out, b, b".\n")
 }
 
 fn right(out: &mut [u8], tasks: u64, flags: u64, conditions: u64, rows: u64) -> usize
     requires { 1024 ≤ length out.old }
     ensures { Wrote out.old 0 (right_text tasks flags conditions rows) out.new result }
 {
-    let a = rig_phrases::tasks(&mut *out, 0, tasks);
-    let b = rig_phrases::flags(&mut *out, a, flags);
-    let c = rig_phrases::conditions(&mut *out, b, conditions);
-    rig_phrases::rows(out, c, rows)
+    let a = put_count(&mut *out, 0, counts::TASKS, tasks);
+    let b = put_count(&mut *out, a, counts::FLAGS, flags);
+    let c = put_count(&mut *out, b, counts::CONDITIONS, conditions);
+    put_count(out, c, counts::BUS_ROWS, rows)
 }
 
 // Says it: one line that begins with `right` or with `refused`, and its length. With less than ROOM bytes nothing is written.
@@ -93,14 +102,13 @@ pub fn say(file: &[u8], out: &mut [u8]) -> usize
     }
     let a = rig_read::read(file);
     if a.no == 0 {
-        let g = a.rig;
-        let conditions = counts::conditions_of(g);
+        let conditions = counts::conditions_of(&a.rig);
         return right(
             out,
-            g.tasks as u64,
-            g.flags as u64,
+            a.rig.tasks as u64,
+            a.rig.flags as u64,
             conditions,
-            g.rows as u64,
+            a.rig.rows as u64,
         );
     }
     refused(out, file, a.no, a.line, a.rule)

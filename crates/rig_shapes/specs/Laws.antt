@@ -8,6 +8,9 @@ use Rattle.text.specs.Split.{split, part, rest}
 use Rattle.text.specs.Laws.Split.{split_cons}
 use Rattle.text.specs.Laws.Parts.{Found, piece, part_all, rest_none, rest_next, free_none}
 use Rattle.rig_lines.specs.Kinds.{kind_of}
+use Rattle.rig_lines.specs.Kind.{kind_number}
+use Rattle.rig_lines.specs.declared.Kind.{Kind}
+use Rattle.rig_lines.specs.declared.Kind.TheVariants.{Rig, Task, Condition, Line, Flag, Row}
 use Rattle.rig_lines.specs.Line.{line_of, first, others}
 use Rattle.rig_lines.specs.Laws.Turns.{rest_turn}
 use Rattle.rig_shapes.specs.Shape.{has, marked, fields_of, no_line_end, line_reason, piece_reason}
@@ -132,3 +135,12 @@ is_below {a} {b} {x} {y} e f h = lt-ltb x y (omega (arith, e, f, h))
 
 pub is_above : {a b x y : ℕ} → a ≡ x → b ≡ y → b ≤ a → ltb x y ≡ false
 is_above {a} {b} {x} {y} e f h = le-ltb x y (omega (arith, e, f, h))
+
+-- a line of a kind that there is
+pub some_kind : (k : Kind) → kind_number k ≢ 0
+some_kind Rig = omega arith
+some_kind Task = omega arith
+some_kind Condition = omega arith
+some_kind Line = omega arith
+some_kind Flag = omega arith
+some_kind Row = omega arith

@@ -3,6 +3,8 @@ use Rattle.std.specs.Prelude.{ℕ, ◌-◌, Bool, false, cond, ◌&&◌, ◌||�
 use Rattle.text.specs.Split.{split, lf, tab}
 use Rattle.rig_lines.specs.Kinds.{count_of}
 use Rattle.rig_lines.specs.Line.{line_of, others}
+use Rattle.rig_shapes.specs.declared.reasons.Reason.{Reason}
+use Rattle.rig_shapes.specs.declared.reasons.Reason.TheVariants.{EmptyFile, NoLineEnd, ByteOrderMark, CarriageReturn, EmptyLine, Space, UnknownKind, TooFewFields, TooManyFields, SpareZero, NoDecimal}
 
 abbrev pub empty_file : ℕ
 empty_file = 1
@@ -36,6 +38,20 @@ spare_zero = 10
 
 abbrev pub no_decimal : ℕ
 no_decimal = 11
+
+-- the number of a reason
+abbrev pub reason_number : Reason → ℕ
+reason_number EmptyFile = empty_file
+reason_number NoLineEnd = no_line_end
+reason_number ByteOrderMark = byte_order_mark
+reason_number CarriageReturn = carriage_return
+reason_number EmptyLine = empty_line
+reason_number Space = space
+reason_number UnknownKind = unknown_kind
+reason_number TooFewFields = too_few_fields
+reason_number TooManyFields = too_many_fields
+reason_number SpareZero = spare_zero
+reason_number NoDecimal = no_decimal
 
 -- the bytes CR, space and `0`
 abbrev pub CR : ℕ

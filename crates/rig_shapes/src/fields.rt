@@ -1,16 +1,26 @@
 // A line taken apart: its kind, its numbers, how many fields it has. `line` is a line without its LF.
-ghost use Rattle.std.specs.Prelude.{◌≡◌, ◌<◌, length, get_or};
+ghost use Rattle.std.specs.Prelude.{◌≡◌, eqb, length, get_or};
 ghost use Rattle.text.specs.Split.{split};
+ghost use Rattle.rig_lines.specs.Kind.{kind_number, kind_report};
 ghost use Rattle.rig_lines.specs.Line.{line_of, others};
 ghost use Rattle.rig_shapes.specs.Shape.{spare, spares};
 
+use rig_lines::Kind;
+
 const TAB: u8 = b'\t';
 
-pub fn kind(line: &[u8]) -> usize
-    ensures { (result ≡ (line_of line.now).kind) × (result < 7) }
+pub(crate) fn kind(line: &[u8]) -> Option<Kind>
+    ensures { kind_report result ≡ (line_of line.now).kind }
 {
     let q = text::find(line, 0, line.len(), TAB);
     rig_lines::kind_in(&line[0..q])
+}
+
+// Whether a line is of the kind.
+pub fn has_kind(line: &[u8], k: Kind) -> bool
+    ensures { result ≡ eqb (line_of line.now).kind (kind_number k) }
+{
+    kind(line) == Some(k)
 }
 
 // How many fields stand behind the first.
@@ -46,14 +56,11 @@ pub fn number(line: &[u8], j: usize) -> u64
     0
 }
 
+#[tactic(auto, unfolding(crate::specs::Shape::spare))]
 fn is_spare(field: &[u8]) -> bool
     ensures { result ≡ spare field.now }
 {
-    if 1 < field.len() {
-        field[0] == b'0'
-    } else {
-        false
-    }
+    field.len() > 1 && field[0] == b'0'
 }
 
 // Whether a field behind the first begins with a zero that is not its only byte.

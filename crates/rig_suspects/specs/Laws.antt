@@ -1,7 +1,7 @@
 -- Laws: turns of the search for a line, and the single tests.
 -- Assumes nothing.
 use Prim.Native.Nat.{ℕ, zero, suc, ◌+◌, ◌-◌, ◌≤◌, ◌<◌}
-use Rattle.std.specs.Prelude.{◌≡◌, ◌≢◌, Bool, false, cond, List, [], ◌∷◌, eqb, length, get_or}
+use Rattle.std.specs.Prelude.{◌≡◌, ◌≢◌, Bool, false, cond, List, [], ◌∷◌, eqb, length, get_or, Some}
 use Rattle.std.proofs.Math.Path.{refl, sym}
 use Rattle.std.proofs.Common.{ap, ◌∙◌, le_antisymm}
 use Rattle.std.proofs.Math.Bool.{true, not}
@@ -17,8 +17,7 @@ use Rattle.rig_tables.specs.Tests.{climb}
 use Rattle.rig_lines.specs.Line.{Line, line_of}
 use Rattle.rig_lines.specs.File.{lines_in, lines_of}
 use Rattle.rig_shapes.specs.Laws.{one_piece, more_pieces, nothing_left, is_so_built, is_not}
-use Rattle.rig_suspects.specs.Suspects.{lines_from, fits_key, look_in, flag_key, condition_key, controller_in, stray_from, stray, shared, unused, lowest_false}
-use Rattle.rig_suspects.specs.declared.Key.{Key}
+use Rattle.rig_suspects.specs.Suspects.{Key, lines_from, fits_key, look_in, flag_key, condition_key, controller_in, stray_from, stray, shared, unused, lowest_false, counted}
 
 -- ---- the lines of a file
 
@@ -144,3 +143,9 @@ module _ (rs : List Line) (r : Line) where
       → (v : ℕ) → v ≡ look_in (condition_key t p) 0 rs → eqb v 0 ≡ unused rs r
   unfolding unused
   unused_look e t p et ep v q = rw (e, q, et, ep)
+
+-- what is counted from 1
+pub counted_some : (n : ℕ) → 0 < n → Some n ≡ counted n
+unfolding counted
+counted_some zero h = absurd (let y : ⊥ = omega arith in y)
+counted_some (suc n) h = refl

@@ -1,11 +1,12 @@
 -- LINES THAT ARE LOOKED FOR, and the single tests by which a line or a task breaks a rule over the whole file.
-use Rattle.std.specs.Prelude.{ℕ, zero, suc, ◌+◌, ◌-◌, Bool, cond, not, ◌&&◌, ◌||◌, List, [], ◌∷◌, eqb, leb, length, get_or}
+use Rattle.std.specs.Prelude.{ℕ, zero, suc, ◌+◌, ◌-◌, Bool, cond, not, ◌&&◌, ◌||◌, List, [], ◌∷◌, eqb, leb, length, get_or, Option, None, Some}
 use Rattle.laws.specs.All.{all}
 use Rattle.text.specs.Split.{split, part}
 use Rattle.rig_tables.specs.Tests.{climb}
 use Rattle.rig_lines.specs.Line.{Line}
 use Rattle.rig_lines.specs.File.{lines_in}
-use Rattle.rig_suspects.specs.declared.Key.{Key}
+use Rattle.rig_lines.specs.Kind.{kind_number}
+use Rattle.rig_suspects.specs.declared.Key as declared
 
 -- the lines from a place of the file on
 unfoldable pub lines_from : List ℕ → ℕ → List Line
@@ -15,6 +16,18 @@ lines_from s at = lines_in (split 10 (part at (length s) s))
 
 abbrev pub number_of : Line → ℕ → ℕ
 number_of r i = get_or r.nums i 0
+
+-- what a line must be to be the one that is looked for: of this kind, with number i equal to x and number j equal to y
+pub record Key : Type 0 where
+  pub kind : ℕ
+  pub i : ℕ
+  pub x : ℕ
+  pub j : ℕ
+  pub y : ℕ
+
+-- a key of the code
+abbrev pub key_of : declared.Key → Key
+key_of k = record { kind = kind_number k.kind; i = k.i; x = k.x; j = k.j; y = k.y }
 
 -- a line is of the key's kind and has its two numbers
 unfoldable pub fits_key : Key → Line → Bool
@@ -87,3 +100,8 @@ lowest_false (suc n) test = cond (all n test) (cond (test n) 0 (suc n)) (lowest_
 
 unfoldable pub task_missing : List Line → ℕ
 task_missing rs = lowest_false (task_count_of rs) (has_t_line rs)
+
+-- what is counted from 1: 0 is none
+unfoldable pub counted : ℕ → Option ℕ
+counted zero = None
+counted (suc n) = Some (suc n)

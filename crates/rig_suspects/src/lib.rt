@@ -5,46 +5,37 @@ ghost use Rattle.std.specs.Prelude.{◌≡◌, ◌≤◌, length};
 ghost use Rattle.rig_tables.specs.Tests.{climb};
 ghost use Rattle.rig_lines.specs.Line.{line_of};
 ghost use Rattle.rig_lines.specs.File.{lines_of};
-ghost use Rattle.rig_suspects.specs.Suspects.{lines_from, fits_key, look_in, task_key, controller_in, stray, shared, unused, task_count_of, task_missing};
+ghost use Rattle.rig_suspects.specs.Suspects.{lines_from, key_of, fits_key, look_in, task_key, flag_key, condition_key, controller_in, stray, shared, unused, task_count_of, task_missing, counted};
 
-// The kinds of lines, by the numbers of crate rig_lines.
-const RIG_LINE: usize = 1;
-
-const T_LINE: usize = 2;
-
-const C_LINE: usize = 3;
-
-const A_LINE: usize = 4;
+use rig_lines::Kind;
 
 // No task has more ancestors than there are tasks.
 const MOST_TASKS: usize = 64;
 
 // What a line must be to be the one that is looked for: of this kind, with number `i` equal to x and number `j` equal to y.
-#[derive(Clone, Copy)]
+#[derive(Debug, Clone, Copy, PartialEq, Eq)]
 pub struct Key {
-    pub kind: usize,
+    pub kind: Kind,
     pub i: usize,
     pub x: u64,
     pub j: usize,
     pub y: u64,
 }
 
+#[tactic(auto, unfolding(crate::specs::Suspects::fits_key))]
 fn fits(line: &[u8], key: Key) -> bool
-    ensures { result ≡ fits_key key (line_of line.now) }
+    ensures { result ≡ fits_key (key_of key) (line_of line.now) }
 {
-    if rig_shapes::kind(line) != key.kind {
-        return false;
-    }
-    if rig_shapes::number(line, key.i) != key.x {
-        return false;
-    }
-    rig_shapes::number(line, key.j) == key.y
+    rig_shapes::has_kind(line, key.kind)
+        && rig_shapes::number(line, key.i) == key.x
+        && rig_shapes::number(line, key.j) == key.y
 }
 
-// Number `m` of the first line from place `from` on that fits the key; 0 where there is none.
+// Number `m` of the first line from place `from` on that fits the key; 0 where there is none: each caller asks what number stands there, and an
+// Option would be made a number again at every call.
 fn look(s: &[u8], from: usize, key: Key, m: usize) -> u64
     requires { from ≤ length s.now }
-    ensures { result ≡ look_in key m (lines_from s.now from) }
+    ensures { result ≡ look_in (key_of key) m (lines_from s.now from) }
 {
     let n = s.len();
     let mut at = from;
@@ -61,15 +52,42 @@ fn look(s: &[u8], from: usize, key: Key, m: usize) -> u64
     0
 }
 
+// The T line of a task.
 fn task_key(t: u64) -> Key
-    ensures { result ≡ task_key t }
+    ensures { key_of result ≡ task_key t }
 {
     Key {
-        kind: T_LINE,
+        kind: Kind::Task,
         i: 0,
         x: t,
         j: 0,
         y: t,
+    }
+}
+
+// A T line with an activation flag.
+fn flag_key(f: u64) -> Key
+    ensures { key_of result ≡ flag_key f }
+{
+    Key {
+        kind: Kind::Task,
+        i: 4,
+        x: f,
+        j: 4,
+        y: f,
+    }
+}
+
+// An A line of condition p of task t.
+fn condition_key(t: u64, p: u64) -> Key
+    ensures { key_of result ≡ condition_key t p }
+{
+    Key {
+        kind: Kind::Line,
+        i: 0,
+        x: t,
+        j: 1,
+        y: p,
     }
 }
 
@@ -97,7 +115,7 @@ fn climbed(s: &[u8], c: u64, k: usize, x: u64) -> u64
 pub fn is_stray(s: &[u8], line: &[u8]) -> bool
     ensures { result ≡ stray (lines_of s.now) (line_of line.now) }
 {
-    if rig_shapes::kind(line) != T_LINE {
+    if !rig_shapes::has_kind(line, Kind::Task) {
         return false;
     }
     let t = rig_shapes::number(line, 0);
@@ -105,49 +123,26 @@ pub fn is_stray(s: &[u8], line: &[u8]) -> bool
     if t <= 1 {
         return c != 0;
     }
-    if c == 0 {
-        return true;
-    }
-    climbed(s, c, MOST_TASKS, t - 1) != c
+    c == 0 || climbed(s, c, MOST_TASKS, t - 1) != c
 }
 
 // A T line whose activation flag another one behind it has too.
+#[tactic(auto, unfolding(crate::specs::Suspects::shared))]
 pub fn is_shared(s: &[u8], line: &[u8], next: usize) -> bool
     requires { next ≤ length s.now }
     ensures { result ≡ shared (line_of line.now) (lines_from s.now next) }
 {
-    if rig_shapes::kind(line) != T_LINE {
-        return false;
-    }
     let f = rig_shapes::number(line, 4);
-    if f == 0 {
-        return false;
-    }
-    let key = Key {
-        kind: T_LINE,
-        i: 4,
-        x: f,
-        j: 4,
-        y: f,
-    };
-    look(s, next, key, 4) == f
+    rig_shapes::has_kind(line, Kind::Task) && f != 0 && look(s, next, flag_key(f), 4) == f
 }
 
 // A C line whose condition no A line names.
+#[tactic(auto, unfolding(crate::specs::Suspects::unused), using(crate::specs::Laws::look_whole))]
 pub fn is_unused(s: &[u8], line: &[u8]) -> bool
     ensures { result ≡ unused (lines_of s.now) (line_of line.now) }
 {
-    if rig_shapes::kind(line) != C_LINE {
-        return false;
-    }
-    let key = Key {
-        kind: A_LINE,
-        i: 0,
-        x: rig_shapes::number(line, 0),
-        j: 1,
-        y: rig_shapes::number(line, 1),
-    };
-    look(s, 0, key, 0) == 0
+    let key = condition_key(rig_shapes::number(line, 0), rig_shapes::number(line, 1));
+    rig_shapes::has_kind(line, Kind::Condition) && look(s, 0, key, 0) == 0
 }
 
 // How many tasks the RIG line names.
@@ -155,7 +150,7 @@ fn task_count(s: &[u8]) -> u64
     ensures { result ≡ task_count_of (lines_of s.now) }
 {
     let key = Key {
-        kind: RIG_LINE,
+        kind: Kind::Rig,
         i: 0,
         x: 1,
         j: 0,
@@ -164,17 +159,15 @@ fn task_count(s: &[u8]) -> u64
     look(s, 0, key, 1)
 }
 
-// The lowest task without a T line; 0 for none.
-pub fn missing_task(s: &[u8]) -> u64
-    ensures { result ≡ task_missing (lines_of s.now) }
+// The lowest task without a T line.
+pub fn missing_task(s: &[u8]) -> Option<u64>
+    ensures { result ≡ counted (task_missing (lines_of s.now)) }
 {
     let n = task_count(s);
-    let mut t: u64 = 0;
-    while t < n {
+    for t in 0..n {
         if look(s, 0, task_key(t + 1), 0) != t + 1 {
-            return t + 1;
+            return Some(t + 1);
         }
-        t += 1;
     }
-    0
+    None
 }

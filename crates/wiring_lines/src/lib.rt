@@ -24,15 +24,13 @@ fn put_cell(out: &mut [u8], at: usize, n: u8) -> usize
 }
 
 // A cell for each cycle.
-fn put_cells(out: &mut [u8], at: usize, cycles: [u8; CYCLES]) -> usize
+fn put_cells(out: &mut [u8], at: usize, cycles: &[u8; CYCLES]) -> usize
     requires { at + cells_room ≤ length out.old }
-    ensures { Wrote out.old at (cells_text (tables.at cycles)) out.new result }
+    ensures { Wrote out.old at (cells_text (tables.at cycles.now)) out.new result }
 {
     let mut p = at;
-    let mut c: usize = 0;
-    while c < CYCLES {
-        p = put_cell(&mut *out, p, cycles[c]);
-        c += 1;
+    for n in cycles {
+        p = put_cell(&mut *out, p, *n);
     }
     p
 }
@@ -43,10 +41,8 @@ fn put_numbers(out: &mut [u8], at: usize) -> usize
     ensures { Wrote out.old at numbers_text out.new result }
 {
     let mut p = at;
-    let mut cycle: usize = 0;
-    while cycle < CYCLES {
+    for cycle in 0..CYCLES {
         p = bench_script::put_field(&mut *out, p, cycle as u32);
-        cycle += 1;
     }
     p
 }
@@ -91,9 +87,9 @@ fn put_head(out: &mut [u8], at: usize, name: &[u8], number: u32, times: u32) -> 
 }
 
 // What stands behind that: the cells in a table, else what more there is to say.
-fn put_rest(out: &mut [u8], at: usize, table: bool, cycles: [u8; CYCLES], more: &[u16]) -> usize
+fn put_rest(out: &mut [u8], at: usize, table: bool, cycles: &[u8; CYCLES], more: &[u16]) -> usize
     requires { (length more.now ≤ 2) × (at + cells_room ≤ length out.old) }
-    ensures { Wrote out.old at (cond table (cells_text (tables.at cycles)) (fields_text more.now)) out.new result }
+    ensures { Wrote out.old at (cond table (cells_text (tables.at cycles.now)) (fields_text more.now)) out.new result }
 {
     if table {
         return put_cells(out, at, cycles);
@@ -109,11 +105,11 @@ pub fn put_line(
     name: &[u8],
     number: u32,
     times: u32,
-    cycles: [u8; CYCLES],
+    cycles: &[u8; CYCLES],
     more: &[u16],
 ) -> usize
     requires { (length name.now ≤ 8) × (length more.now ≤ 2) × (at + line_room ≤ length out.old) }
-    ensures { Wrote out.old at (sheet_line table name.now number times (tables.at cycles) more.now) out.new result }
+    ensures { Wrote out.old at (sheet_line table name.now number times (tables.at cycles.now) more.now) out.new result }
 {
     let a = put_head(&mut *out, at, name, number, times);
     let b = put_rest(&mut *out, a, table, cycles, more);

@@ -18,9 +18,7 @@ fn sheet(out: &mut [u8], file: &[u8], table: bool) -> usize
     if a.no != 0 {
         return wiring_lines::put_refused(out, a.no as u32, a.line as u32);
     }
-    let g = a.rig;
-    let rows = g.row;
-    wiring_text::put_sheet(out, table, rows, g.rows as usize, g.master)
+    wiring_text::put_sheet(out, table, &a.rig)
 }
 
 // Tells it: the sheet of the rig that the input begins with, as the program's arguments ask, and its length. `arguments` is how many there
@@ -38,7 +36,7 @@ pub fn tell(arguments: usize, option: &[u8], input: &[u8], out: &mut [u8]) -> us
     if 2 < arguments {
         return wiring_lines::put_usage(out);
     }
-    if check::same(option, b"--table") {
+    if option == b"--table".as_slice() {
         return sheet(out, &input[..end], true);
     }
     wiring_lines::put_usage(out)

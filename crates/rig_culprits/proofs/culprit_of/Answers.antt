@@ -1,14 +1,22 @@
-use Prim.Native.Nat.{ℕ}
 use mathlib.Core.Path.{sym, refl, ap, ◌∙◌}
 use borrow.Author.Tests.{eq-eqb, ne_eqb}
 use Rattle.laws.specs.Cases.{if_yes, if_no}
-use Rattle.rig_culprits.specs.Culprits.{found_as, culprit_of}
+use Rattle.rig_culprits.specs.Culprits.{culprit_told, culprit_of}
+use Rattle.rig_culprits.specs.Laws.{told_none, told_some}
 use Rattle.rig_culprits.proofs.culprit_of.Goals as goal
 
-pub returns-then-rule-eq-NO_T : goal.returns-then-rule-eq-NO_T
+pub returns-in_err-missing_task : goal.returns-in_err-missing_task
 unfolding culprit_of
-returns-then-rule-eq-NO_T c = c.found.ensures ∙ (ap (λ (n : ℕ). found_as 2 n) c.missing_task.ensures ∙ sym (if_yes _ (eq-eqb _ _ c.if-rule-eq-NO_T.true) refl))
+returns-in_err-missing_task c = ap culprit_told c.from_residual.ensures ∙ (told_none 2 _ (sym c.in_err-missing_task.was ∙ c.missing_task.ensures) ∙ sym (if_yes _ (eq-eqb _ _ c.if-rule.true) refl))
+
+pub returns-then-rule : goal.returns-then-rule
+unfolding culprit_of
+returns-then-rule c = told_some 2 _ _ (sym c.in_ok-missing_task.was ∙ c.missing_task.ensures) ∙ sym (if_yes _ (eq-eqb _ _ c.if-rule.true) refl)
+
+pub returns-in_err-first_guilty : goal.returns-in_err-first_guilty
+unfolding culprit_of
+returns-in_err-first_guilty c = ap culprit_told c.from_residual-in_err-first_guilty.ensures ∙ (told_none 1 _ (sym c.in_err-first_guilty.was ∙ c.first_guilty.ensures) ∙ sym (if_no _ (ne_eqb _ _ c.if-rule.false) refl))
 
 pub returns : goal.returns
 unfolding culprit_of
-returns c = c.found-2.ensures ∙ (ap (λ (n : ℕ). found_as 1 n) c.first_guilty.ensures ∙ sym (if_no _ (ne_eqb _ _ c.if-rule-eq-NO_T.false) refl))
+returns c = told_some 1 _ _ (sym c.in_ok-first_guilty.was ∙ c.first_guilty.ensures) ∙ sym (if_no _ (ne_eqb _ _ c.if-rule.false) refl)

@@ -7,18 +7,18 @@ use Rattle.rig_build.specs.declared.Answer.{Answer}
 use Rattle.rig_culprits.specs.Culprits.{guilty}
 use Rattle.rig_culprits.proofs.is_guilty.Goals as goal
 
-pub returns-then-rule-eq-CONTROLLER : goal.returns-then-rule-eq-CONTROLLER
+pub returns-then-rule : goal.returns-then-rule
 unfolding guilty part
-returns-then-rule-eq-CONTROLLER c = c.is_stray.ensures ∙ sym (if_yes _ (eq-eqb _ _ c.if-rule-eq-CONTROLLER.true) refl)
+returns-then-rule c = c.is_stray.ensures ∙ sym (if_yes _ (eq-eqb _ _ c.if-rule.true) refl)
 
-pub returns-then-rule-eq-SHARED : goal.returns-then-rule-eq-SHARED
+pub returns-then-rule-2 : goal.returns-then-rule-2
 unfolding guilty part
-returns-then-rule-eq-SHARED c = c.is_shared.ensures ∙ sym (if_no _ (ne_eqb _ _ c.if-rule-eq-CONTROLLER.false) (if_yes _ (eq-eqb _ _ c.if-rule-eq-SHARED.true) refl))
+returns-then-rule-2 c = c.is_shared.ensures ∙ sym (if_no _ (ne_eqb _ _ c.if-rule.false) (if_yes _ (eq-eqb _ _ c.if-rule-2.true) refl))
 
-pub returns-then-rule-eq-NO_A : goal.returns-then-rule-eq-NO_A
+pub returns-then-rule-3 : goal.returns-then-rule-3
 unfolding guilty part
-returns-then-rule-eq-NO_A c = c.is_unused.ensures ∙ sym (if_no _ (ne_eqb _ _ c.if-rule-eq-CONTROLLER.false) (if_no _ (ne_eqb _ _ c.if-rule-eq-SHARED.false) (if_yes _ (eq-eqb _ _ c.if-rule-eq-NO_A.true) refl)))
+returns-then-rule-3 c = c.is_unused.ensures ∙ sym (if_no _ (ne_eqb _ _ c.if-rule.false) (if_no _ (ne_eqb _ _ c.if-rule-2.false) (if_yes _ (eq-eqb _ _ c.if-rule-3.true) refl)))
 
 pub returns : goal.returns
 unfolding guilty part
-returns c = ap (λ (a : Answer). eqb a.rule c.args.rule) c.read-a.ensures ∙ sym (if_no _ (ne_eqb _ _ c.if-rule-eq-CONTROLLER.false) (if_no _ (ne_eqb _ _ c.if-rule-eq-SHARED.false) (if_no _ (ne_eqb _ _ c.if-rule-eq-NO_A.false) refl)))
+returns c = ap (λ (a : Answer). eqb a.rule c.args.rule) c.read.ensures ∙ sym (if_no _ (ne_eqb _ _ c.if-rule.false) (if_no _ (ne_eqb _ _ c.if-rule-2.false) (if_no _ (ne_eqb _ _ c.if-rule-3.false) refl)))

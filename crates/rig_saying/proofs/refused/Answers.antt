@@ -9,8 +9,8 @@ why-b-requires c =
     let u = c.head-a.ensures in
     omega (arith, d, u.place, u.size, c.requires)
 
-pub end-requires : goal.end-requires
-end-requires c =
+pub put_text-requires : goal.put_text-requires
+put_text-requires c =
     let a = c.args in
     let d = head_short a.number a.line in
     let e = why_short a.file.now a.number a.line a.rule in
@@ -21,4 +21,4 @@ end-requires c =
 pub returns : goal.returns
 returns c =
     let a = c.args in
-    refused_wrote a.out.now a.file.now a.number a.line a.rule c.requires _ _ _ _ _ _ c.head-a.ensures c.why-b.ensures c.end.ensures
+    refused_wrote a.out.now a.file.now a.number a.line a.rule c.requires _ _ _ _ _ _ c.head-a.ensures c.why-b.ensures c.put_text.ensures

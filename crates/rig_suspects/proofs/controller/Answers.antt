@@ -1,6 +1,5 @@
 use mathlib.Core.Path.{ap, ◌∙◌}
-use Rattle.rig_suspects.specs.Suspects.{lines_from, look_in, task_key}
-use Rattle.rig_suspects.specs.declared.Key.{Key}
+use Rattle.rig_suspects.specs.Suspects.{Key, lines_from, look_in, task_key}
 use Rattle.rig_suspects.specs.Laws.{look_whole}
 use Rattle.rig_suspects.proofs.controller.Goals as goal
 

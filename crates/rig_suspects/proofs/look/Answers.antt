@@ -1,9 +1,10 @@
 use borrow.Author.Rules.{rules}
-use Prim.Native.Nat.{◌-◌, ◌<◌}
+use Prim.Native.Nat.{◌<◌}
 use mathlib.Core.Path.{refl, sym, ◌∙◌}
 use native.Mathlib.Omega.{arith}
 use lib.ListN.{length}
 use Rattle.text.specs.Split.{part}
+use Rattle.rig_suspects.specs.Suspects.{key_of}
 use Rattle.rig_suspects.specs.Laws.{look_here, look_on, look_end, look_none}
 use Rattle.rig_suspects.proofs.look.Goals as goal
 
@@ -14,7 +15,7 @@ pub returns-then-e-n : goal.returns-then-e-n
 returns-then-e-n c =
     let i = c.loop-at in
     let e = c.line_of-e in
-    look_end c.args.key c.args.m c.args.s.now i.at e.result (e.ensures.0 i.invariant.1) (omega arith) ∙ i.invariant.2
+    look_end (key_of c.args.key) c.args.m c.args.s.now i.at e.result (e.ensures.0 i.invariant.1) (omega arith) ∙ i.invariant.2
 
 pub slice_bounds-fits-count : goal.slice_bounds-fits-count
 slice_bounds-fits-count c =
@@ -61,7 +62,7 @@ returns-then-fits c =
     let f = e.ensures.0 i.invariant.1 in
     let a = f.high in
     let k : e.result < length s = omega (arith, a, c.if-e-n.false, i.invariant.0) in
-    c.number.ensures ∙ (look_here c.args.key c.args.m s i.at e.result f k (sym c.fits.ensures ∙ c.if-fits.true) ∙ i.invariant.2)
+    c.number.ensures ∙ (look_here (key_of c.args.key) c.args.m s i.at e.result f k (sym c.fits.ensures ∙ c.if-fits.true) ∙ i.invariant.2)
 
 pub overflow_add-at : goal.overflow_add-at
 overflow_add-at c =
@@ -86,9 +87,9 @@ loop-at-preserved c =
     let f = e.ensures.0 i.invariant.1 in
     let a = f.high in
     let k : e.result < length s = omega (arith, a, c.if-e-n.false, i.invariant.0) in
-    (i.invariant.0, omega (arith, k), look_on c.args.key c.args.m s i.at e.result f k (sym c.fits.ensures ∙ c.if-fits.false) ∙ i.invariant.2)
+    (i.invariant.0, omega (arith, k), look_on (key_of c.args.key) c.args.m s i.at e.result f k (sym c.fits.ensures ∙ c.if-fits.false) ∙ i.invariant.2)
 
 pub returns : goal.returns
 returns c =
     let i = c.loop-at in
-    look_none c.args.key c.args.m c.args.s.now i.at i.invariant.1 (omega (arith, c.loop-at-test.false, i.invariant.0)) ∙ i.invariant.2
+    look_none (key_of c.args.key) c.args.m c.args.s.now i.at i.invariant.1 (omega (arith, c.loop-at-test.false, i.invariant.0)) ∙ i.invariant.2

@@ -1,4 +1,4 @@
-use Prim.Native.Nat.{◌-◌, ◌≤◌}
+use Prim.Native.Nat.{◌≤◌}
 use mathlib.Core.Path.{◌≡◌}
 use mathlib.Core.Bool.{true}
 use Rattle.laws.specs.All.{all}
@@ -8,6 +8,3 @@ use Rattle.rig_suspects.proofs.missing_task.Given as goal
 
 abbrev pub invariant-loop-t : goal.invariant-loop-t
 invariant-loop-t l = (l.n ≡ task_count_of (lines_of l.s)) × (l.t ≤ l.n) × (all l.t (has_t_line (lines_of l.s)) ≡ true)
-
-abbrev pub decreases-loop-t : goal.decreases-loop-t
-decreases-loop-t l = l.n - l.t

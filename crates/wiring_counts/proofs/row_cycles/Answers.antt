@@ -1,5 +1,4 @@
 use mathlib.Core.Path.{ap, ◌∙◌}
-use Prim.Native.Nat.{◌-◌}
 use native.Mathlib.Omega.{arith}
 use Rattle.laws.specs.Bits.{bit}
 use Rattle.wiring_counts.specs.Laws.{cycles_none, cycles_next, cycles_all}
@@ -15,7 +14,7 @@ pub loop-c-preserved : goal.loop-c-preserved
 loop-c-preserved c =
     let l = c.loop-c in
     let d = c.due.ensures in
-    (cycles_next _ l.c c.bit.result l.cycles c.loop-c-test.true l.invariant.0 (c.bit.ensures.0 ∙ ap bit d), omega (arith, c.loop-c-test.true))
+    (cycles_next _ l.c c.from.result l.cycles c.loop-c-test.true l.invariant.0 (c.from.ensures ∙ ap bit d), omega (arith, c.loop-c-test.true))
 
 pub returns : goal.returns
 returns c =

@@ -1,4 +1,4 @@
-use Prim.Native.Nat.{◌-◌, ◌≤◌}
+use Prim.Native.Nat.{◌≤◌}
 use Rattle.rules.specs.Frame.{due_in}
 use Rattle.compool.specs.View.{row_of}
 use Rattle.wiring_counts.specs.Cycles.{InCycles}
@@ -6,6 +6,3 @@ use Rattle.wiring_counts.proofs.row_cycles.Given as goal
 
 abbrev pub invariant-loop-c : goal.invariant-loop-c
 invariant-loop-c l = InCycles (due_in (row_of l.row)) l.c l.cycles × (l.c ≤ 64)
-
-abbrev pub decreases-loop-c : goal.decreases-loop-c
-decreases-loop-c l = 64 - l.c

@@ -1,4 +1,3 @@
-use Prim.Native.Nat.{◌-◌}
 use native.Mathlib.Omega.{arith}
 use Rattle.wiring_counts.specs.Laws.{cycles_none, cycles_next, cycles_all}
 use Rattle.wiring_counts.proofs.terminal_cycles.Goals as goal

@@ -1,4 +1,3 @@
-use Prim.Native.Nat.{◌-◌}
 use Rattle.wiring_lines.specs.Line.{numbers_text}
 use Rattle.wiring_lines.specs.Laws.Each.{telling_none, telling_room, telling_next, telling_all}
 use Rattle.wiring_lines.specs.Laws.Lines.{field_short}

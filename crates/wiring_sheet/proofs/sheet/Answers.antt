@@ -1,5 +1,5 @@
 -- The answer's number and line fit, and the sheet or the refusal is what the file's text asks for.
-use Rattle.std.proofs.Common.{rules, arith}
+use Rattle.std.proofs.Common.{rules}
 use Rattle.wiring_sheet.specs.Laws.{fits, line_small, sheet_refused, sheet_right}
 use Rattle.wiring_sheet.proofs.sheet.Goals as goal
 

@@ -6,5 +6,5 @@ use Rattle.wiring_sheet.proofs.tell.Goals as goal
 pub slice_bounds-sheet-end : goal.slice_bounds-sheet-end
 slice_bounds-sheet-end c = simp length-take (omega (arith, end_fits _ _ c.rig_end-end.ensures))
 
-pub slice_bounds-sheet-end-then-same : goal.slice_bounds-sheet-end-then-same
-slice_bounds-sheet-end-then-same c = simp length-take (omega (arith, end_fits _ _ c.rig_end-end.ensures))
+pub slice_bounds-sheet-end-then-eq : goal.slice_bounds-sheet-end-then-eq
+slice_bounds-sheet-end-then-eq c = simp length-take (omega (arith, end_fits _ _ c.rig_end-end.ensures))

@@ -5,4 +5,4 @@ use Rattle.rig_shapes.proofs.fields.kind.Goals as goal
 
 pub returns : goal.returns
 unfolding part
-returns c = (c.kind_in.ensures.0 ∙ kind_start c.args.line.now c.find-q.result c.find-q.ensures, c.kind_in.ensures.1)
+returns c = c.kind_in.ensures ∙ kind_start c.args.line.now c.find-q.result c.find-q.ensures

@@ -1,7 +1,5 @@
-use Prim.Native.Nat.{◌-◌}
 use mathlib.Core.Path.{refl, ◌∙◌}
 use native.Mathlib.Omega.{arith}
-use Rattle.decimal.specs.Decimal as D
 use Rattle.text.specs.Split.{part}
 use Rattle.rig_shapes.specs.Laws.{nums_start, nums_here, nums_next, nums_end}
 use Rattle.rig_shapes.proofs.fields.number.Goals as goal

@@ -1,24 +1,24 @@
 use borrow.Author.Rules.{rules}
-use Prim.Native.Nat.{ℕ, ◌-◌, ◌<◌}
+use Prim.Native.Nat.{ℕ, ◌<◌}
 use mathlib.Core.Path.{refl, sym, ap, ◌∙◌}
 use mathlib.Core.List.{List}
 use native.Mathlib.Omega.{arith}
 use lib.ListN.{length}
-use borrow.Author.Tests.{eq-eqb, ne_eqb, le-leb, lt-leb}
+use borrow.Author.Tests.{le-leb, lt-leb}
 use Rattle.laws.specs.Cases.{if_yes, if_no}
 use Rattle.text.specs.Split.{split, part}
 use Rattle.text.specs.Laws.Parts.{part_all}
 use Rattle.rig_shapes.specs.Shape.{piece_reason, reason_of}
 use Rattle.rig_shapes.specs.Laws.{reason_end, reason_next, reason_none}
-use Rattle.rig_shapes.proofs.reasons.reason.Goals as goal
+use Rattle.rig_shapes.proofs.reasons.why.Goals as goal
 
-pub returns-then-n-eq0 : goal.returns-then-n-eq0
+pub returns-then-is_empty : goal.returns-then-is_empty
 unfolding reason_of
-returns-then-n-eq0 c = sym (if_yes _ (eq-eqb _ _ c.if-n-eq0.true) refl)
+returns-then-is_empty c = sym (if_yes _ (sym c.is_empty.ensures ∙ c.if-is_empty.true) refl)
 
 pub loop-at-init : goal.loop-at-init
 unfolding reason_of
-loop-at-init c = (refl, omega arith, ap (λ (l : List ℕ). piece_reason c.args.number (split 10 l)) (part_all c.args.s.now) ∙ sym (if_no _ (ne_eqb _ _ c.if-n-eq0.false) refl))
+loop-at-init c = (refl, omega arith, ap (λ (l : List ℕ). piece_reason c.args.number (split 10 l)) (part_all c.args.s.now) ∙ sym (if_no _ (sym c.is_empty.ensures ∙ c.if-is_empty.false) refl))
 
 pub returns-then-e-n : goal.returns-then-e-n
 returns-then-e-n c =

@@ -1,7 +1,7 @@
 use native.Mathlib.Omega.{arith}
 use Rattle.bench_script.specs.Laws.Written.{dec_length}
 use Rattle.rig_phrases.specs.Writing.{number_wrote, number_left}
-use Rattle.rig_phrases.proofs.writing.put_number.Goals as goal
+use Rattle.rig_phrases.proofs.put_number.Goals as goal
 
 pub put_number-requires : goal.put_number-requires
 put_number-requires c =
