@@ -18,8 +18,8 @@ pub const LINE: usize = 24;
 const LINES: usize = 65536;
 
 // The bytes that are kept, where their last line starts, how many of the piece were taken, and whether the rig's text is
-// whole: then it ends at `from`.
-#[derive(Clone, Copy)]
+// whole: then it ends at `from`. No enum with `ready` for its variants: the three numbers are told in both cases.
+#[derive(Debug, Clone, Copy, PartialEq, Eq)]
 pub struct Kept {
     pub at: usize,
     pub from: usize,
@@ -32,10 +32,7 @@ fn run_ends(keep: &[u8], from: usize, at: usize, b: u8) -> bool
     requires { (from ≤ at) × (at ≤ length keep.now) }
     ensures { result ≡ run_ends_at (take at keep.now) from b }
 {
-    if b != LF {
-        return false;
-    }
-    bench_read::is_run(&keep[from..at])
+    b == LF && bench_read::is_run(&keep[from..at])
 }
 
 // Where the last line starts once the byte stands before `at`.
@@ -52,18 +49,15 @@ pub fn scan(keep: &mut [u8], start: usize, line: usize, piece: &[u8]) -> Kept
 {
     let mut at = start;
     let mut from = line;
-    let mut i: usize = 0;
-    while i < piece.len() {
-        let b = piece[i];
-        let run = run_ends(&*keep, from, at, b);
-        keep[at] = b;
+    for (i, b) in piece.iter().enumerate() {
+        let run = run_ends(&*keep, from, at, *b);
+        keep[at] = *b;
         at += 1;
-        i += 1;
         if run {
             return Kept {
                 at,
                 from,
-                took: i,
+                took: i + 1,
                 ready: true,
             };
         }
@@ -71,16 +65,16 @@ pub fn scan(keep: &mut [u8], start: usize, line: usize, piece: &[u8]) -> Kept
             return Kept {
                 at,
                 from: at,
-                took: i,
+                took: i + 1,
                 ready: true,
             };
         }
-        from = line_start(from, at, b);
+        from = line_start(from, at, *b);
     }
     Kept {
         at,
         from,
-        took: i,
+        took: piece.len(),
         ready: false,
     }
 }
@@ -102,10 +96,10 @@ pub fn put_last(out: &mut [u8], line: &[u8]) -> usize
     requires { 2 ≤ length out.old }
     ensures { Wrote out.old 0 (last_text line.now) out.new result }
 {
-    if 0 < line.len() {
-        return bench_script::put_wrong(out, 0);
+    if line.is_empty() {
+        return 0;
     }
-    0
+    bench_script::put_wrong(out, 0)
 }
 
 // The number of a line as it is printed: a rig file of at most 40,960 bytes has no line of a larger one.

@@ -6,17 +6,9 @@ ghost use Rattle.std.specs.Io.KnownBytes.{Appends};
 ghost use Rattle.bench_io.specs.Brought.{Brings, Takes};
 
 use std::io::{Error, ErrorKind, Read, Write};
-use std::thread;
+use std::{io, thread};
 
-// What a read brought: so many bytes, the end of the input, or a failure.
-#[derive(Clone, Copy)]
-pub enum Input {
-    Bytes(usize),
-    End,
-    Failed(Error),
-}
-
-// What became of a write: how many of the bytes went out, and why not all.
+// What became of a write: how many of the bytes went out, and why not all. No Result: some went out where a write failed, too.
 #[derive(Clone, Copy)]
 pub struct Output {
     pub count: usize,
@@ -35,23 +27,23 @@ fn again(e: &Error) -> bool {
     }
 }
 
-// One read: whatever is there, as soon as there is anything. Nothing that the reader had is lost.
-pub fn read_in<R: Read>(from: &mut R, input: &mut [u8]) -> Input
+// One read, as `read` of the standard library tells it: so many bytes, whatever is there, as soon as there is anything; 0 at the end of the
+// input; or a failure. Nothing that the reader had is lost.
+pub fn read_in<R: Read>(from: &mut R, input: &mut [u8]) -> io::Result<usize>
     ensures brings { Brings (length input.new) result }
     ensures bytes { Takes (R.remaining from.old) (R.remaining from.new) input.new result }
 {
     for _ in 0..u64::MAX {
         match from.read(&mut *input) {
-            Ok(0) => return Input::End,
-            Ok(n) => return Input::Bytes(n),
+            Ok(n) => return Ok(n),
             Err(e) => {
                 if !again(&e) {
-                    return Input::Failed(e);
+                    return Err(e);
                 }
             }
         }
     }
-    Input::Failed(Error::from(ErrorKind::WouldBlock))
+    Err(Error::from(ErrorKind::WouldBlock))
 }
 
 // How many of the bytes went out, from the first on, each once. They are fewer than all only where a write failed, or would have to wait for ever.
@@ -60,16 +52,11 @@ pub fn write_out<W: Write>(to: &mut W, out: &[u8]) -> Output
     ensures all { IfNone result.failure (result.count ≡ length out.now) }
     ensures bytes { Appends (W.contents to.old) (W.contents to.new) (take result.count out.now) }
 {
-    let mut turns = u64::MAX;
     let mut done: usize = 0;
-    while done < out.len() {
-        if turns == 0 {
-            return Output {
-                count: done,
-                failure: Some(Error::from(ErrorKind::WouldBlock)),
-            };
+    for _ in 0..u64::MAX {
+        if done == out.len() {
+            break;
         }
-        turns -= 1;
         match to.write(&out[done..]) {
             Ok(n) => done += n,
             Err(e) => {
@@ -82,8 +69,13 @@ pub fn write_out<W: Write>(to: &mut W, out: &[u8]) -> Output
             }
         }
     }
+    let failure = if done == out.len() {
+        None
+    } else {
+        Some(Error::from(ErrorKind::WouldBlock))
+    };
     Output {
         count: done,
-        failure: None,
+        failure,
     }
 }

@@ -11,9 +11,7 @@ ghost use Rattle.bench_morning.specs.declared.Phase.TheVariants.{Opening};
 
 use bench_input::LINE;
 use exec::{Answer, Exec};
-
-// The number of a rig that breaks a rule; an accepted file's rig breaks none.
-const BROKEN_RULE: u32 = 4;
+use refusals::Refusal;
 
 // Where a stream stands: in the rig's text; in the script; or behind a refused rig, where nothing more is said.
 #[derive(Clone, Copy)]
@@ -106,7 +104,8 @@ pub fn start(panel: bool, text: &[u8], out: &mut [u8]) -> Started
     let s = exec::start(g, rig::table_of(cycles));
     let answer = s.answer;
     let Answer::Accepted(report) = answer else {
-        return refused(BROKEN_RULE, 0, out);
+        // An accepted file's rig breaks no rule.
+        return refused(Refusal::RuleBroken.number() as u32, 0, out);
     };
     let exec = s.exec;
     let running = exec.st.running as u32;

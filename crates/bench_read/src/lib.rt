@@ -7,9 +7,6 @@ ghost use Rattle.bench_script.specs.Input.{is_run, rig_end};
 
 use bench_script::Said;
 
-// The letters of RUN.
-const RUN: usize = 3;
-
 fn verb_of(f: &[u8]) -> u8
     ensures { result ≡ verb_of f.now }
 {
@@ -23,61 +20,46 @@ fn of_panel(panel: bool, said: Said) -> Said
     if panel { said } else { Said::Wrong }
 }
 
+// The verbs of a line with no number, with one, and with two: the letters of Said::letter, read. A match, and no search through the letters:
+// how many numbers a line has says which of them count.
+#[tactic(auto, unfolding(bench_script::specs::Script::alone))]
 fn alone(panel: bool, v: u8) -> Said
     ensures { result ≡ alone panel v }
 {
-    if v == b'F' {
-        return Said::Finish;
+    match v {
+        b'F' => Said::Finish,
+        b'K' => Said::Tick,
+        b'V' => of_panel(panel, Said::NextWaking),
+        _ => Said::Wrong,
     }
-    if v == b'K' {
-        return Said::Tick;
-    }
-    if v == b'V' {
-        return of_panel(panel, Said::NextWaking);
-    }
-    Said::Wrong
 }
 
+#[tactic(auto, unfolding(bench_script::specs::Script::with_number))]
 fn with_number(panel: bool, v: u8, n: u32) -> Said
     ensures { result ≡ with_number panel v n }
 {
-    if v == b'S' {
-        return Said::Schedule(n);
+    match v {
+        b'S' => Said::Schedule(n),
+        b'X' => Said::Cancel(n),
+        b'Z' => Said::Terminate(n),
+        b'U' => Said::Until(n),
+        b'R' => Said::Cycles(n),
+        b'Q' => Said::Ask(n),
+        b'O' => of_panel(panel, Said::Overruns(n)),
+        _ => Said::Wrong,
     }
-    if v == b'X' {
-        return Said::Cancel(n);
-    }
-    if v == b'Z' {
-        return Said::Terminate(n);
-    }
-    if v == b'U' {
-        return Said::Until(n);
-    }
-    if v == b'R' {
-        return Said::Cycles(n);
-    }
-    if v == b'Q' {
-        return Said::Ask(n);
-    }
-    if v == b'O' {
-        return of_panel(panel, Said::Overruns(n));
-    }
-    Said::Wrong
 }
 
+#[tactic(auto, unfolding(bench_script::specs::Script::with_value))]
 fn with_value(v: u8, f: u32, b: bool) -> Said
     ensures { result ≡ with_value v f b }
 {
-    if v == b'L' {
-        return Said::Latched(f, b);
+    match v {
+        b'L' => Said::Latched(f, b),
+        b'N' => Said::Unlatched(f, b),
+        b'G' => Said::Signal(f, b),
+        _ => Said::Wrong,
     }
-    if v == b'N' {
-        return Said::Unlatched(f, b);
-    }
-    if v == b'G' {
-        return Said::Signal(f, b);
-    }
-    Said::Wrong
 }
 
 // Two numbers: of the panel's Y both may be any, else the second is a value.
@@ -125,19 +107,11 @@ pub fn read_line(panel: bool, line: &[u8]) -> Said
 }
 
 // Whether a line, without its LF, is RUN.
+#[tactic(auto, unfolding(bench_script::specs::Input::is_run))]
 pub fn is_run(line: &[u8]) -> bool
     ensures { result ≡ is_run line.now }
 {
-    if line.len() != RUN {
-        return false;
-    }
-    if line[0] != b'R' {
-        return false;
-    }
-    if line[1] != b'U' {
-        return false;
-    }
-    line[2] == b'N'
+    line == b"RUN".as_slice()
 }
 
 // Where the rig ends: before the first line RUN, or with the input.

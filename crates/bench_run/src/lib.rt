@@ -7,7 +7,6 @@ ghost use Rattle.bench_script.specs.Output.{turn_room};
 ghost use Rattle.bench_input.specs.Opening.{full};
 ghost use Rattle.bench_morning.specs.Stream.{HoldsIn, nothing_more};
 
-use bench_io::Input;
 use bench_morning::{Phase, Stream};
 use std::io;
 use std::io::{Error, ErrorKind, Read, Write};
@@ -38,7 +37,8 @@ fn failed(rt: &impl Eprint, what: &[u8], e: Error) -> Stream
     bench_morning::over()
 }
 
-// All of a piece is fed, and what it decides is written.
+// All of a piece is fed, and what it decides is written. The buffers are lent one by one, as the stream takes them: of the piece only a part is fed,
+// and a struct of the three would be taken apart at each call.
 fn take<W: Write>(
     rt: &impl Eprint,
     to: &mut W,
@@ -53,10 +53,10 @@ fn take<W: Write>(
 {
     let mut stream = s;
     let mut from: usize = 0;
+    // No `for`: a feed takes as many bytes as there is room for.
     while from < piece.len() {
         let fed = bench_stream::feed(stream, &mut *keep, &piece[from..], &mut *out);
-        let n = fed.wrote;
-        if let Some(e) = bench_io::write_out(&mut *to, &out[..n]).failure {
+        if let Some(e) = bench_io::write_out(&mut *to, &out[..fed.wrote]).failure {
             return failed(rt, output, e);
         }
         stream = fed.stream;
@@ -95,11 +95,13 @@ fn go_on<R: io::Input + Print + Eprint>(
     let mut from = rt.reader();
     let mut to = io::writer(rt);
     let mut stream = bench_morning::begin(panel);
-    let mut turns = u64::MAX;
-    while 0 < turns {
-        turns -= 1;
+    for _ in 0..u64::MAX {
         match bench_io::read_in(&mut from, &mut *piece) {
-            Input::Bytes(n) => {
+            Ok(0) => {
+                finish(rt, &mut to, stream, keep, out, output);
+                return;
+            }
+            Ok(n) => {
                 stream = take(
                     rt,
                     &mut to,
@@ -109,16 +111,11 @@ fn go_on<R: io::Input + Print + Eprint>(
                     &mut *out,
                     output,
                 );
-                let phase = stream.phase;
-                if let Phase::Over = phase {
+                if stream.phase == Phase::Over {
                     return;
                 }
             }
-            Input::End => {
-                finish(rt, &mut to, stream, keep, out, output);
-                return;
-            }
-            Input::Failed(e) => {
+            Err(e) => {
                 tell(rt, input, e);
                 return;
             }

@@ -3,9 +3,27 @@
 use Rattle.std.specs.Prelude.{ℕ, Bool, cond, ◌&&◌, List, [], ◌∷◌, ltb, eqb}
 use Rattle.decimal.specs.Decimal.{cap, number}
 use Rattle.text.specs.Split.{split}
-use Rattle.bench_script.specs.Letters.{tab, schedule_verb, cancel_verb, terminate_verb, finish_verb, tick_verb, until_verb, cycles_verb, latched_verb, unlatched_verb, signal_verb, ask_verb, next_waking_verb, overruns_verb, why_verb}
+use Rattle.bench_script.specs.Letters.{tab, question, schedule_verb, cancel_verb, terminate_verb, finish_verb, tick_verb, until_verb, cycles_verb, latched_verb, unlatched_verb, signal_verb, ask_verb, next_waking_verb, overruns_verb, why_verb}
 use Rattle.bench_script.specs.declared.Said.{Said}
 use Rattle.bench_script.specs.declared.Said.TheVariants.{Schedule, Cancel, Terminate, Finish, Tick, Until, Cycles, Latched, Unlatched, Signal, Ask, NextWaking, Overruns, WhyNot, Wrong}
+
+-- the letter of a verb
+abbrev pub letter_of : Said → ℕ
+letter_of (Schedule t) = schedule_verb
+letter_of (Cancel t) = cancel_verb
+letter_of (Terminate t) = terminate_verb
+letter_of Finish = finish_verb
+letter_of Tick = tick_verb
+letter_of (Until t) = until_verb
+letter_of (Cycles n) = cycles_verb
+letter_of (Latched f v) = latched_verb
+letter_of (Unlatched f v) = unlatched_verb
+letter_of (Signal f v) = signal_verb
+letter_of (Ask f) = ask_verb
+letter_of NextWaking = next_waking_verb
+letter_of (Overruns t) = overruns_verb
+letter_of (WhyNot t d) = why_verb
+letter_of Wrong = question
 
 -- a verb is one letter; 0 is none
 unfoldable pub verb_of : List ℕ → ℕ

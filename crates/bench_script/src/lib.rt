@@ -4,6 +4,7 @@
 ghost use Rattle.std.specs.Prelude.{◌≡◌, [], ◌∷◌, ◌+◌, ◌*◌, ◌≤◌, leb, length};
 ghost use Rattle.bench_script.specs.Output.{fields_text, if_any, wrong_text, room_of_field, turn_room};
 ghost use Rattle.bench_script.specs.Letters.{start_name};
+ghost use Rattle.bench_script.specs.Script.{letter_of};
 ghost use Rattle.put_text.specs.Wrote.{Wrote};
 ghost use Rattle.bench_script.specs.Laws.Written.{Begun};
 
@@ -22,7 +23,7 @@ pub const START_ROOM: usize = 64;
 pub const TURN_ROOM: usize = 2048;
 
 // What a script line says: a call with its numbers, a question of the panel, or nothing that a script line may say.
-#[derive(Clone, Copy)]
+#[derive(Debug, Clone, Copy, PartialEq, Eq)]
 pub enum Said {
     Schedule(u32),
     Cancel(u32),
@@ -38,7 +39,33 @@ pub enum Said {
     NextWaking,
     Overruns(u32),
     WhyNot(u32, u32),
+    // Not an Option's none: its line is answered too, with a letter of its own.
     Wrong,
+}
+
+impl Said {
+    // The letter of its verb, ? for a line that says nothing.
+    pub fn letter(self) -> u8
+        ensures { result ≡ letter_of self }
+    {
+        match self {
+            Said::Schedule(_) => b'S',
+            Said::Cancel(_) => b'X',
+            Said::Terminate(_) => b'Z',
+            Said::Finish => b'F',
+            Said::Tick => b'K',
+            Said::Until(_) => b'U',
+            Said::Cycles(_) => b'R',
+            Said::Latched(_, _) => b'L',
+            Said::Unlatched(_, _) => b'N',
+            Said::Signal(_, _) => b'G',
+            Said::Ask(_) => b'Q',
+            Said::NextWaking => b'V',
+            Said::Overruns(_) => b'O',
+            Said::WhyNot(_, _) => b'Y',
+            Said::Wrong => b'?',
+        }
+    }
 }
 
 // A tab and the decimal of n are written at `at`; the place after them is answered.
@@ -46,10 +73,8 @@ pub fn put_field(out: &mut [u8], at: usize, n: u32) -> usize
     requires { at + room_of_field ≤ length out.old }
     ensures { Wrote out.old at (fields_text (n ∷ [])) out.new result }
 {
-    let a = at + 1;
-    let w = n as u64;
     out[at] = TAB;
-    decimal::put_number(out, a, w)
+    decimal::put_number(out, at + 1, n as u64)
 }
 
 // The same of a number of which one, `none`, says that there is none: then nothing is written.
@@ -63,23 +88,14 @@ pub fn put_if_any(out: &mut [u8], at: usize, none: u32, n: u32) -> usize
     put_field(out, at, n)
 }
 
-fn wide(w: u16) -> u32
-    ensures { result ≡ w }
-{
-    w as u32
-}
-
 // Each word after a tab.
 pub fn put_words(out: &mut [u8], at: usize, words: &[u16]) -> usize
     requires { at + room_of_field * length words.now ≤ length out.old }
     ensures { Wrote out.old at (fields_text words.now) out.new result }
 {
     let mut p = at;
-    let mut i: usize = 0;
-    while i < words.len() {
-        let w = wide(words[i]);
-        p = put_field(&mut *out, p, w);
-        i += 1;
+    for w in words {
+        p = put_field(&mut *out, p, *w as u32);
     }
     p
 }
@@ -108,10 +124,7 @@ pub fn put_answer(
 pub fn has_room(all: usize, at: usize) -> bool
     ensures { result ≡ leb (at + turn_room) all }
 {
-    if all < TURN_ROOM {
-        return false;
-    }
-    at <= all - TURN_ROOM
+    all >= TURN_ROOM && at <= all - TURN_ROOM
 }
 
 // "prints ? alone"

@@ -21,7 +21,7 @@ fn put_extra(verb: u8, report: Report, words: &[u16], out: &mut [u8], at: usize)
     ensures { Wrote out.old at (fields_text (extra verb (report_of report) words.now)) out.new result }
 {
     if verb == b'K' {
-        let n = least(report.words, words.len());
+        let n = (report.words as usize).min(words.len());
         return bench_script::put_words(out, at, &words[..n]);
     }
     if verb == b'Q' {
@@ -37,13 +37,6 @@ fn put_extra(verb: u8, report: Report, words: &[u16], out: &mut [u8], at: usize)
         return bench_script::put_if_any(out, at, NO_POSITION, report.value);
     }
     at
-}
-
-fn least(n: u32, most: usize) -> usize
-    ensures { result ≡ min n most }
-{
-    let k = n as usize;
-    if k < most { k } else { most }
 }
 
 fn number_of(a: Answer) -> u32

@@ -27,10 +27,7 @@ pub fn talk(s: Stream, piece: &[u8], out: &mut [u8], place: usize) -> Fed
         let b = piece[i];
         i += 1;
         if b == LF {
-            let t = bench_turn::take_line(s.panel, exec, &line[..held], &mut *out, at);
-            let st = t.st;
-            exec.st = st;
-            at = t.at;
+            at = bench_turn::take_turn(s.panel, &mut exec, &line[..held], &mut *out, at);
             held = 0;
             continue;
         }

@@ -9,32 +9,14 @@ use Rattle.exec.specs.Call.{bit, answer_of, Meets}
 use Rattle.exec.specs.Call.{with_state}
 use Rattle.exec.specs.declared.Exec.{Exec}
 use Rattle.exec.specs.declared.Step.{Step}
+pub use Rattle.bench_script.specs.Script.{letter_of}
 use Rattle.bench_script.specs.Script.{said_of}
-use Rattle.bench_script.specs.Letters.{question, schedule_verb, cancel_verb, terminate_verb, finish_verb, tick_verb, until_verb, cycles_verb, latched_verb, unlatched_verb, signal_verb, ask_verb, next_waking_verb, overruns_verb, why_verb}
 use Rattle.bench_script.specs.Output.{wrong_text, turn_room}
 use Rattle.bench_show.specs.Shown.{words_lent, text_of}
 use Rattle.put_text.specs.Wrote.{Wrote}
 use Rattle.bench_script.specs.declared.Said.{Said}
 use Rattle.bench_script.specs.declared.Said.TheVariants.{Schedule, Cancel, Terminate, Finish, Tick, Until, Cycles, Latched, Unlatched, Signal, Ask, NextWaking, Overruns, WhyNot, Wrong}
 use Rattle.bench_turn.specs.declared.Turn.{Turn}
-
--- the letter of a verb
-abbrev pub letter_of : Said → ℕ
-letter_of (Schedule t) = schedule_verb
-letter_of (Cancel t) = cancel_verb
-letter_of (Terminate t) = terminate_verb
-letter_of Finish = finish_verb
-letter_of Tick = tick_verb
-letter_of (Until t) = until_verb
-letter_of (Cycles n) = cycles_verb
-letter_of (Latched f v) = latched_verb
-letter_of (Unlatched f v) = unlatched_verb
-letter_of (Signal f v) = signal_verb
-letter_of (Ask f) = ask_verb
-letter_of NextWaking = next_waking_verb
-letter_of (Overruns t) = overruns_verb
-letter_of (WhyNot t d) = why_verb
-letter_of Wrong = question
 
 -- the call of a line, or that it is none; a tick is lent words of 0
 pub data Asked : Type 0 where

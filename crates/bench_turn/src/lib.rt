@@ -2,15 +2,14 @@
 #![tactic(auto)]
 
 ghost use Rattle.std.specs.Prelude.{◌≡◌};
-ghost use Rattle.bench_turn.specs.Turn.{letter_of, Turns};
+ghost use Rattle.exec.specs.Call.{with_state};
+ghost use Rattle.bench_turn.specs.Turn.{Turns};
 ghost use Rattle.bench_turn.specs.Laws.Turn.{Made};
 
 use bench_script::Said;
-use exec::{Answer, Exec, Step};
+use exec::{Answer, Exec, answer_of};
 use exec_state::State;
-
-// The number of a line that has the wrong shape.
-const WRONG_SHAPE: u8 = 1;
+use refusals::Refusal;
 
 // "Its lent buffer has at least 128 words"
 const TICK_WORDS: usize = 128;
@@ -23,83 +22,64 @@ pub struct Turn {
     pub at: usize,
 }
 
-// The letter of a verb, ? for a line that says nothing.
-fn letter(said: Said) -> u8
-    ensures { result ≡ letter_of said }
+// The call that a line asks for, over the record where it stands; only a tick writes to the words. "any other script line is refused by 1"
+fn ask(e: &mut Exec, said: Said, words: &mut [u16]) -> Answer
+    ensures { Made e.old said words.old (record { exec = e.new; answer = result }) words.new }
 {
     match said {
-        Said::Schedule(t) => b'S',
-        Said::Cancel(t) => b'X',
-        Said::Terminate(t) => b'Z',
-        Said::Finish => b'F',
-        Said::Tick => b'K',
-        Said::Until(t) => b'U',
-        Said::Cycles(n) => b'R',
-        Said::Latched(f, v) => b'L',
-        Said::Unlatched(f, v) => b'N',
-        Said::Signal(f, v) => b'G',
-        Said::Ask(f) => b'Q',
-        Said::NextWaking => b'V',
-        Said::Overruns(t) => b'O',
-        Said::WhyNot(t, d) => b'Y',
-        Said::Wrong => b'?',
-    }
-}
-
-// The call that a line asks for; only a tick writes to the words. "any other script line is refused by 1"
-fn ask(e: Exec, said: Said, words: &mut [u16]) -> Step
-    ensures { Made e said words.old result words.new }
-{
-    match said {
-        Said::Schedule(t) => e.schedule(t),
-        Said::Cancel(t) => e.cancel(t),
-        Said::Terminate(t) => e.terminate(t),
-        Said::Finish => e.finish(),
-        Said::Tick => e.tick(words),
-        Said::Until(t) => e.wait_until(t),
-        Said::Cycles(n) => e.wait_for(n),
-        Said::Latched(f, v) => e.latched(f, v),
-        Said::Unlatched(f, v) => e.unlatched(f, v),
-        Said::Signal(f, v) => e.signal(f, v),
-        Said::Ask(f) => e.read_flag(f),
-        Said::NextWaking => e.next_waking(),
-        Said::Overruns(t) => e.overruns(t),
-        Said::WhyNot(t, d) => e.why_not(t, d),
-        Said::Wrong => Step {
-            exec: e,
-            answer: Answer::Refused(WRONG_SHAPE),
+        Said::Schedule(t) => answer_of(exec_tasks::schedule(&e.rig, &e.cycles, &mut e.st, t)),
+        Said::Cancel(t) => answer_of(exec_tasks::cancel(&e.rig, &e.cycles, &mut e.st, t)),
+        Said::Terminate(t) => answer_of(exec_tasks::terminate(&e.rig, &e.cycles, &mut e.st, t)),
+        Said::Finish => answer_of(exec_tasks::finish(&e.rig, &e.cycles, &mut e.st)),
+        Said::Tick => answer_of(exec_bus::tick(&e.rig, &e.cycles, &mut e.st, words)),
+        Said::Until(t) => answer_of(exec_waits::wait_until(&e.rig, &e.cycles, &mut e.st, t)),
+        Said::Cycles(n) => answer_of(exec_waits::wait_for(&e.rig, &e.cycles, &mut e.st, n)),
+        Said::Latched(f, v) => {
+            answer_of(exec_waits::wait_on(&e.rig, &e.cycles, &mut e.st, true, f, v))
         },
+        Said::Unlatched(f, v) => {
+            answer_of(exec_waits::wait_on(&e.rig, &e.cycles, &mut e.st, false, f, v))
+        },
+        Said::Signal(f, v) => answer_of(exec_flags::signal(&e.rig, &e.cycles, &mut e.st, f, v)),
+        Said::Ask(f) => answer_of(exec_flags::read_flag(&e.rig, &e.cycles, &e.st, f)),
+        Said::NextWaking => answer_of(exec_questions::next_waking(&e.rig, &e.cycles, &e.st)),
+        Said::Overruns(t) => answer_of(exec_questions::overruns(&e.rig, &e.cycles, &e.st, t)),
+        Said::WhyNot(t, d) => answer_of(exec_why::why_not(&e.rig, &e.cycles, &e.st, t, d)),
+        Said::Wrong => answer_of(Err(Refusal::WrongShape)),
     }
 }
 
-// The turn of a script line, without its LF, with the panel's verbs on or off. Where there is no room for a turn's line nothing happens: a
-// turn always writes.
-pub fn take_line(panel: bool, e: Exec, line: &[u8], out: &mut [u8], at: usize) -> Turn
-    ensures { Turns panel e line.now out.old at result out.new }
+// The turn of a script line, without its LF, with the panel's verbs on or off, over the record where it stands; the place after what the
+// turn wrote. Where there is no room for a turn's line nothing happens: a turn always writes.
+pub fn take_turn(panel: bool, e: &mut Exec, line: &[u8], out: &mut [u8], at: usize) -> usize
+    ensures turns { Turns panel e.old line.now out.old at (record { st = e.new.st; at = result }) out.new }
+    ensures kept { e.new ≡ with_state e.old e.new.st }
 {
-    let st = e.st;
     if !bench_script::has_room(out.len(), at) {
-        return Turn { st, at };
+        return at;
     }
     let said = bench_read::read_line(panel, line);
-    let verb = letter(said);
+    let verb = said.letter();
     if verb == b'?' {
-        let p = bench_script::put_wrong(out, at);
-        return Turn { st, at: p };
+        return bench_script::put_wrong(out, at);
     }
     let mut words = [0u16; TICK_WORDS];
-    let s = ask(e, said, &mut words);
-    let answer = s.answer;
-    let exec = s.exec;
-    let next = exec.st;
-    let p = bench_show::show(
+    let answer = ask(e, said, &mut words);
+    bench_show::show(
         verb,
         answer,
-        next.count,
-        next.running as u32,
+        e.st.count,
+        e.st.running as u32,
         &words,
         out,
         at,
-    );
-    Turn { st: next, at: p }
+    )
+}
+
+// The same by value: the state after the turn, for a caller that has rig and cycles.
+pub fn take_line(panel: bool, mut e: Exec, line: &[u8], out: &mut [u8], at: usize) -> Turn
+    ensures { Turns panel e line.now out.old at result out.new }
+{
+    let at = take_turn(panel, &mut e, line, out, at);
+    Turn { st: e.st, at }
 }

@@ -6,13 +6,13 @@ use Rattle.bench_input.specs.Opening.{run_ends_at}
 use Rattle.bench_input.specs.Laws.Scanning.{drop_take}
 use Rattle.bench_input.proofs.run_ends.Goals as goal
 
-pub returns-then-b-ne-LF : goal.returns-then-b-ne-LF
+pub returns-else-b-eq-LF : goal.returns-else-b-eq-LF
 unfolding run_ends_at
-returns-then-b-ne-LF c = sym (and_stop _ (ne_eqb _ _ c.if-b-ne-LF.true))
+returns-else-b-eq-LF c = ne_eqb _ _ c.if-b-eq-LF.false ∙ sym (and_stop _ (ne_eqb _ _ c.if-b-eq-LF.false))
 
-pub returns : goal.returns
+pub returns-then-b-eq-LF : goal.returns-then-b-eq-LF
 unfolding run_ends_at
-returns c =
+returns-then-b-eq-LF c =
     let s = c in
     let e = drop_take s.args.from s.args.at s.args.keep.now s.requires.0 s.requires.1 in
-    c.is_run.ensures ∙ sym (ap is_run e) ∙ sym (and_go (eq-eqb _ _ c.if-b-ne-LF.false) refl)
+    c.is_run.ensures ∙ sym (ap is_run e) ∙ sym (and_go (eq-eqb _ _ c.if-b-eq-LF.true) refl)

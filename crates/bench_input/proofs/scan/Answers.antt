@@ -1,6 +1,10 @@
 use borrow.Author.Rules.{rules}
-use Prim.Native.Nat.{◌-◌}
-use mathlib.Core.Path.{sym, ◌∙◌}
+use Prim.Native.Nat.{ℕ}
+use mathlib.Core.Bool.{false}
+use mathlib.Core.Path.{◌≡◌, sym, ◌∙◌, subst}
+use native.Mathlib.Nat.{le_antisymm}
+use lib.ListN.{length}
+use Rattle.bench_input.specs.Opening.{Scans}
 use native.Mathlib.Omega.{arith}
 use Rattle.bench_input.specs.Laws.Scanning.{scanning_start, scanning_end, scanning_run, scanning_full, scanning_next, fits}
 use Rattle.bench_input.proofs.scan.Goals as goal
@@ -40,9 +44,6 @@ returns-then-at-eq-KEEP c =
     let l = c.loop-i in
     scanning_full _ _ _ _ _ _ _ _ l.invariant c.loop-i-test.true (sym c.run_ends-run.ensures ∙ c.if-run.false) (omega (arith, c.if-at-eq-KEEP.true))
 
-pub loop-i-smaller : goal.loop-i-smaller
-loop-i-smaller c = let t = c.loop-i-test.true in omega arith
-
 pub loop-i-preserved : goal.loop-i-preserved
 loop-i-preserved c =
     let l = c.loop-i in
@@ -52,4 +53,9 @@ pub shape_of-keep : goal.shape_of-keep
 shape_of-keep c = c.loop-i.invariant.wrote.size
 
 pub returns : goal.returns
-returns c = scanning_end _ _ _ _ _ _ _ _ c.loop-i.invariant c.loop-i-test.false
+returns c =
+    let a = c.args in
+    let l = c.loop-i in
+    let e : l.i ≡ length a.piece.now = le_antisymm l.auto.i-end c.loop-i-test.false in
+    subst (λ (n : ℕ). Scans a.keep.now a.start a.line a.piece.now (record { at = l.at; from = l.from; took = n; ready = false }) l.keep) e
+    (scanning_end _ _ _ _ _ _ _ _ l.invariant c.loop-i-test.false)

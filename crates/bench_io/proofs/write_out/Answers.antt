@@ -1,9 +1,13 @@
 -- The bytes that a write took follow those that went out before.
 use Rattle.std.proofs.Common.{rules, refl}
 use Rattle.bench_io.proofs.Known.{appends_more}
+use Rattle.bench_io.proofs.write_out.Goals.{in-Ok, in-Err+else-not-again}
 use Rattle.bench_io.proofs.write_out.Goals as goal
 
-pub loop-done-preserved-in-Ok : goal.loop-done-preserved-in-Ok
-loop-done-preserved-in-Ok g c =
-    let before = c.loop-done.invariant in
-    (search rules, appends_more _ _ _ c.args.out.now c.loop-done.done before.1 c.in-Ok.n _ c.in-Ok.ensures.bound refl c.in-Ok.ensures.bytes)
+pub loop-preserved : goal.loop-preserved
+loop-preserved g c =
+    let before = c.loop.invariant in
+    elim c.match-write.branch [
+      | in-Ok w ↦ (search rules, appends_more _ _ _ c.args.out.now c.loop.done before.1 w.in-Ok.n _ w.in-Ok.ensures.bound w.done-is w.in-Ok.ensures.bytes)
+      | in-Err+else-not-again w ↦ search rules
+    ]

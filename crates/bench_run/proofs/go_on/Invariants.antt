@@ -4,10 +4,7 @@ use Rattle.bench_script.specs.Output.{turn_room}
 use Rattle.bench_morning.specs.Stream.{HoldsIn}
 use Rattle.bench_run.proofs.go_on.Given as goal
 
-abbrev pub invariant-loop-turns : goal.invariant-loop-turns
-invariant-loop-turns g l =
+abbrev pub invariant-loop : goal.invariant-loop
+invariant-loop g l =
     HoldsIn l.stream (length l.keep) × (length l.keep ≡ length l.initial.keep) × (length l.piece ≡ length l.initial.piece)
     × (length l.out ≡ length l.initial.out) × (turn_room ≤ length l.out)
-
-abbrev pub decreases-loop-turns : goal.decreases-loop-turns
-decreases-loop-turns g l = l.turns

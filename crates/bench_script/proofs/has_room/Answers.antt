@@ -14,8 +14,8 @@ behind all at need h =
     (λ e. e ∙ sym (le-leb (at + need) all (let k = leb-true at (all - need) e in omega arith)))
     (λ e. e ∙ sym (lt-leb (at + need) all (let k = leb-false at (all - need) e in omega arith)))
 
-pub returns-then-all-lt-TURN_ROOM : goal.returns-then-all-lt-TURN_ROOM
-returns-then-all-lt-TURN_ROOM c = let s = c.args in sym (lt-leb (s.at + turn_room) s.all (omega (arith, c.if-all-lt-TURN_ROOM.true)))
+pub returns-else-all-ge-TURN_ROOM : goal.returns-else-all-ge-TURN_ROOM
+returns-else-all-ge-TURN_ROOM c = let s = c.args in lt-leb turn_room s.all c.if-all-ge-TURN_ROOM.false ∙ sym (lt-leb (s.at + turn_room) s.all (omega (arith, c.if-all-ge-TURN_ROOM.false)))
 
-pub returns : goal.returns
-returns c = behind _ _ _ c.if-all-lt-TURN_ROOM.false
+pub returns-then-all-ge-TURN_ROOM : goal.returns-then-all-ge-TURN_ROOM
+returns-then-all-ge-TURN_ROOM c = behind _ _ _ c.if-all-ge-TURN_ROOM.true

@@ -6,14 +6,14 @@ use Rattle.bench_show.proofs.put_extra.Goals as goal
 
 pub slice_bounds-put_words-end : goal.slice_bounds-put_words-end
 slice_bounds-put_words-end c =
-    let e = c.least-n.ensures in
-    let l = length-take c.least-n.result c.args.words.now in
+    let e = c.min-n.ensures in
+    let l = length-take c.min-n.result c.args.words.now in
     omega arith
 
 pub put_words-requires : goal.put_words-requires
 put_words-requires c =
-    let e = c.least-n.ensures in
-    let l = length-take c.least-n.result c.args.words.now in
+    let e = c.min-n.ensures in
+    let l = length-take c.min-n.result c.args.words.now in
     let p = c.requires.0 in
     let q = c.requires.1 in
     omega arith
@@ -22,7 +22,7 @@ pub returns-then-verb-eq75 : goal.returns-then-verb-eq75
 returns-then-verb-eq75 c =
     let s = c in
     let w = c.put_words in
-    extra_words s.args.verb (report_of s.args.report) s.args.words.now s.args.out.now w.new.out s.args.at w.result c.if-verb-eq75.true c.least-n.result c.least-n.ensures w.ensures
+    extra_words s.args.verb (report_of s.args.report) s.args.words.now s.args.out.now w.new.out s.args.at w.result c.if-verb-eq75.true c.min-n.result c.min-n.ensures w.ensures
 
 pub returns-then-verb-eq81 : goal.returns-then-verb-eq81
 returns-then-verb-eq81 c =

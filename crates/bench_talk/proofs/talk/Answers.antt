@@ -22,8 +22,8 @@ slice_bounds-line-end c =
     let k = l.invariant.size in
     omega arith
 
-pub slice_bounds-take_line-end : goal.slice_bounds-take_line-end
-slice_bounds-take_line-end c = prefix _ _ _ _ _ _ _ _ _ _ _ c.loop-i.invariant
+pub slice_bounds-take_turn-end : goal.slice_bounds-take_turn-end
+slice_bounds-take_turn-end c = prefix _ _ _ _ _ _ _ _ _ _ _ c.loop-i.invariant
 
 pub loop-i-smaller-then-b-eq-LF : goal.loop-i-smaller-then-b-eq-LF
 loop-i-smaller-then-b-eq-LF c = let t = c.loop-i-test.true in omega arith
@@ -32,8 +32,8 @@ pub loop-i-preserved-then-b-eq-LF : goal.loop-i-preserved-then-b-eq-LF
 loop-i-preserved-then-b-eq-LF c =
     let roomy : c.loop-i.at + turn_room ≤ length c.loop-i.out = (let l = c.loop-i in leb-true (l.at + turn_room) (length l.out) (sym c.has_room.ensures ∙ (sym (not-not _) ∙ ap not c.if-not-has_room.false-raw))) in
     let l = c.loop-i in
-    let k = c.take_line-t in
-    talking_turn _ _ _ _ _ _ _ _ _ _ _ l.invariant c.loop-i-test.true (roomy) c.if-b-eq-LF.true k.result _ k.ensures
+    let k = c.take_turn-at in
+    rw k.ensures.kept (talking_turn _ _ _ _ _ _ _ _ _ _ _ l.invariant c.loop-i-test.true (roomy) c.if-b-eq-LF.true (record { st = k.new.e.st; at = k.result }) _ k.ensures.turns)
 
 pub hold-held-requires : goal.hold-held-requires
 hold-held-requires c = let l = c.loop-i in (l.invariant.size, l.invariant.high)

@@ -132,3 +132,21 @@ made_proper e NextWaking ws s vs m = meets_proper e R.next_waking s [] m
 made_proper e (Overruns t) ws s vs m = meets_proper e (R.read_overruns t) s [] m
 made_proper e (WhyNot t d) ws s vs m = meets_proper e (R.why_not t d) s [] m
 made_proper e Wrong ws s vs m = subst (λ (x : Step). ProperAnswer x.answer) (sym m) (λ q. omega (arith, q))
+
+-- no line changes the rig or its cycles
+pub made_kept : (e : Exec) (said : Said) (ws : List ℕ) (s : Step) (vs : List ℕ) → Made e said ws s vs → s.exec ≡ with_state e s.exec.st
+made_kept e (Schedule t) ws s vs m = kept e (R.schedule t) s [] m
+made_kept e (Cancel t) ws s vs m = kept e (R.cancel t) s [] m
+made_kept e (Terminate t) ws s vs m = kept e (R.terminate t) s [] m
+made_kept e Finish ws s vs m = kept e R.finish s [] m
+made_kept e Tick ws s vs m = kept e (R.tick ws) s vs m
+made_kept e (Until t) ws s vs m = kept e (R.wait_until t) s [] m
+made_kept e (Cycles n) ws s vs m = kept e (R.wait_for n) s [] m
+made_kept e (Latched f v) ws s vs m = kept e (R.latched f (bit v)) s [] m
+made_kept e (Unlatched f v) ws s vs m = kept e (R.unlatched f (bit v)) s [] m
+made_kept e (Signal f v) ws s vs m = kept e (R.signal f (bit v)) s [] m
+made_kept e (Ask f) ws s vs m = kept e (R.read_flag f) s [] m
+made_kept e NextWaking ws s vs m = kept e R.next_waking s [] m
+made_kept e (Overruns t) ws s vs m = kept e (R.read_overruns t) s [] m
+made_kept e (WhyNot t d) ws s vs m = kept e (R.why_not t d) s [] m
+made_kept e Wrong ws s vs m = let q : s.exec ≡ e = ap (λ (x : Step). x.exec) m in q ∙ ap (λ (x : Exec). with_state e x.st) (sym q)
