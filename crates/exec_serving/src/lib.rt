@@ -1,6 +1,8 @@
 // What is queued is served to its end.
 #![tactic(auto)]
 
+ghost use Rattle.exec_offers.specs.Set.{tables_of};
+ghost use Rattle.exec_serving.specs.Set.{with_places};
 ghost use Rattle.exec_serving.specs.Post.{Begins, CountsSoon, Emptied};
 ghost use Rattle.exec_serving.specs.Done.{done_with};
 
@@ -35,7 +37,7 @@ fn count_soon(
 // The last queued is taken off and served, until the queue is empty.
 pub fn serve(rig: &Rig, cycle: &Cycle, st: &mut State, mut queue: Queue) -> Served
     requires { Begins rig.now.lines rig.now.line_task rig.now.line_pos rig.now.activation st.old queue }
-    ensures { Emptied rig.now cycle.now st.old queue (done_with st.new result) }
+    ensures { (g : Rig) → Emptied (tables_of rig.now (with_places rig.now.line_pos g)) cycle.now st.old queue (done_with st.new result) }
 {
     let mut served: u32 = 0;
     let mut woken: u32 = 0;

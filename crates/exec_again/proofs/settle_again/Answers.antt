@@ -10,7 +10,7 @@ settle-o-requires c =
     let a = c.args in
     let d = c.serve-d in
     let x = c.tested-queued in
-    again_settles a.rig.now empty_cycle (record { st = a.st.now; queue = a.queue }) (done_with d.new.st d.result) d.ensures a.t c.requires
+    again_settles a.rig.now empty_cycle (record { st = a.st.now; queue = a.queue }) (done_with d.new.st d.result) (d.ensures a.rig.now) a.t c.requires
     (record { st = x.new.st; queue = x.result }) x.ensures
 
 pub overflow_add-result : goal.overflow_add-result
@@ -19,7 +19,7 @@ overflow_add-result c =
     let d = c.serve-d in
     let x = c.tested-queued in
     let o = c.settle-o in
-    let s = again_small a.rig.now empty_cycle (record { st = a.st.now; queue = a.queue }) (done_with d.new.st d.result) d.ensures a.t c.requires
+    let s = again_small a.rig.now empty_cycle (record { st = a.st.now; queue = a.queue }) (done_with d.new.st d.result) (d.ensures a.rig.now) a.t c.requires
     (record { st = x.new.st; queue = x.result }) x.ensures (accepted_with o.new.st o.result) o.ensures in
     omega (arith, s.served, s.woken, s.activated, s.words)
 
@@ -29,7 +29,7 @@ overflow_add-result-2 c =
     let d = c.serve-d in
     let x = c.tested-queued in
     let o = c.settle-o in
-    let s = again_small a.rig.now empty_cycle (record { st = a.st.now; queue = a.queue }) (done_with d.new.st d.result) d.ensures a.t c.requires
+    let s = again_small a.rig.now empty_cycle (record { st = a.st.now; queue = a.queue }) (done_with d.new.st d.result) (d.ensures a.rig.now) a.t c.requires
     (record { st = x.new.st; queue = x.result }) x.ensures (accepted_with o.new.st o.result) o.ensures in
     omega (arith, s.served, s.woken, s.activated, s.words)
 
@@ -39,7 +39,7 @@ overflow_add-result-3 c =
     let d = c.serve-d in
     let x = c.tested-queued in
     let o = c.settle-o in
-    let s = again_small a.rig.now empty_cycle (record { st = a.st.now; queue = a.queue }) (done_with d.new.st d.result) d.ensures a.t c.requires
+    let s = again_small a.rig.now empty_cycle (record { st = a.st.now; queue = a.queue }) (done_with d.new.st d.result) (d.ensures a.rig.now) a.t c.requires
     (record { st = x.new.st; queue = x.result }) x.ensures (accepted_with o.new.st o.result) o.ensures in
     omega (arith, s.served, s.woken, s.activated, s.words)
 
@@ -49,5 +49,5 @@ returns c =
     let d = c.serve-d in
     let x = c.tested-queued in
     let o = c.settle-o in
-    again_is a.rig.now empty_cycle (record { st = a.st.now; queue = a.queue }) (done_with d.new.st d.result) d.ensures a.t c.requires
+    again_is a.rig.now empty_cycle (record { st = a.st.now; queue = a.queue }) (done_with d.new.st d.result) (d.ensures a.rig.now) a.t c.requires
     (record { st = x.new.st; queue = x.result }) x.ensures (accepted_with o.new.st o.result) o.ensures

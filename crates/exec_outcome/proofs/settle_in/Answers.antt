@@ -6,10 +6,10 @@ pub dispatch-requires : goal.dispatch-requires
 dispatch-requires c =
     let a = c.args in
     let d = c.serve-d in
-    settled_low a.rig.now a.cycle.now (record { st = a.st.now; queue = a.queue }) (done_with d.new.st d.result) d.ensures c.requires
+    settled_low a.rig.now a.cycle.now (record { st = a.st.now; queue = a.queue }) (done_with d.new.st d.result) (d.ensures a.rig.now) c.requires
 
 pub returns : goal.returns
 returns c =
     let a = c.args in
     let d = c.serve-d in
-    settled_is a.rig.now a.cycle.now (record { st = a.st.now; queue = a.queue }) (done_with d.new.st d.result) d.ensures c.dispatch.new.self c.dispatch.ensures
+    settled_is a.rig.now a.cycle.now (record { st = a.st.now; queue = a.queue }) (done_with d.new.st d.result) (d.ensures a.rig.now) c.dispatch.new.self c.dispatch.ensures
