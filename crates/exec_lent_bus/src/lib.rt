@@ -7,34 +7,43 @@ ghost use Rattle.exec.specs.Call.{bit, Meets};
 ghost use Rattle.exec_lent.specs.Rebuilt.{step_of};
 
 use exec::{Answer, Exec};
-use exec_lent::stored;
 
 pub fn tick(e: &mut Exec, out: &mut [u16]) -> Answer
     ensures { Meets e.old (Call.tick out.old) (step_of e.new result) out.new }
 {
-    stored(e.tick(out), e)
+    let s = (*e).tick(out);
+    *e = s.exec;
+    s.answer
 }
 
 pub fn signal(e: &mut Exec, flag: u32, value: bool) -> Answer
     ensures { Meets e.old (Call.signal flag (bit value)) (step_of e.new result) [] }
 {
-    stored(e.signal(flag, value), e)
+    let s = (*e).signal(flag, value);
+    *e = s.exec;
+    s.answer
 }
 
 pub fn read_flag(e: &mut Exec, flag: u32) -> Answer
     ensures { Meets e.old (Call.read_flag flag) (step_of e.new result) [] }
 {
-    stored(e.read_flag(flag), e)
+    let s = (*e).read_flag(flag);
+    *e = s.exec;
+    s.answer
 }
 
 pub fn read_block(e: &mut Exec, k: u32, area: &[u16], buffer: &mut [u16]) -> Answer
     ensures { Meets e.old (Call.read_block k area.now buffer.old) (step_of e.new result) buffer.new }
 {
-    stored(e.read_block(k, area, buffer), e)
+    let s = (*e).read_block(k, area, buffer);
+    *e = s.exec;
+    s.answer
 }
 
 pub fn write_block(e: &mut Exec, k: u32, area: &mut [u16], words: &[u16]) -> Answer
     ensures { Meets e.old (Call.write_block k area.old words.now) (step_of e.new result) area.new }
 {
-    stored(e.write_block(k, area, words), e)
+    let s = (*e).write_block(k, area, words);
+    *e = s.exec;
+    s.answer
 }

@@ -1,5 +1,5 @@
 // What a host in C calls, by the exports of crate host_c. It keeps one record in its own memory and lends it to each entry, "to be changed where it stands".
-// Each entry calls the method by value of its name, has its step told in numbers, and stores that over the lent record.
+// Each entry calls the method by value of its name, has its step told in numbers, stores the record over the lent one, and replies.
 #![tactic(auto)]
 
 ghost use Rattle.std.specs.Prelude.{◌≡◌, []};
@@ -15,16 +15,8 @@ ghost use Rattle.refusal_texts.specs.Texts.{refusal_text, Given};
 ghost use Rattle.host_layout.specs.Library.{record_size, record_align, version};
 
 use exec::Exec;
-use host_replies::{Coded, Reply, told};
+use host_replies::{Reply, told};
 use word_numbers::{CommandNumbers, StatusNumbers};
-
-// The record stands in the lent one's place then, and the reply is C's.
-fn stored(coded: Coded, e: &mut Exec) -> Reply
-    ensures { coded_of e.new result ≡ coded }
-{
-    *e = coded.exec;
-    coded.reply
-}
 
 // The version, of which the header has the same number.
 #[unsafe(no_mangle)]
@@ -63,84 +55,108 @@ pub extern "C" fn algolmallet_record_align() -> usize
 pub extern "C" fn algolmallet_start(e: &mut Exec, file: &[u8]) -> Reply
     ensures { StartRepliesFrom file.now (coded_of e.new result) }
 {
-    stored(host_replies::start(file), e)
+    let s = host_replies::start(file);
+    *e = s.exec;
+    s.reply
 }
 
 #[unsafe(no_mangle)]
 pub extern "C" fn algolmallet_schedule(e: &mut Exec, task: u32) -> Reply
     ensures { Replies e.old (Call.schedule task) (coded_of e.new result) [] }
 {
-    stored(told(e.schedule(task)), e)
+    let s = told((*e).schedule(task));
+    *e = s.exec;
+    s.reply
 }
 
 #[unsafe(no_mangle)]
 pub extern "C" fn algolmallet_cancel(e: &mut Exec, task: u32) -> Reply
     ensures { Replies e.old (Call.cancel task) (coded_of e.new result) [] }
 {
-    stored(told(e.cancel(task)), e)
+    let s = told((*e).cancel(task));
+    *e = s.exec;
+    s.reply
 }
 
 #[unsafe(no_mangle)]
 pub extern "C" fn algolmallet_terminate(e: &mut Exec, task: u32) -> Reply
     ensures { Replies e.old (Call.terminate task) (coded_of e.new result) [] }
 {
-    stored(told(e.terminate(task)), e)
+    let s = told((*e).terminate(task));
+    *e = s.exec;
+    s.reply
 }
 
 #[unsafe(no_mangle)]
 pub extern "C" fn algolmallet_finish(e: &mut Exec) -> Reply
     ensures { Replies e.old Call.finish (coded_of e.new result) [] }
 {
-    stored(told(e.finish()), e)
+    let s = told((*e).finish());
+    *e = s.exec;
+    s.reply
 }
 
 #[unsafe(no_mangle)]
 pub extern "C" fn algolmallet_tick(e: &mut Exec, out: &mut [u16]) -> Reply
     ensures { Replies e.old (Call.tick out.old) (coded_of e.new result) out.new }
 {
-    stored(told(e.tick(out)), e)
+    let s = told((*e).tick(out));
+    *e = s.exec;
+    s.reply
 }
 
 #[unsafe(no_mangle)]
 pub extern "C" fn algolmallet_wait_until(e: &mut Exec, count: u32) -> Reply
     ensures { Replies e.old (Call.wait_until count) (coded_of e.new result) [] }
 {
-    stored(told(e.wait_until(count)), e)
+    let s = told((*e).wait_until(count));
+    *e = s.exec;
+    s.reply
 }
 
 #[unsafe(no_mangle)]
 pub extern "C" fn algolmallet_wait_for(e: &mut Exec, cycles: u32) -> Reply
     ensures { Replies e.old (Call.wait_for cycles) (coded_of e.new result) [] }
 {
-    stored(told(e.wait_for(cycles)), e)
+    let s = told((*e).wait_for(cycles));
+    *e = s.exec;
+    s.reply
 }
 
 #[unsafe(no_mangle)]
 pub extern "C" fn algolmallet_wait_latched(e: &mut Exec, flag: u32, value: bool) -> Reply
     ensures { Replies e.old (Call.latched flag (bit value)) (coded_of e.new result) [] }
 {
-    stored(told(e.latched(flag, value)), e)
+    let s = told((*e).latched(flag, value));
+    *e = s.exec;
+    s.reply
 }
 
 #[unsafe(no_mangle)]
 pub extern "C" fn algolmallet_wait_unlatched(e: &mut Exec, flag: u32, value: bool) -> Reply
     ensures { Replies e.old (Call.unlatched flag (bit value)) (coded_of e.new result) [] }
 {
-    stored(told(e.unlatched(flag, value)), e)
+    let s = told((*e).unlatched(flag, value));
+    *e = s.exec;
+    s.reply
 }
 
 #[unsafe(no_mangle)]
 pub extern "C" fn algolmallet_signal(e: &mut Exec, flag: u32, value: bool) -> Reply
     ensures { Replies e.old (Call.signal flag (bit value)) (coded_of e.new result) [] }
 {
-    stored(told(e.signal(flag, value)), e)
+    let s = told((*e).signal(flag, value));
+    *e = s.exec;
+    s.reply
 }
 
 #[unsafe(no_mangle)]
 pub extern "C" fn algolmallet_read_flag(e: &mut Exec, flag: u32) -> Reply
     ensures { Replies e.old (Call.read_flag flag) (coded_of e.new result) [] }
 {
-    stored(told(e.read_flag(flag)), e)
+    let s = told((*e).read_flag(flag));
+    *e = s.exec;
+    s.reply
 }
 
 #[unsafe(no_mangle)]
@@ -152,7 +168,9 @@ pub extern "C" fn algolmallet_read_block(
 ) -> Reply
     ensures { Replies e.old (Call.read_block row area.now buffer.old) (coded_of e.new result) buffer.new }
 {
-    stored(told(e.read_block(row, area, buffer)), e)
+    let s = told((*e).read_block(row, area, buffer));
+    *e = s.exec;
+    s.reply
 }
 
 #[unsafe(no_mangle)]
@@ -164,7 +182,9 @@ pub extern "C" fn algolmallet_write_block(
 ) -> Reply
     ensures { Replies e.old (Call.write_block row area.old words.now) (coded_of e.new result) area.new }
 {
-    stored(told(e.write_block(row, area, words)), e)
+    let s = told((*e).write_block(row, area, words));
+    *e = s.exec;
+    s.reply
 }
 
 // "When does the bench next wake someone?" The value is the lowest waking count, 0 if nobody waits for one. The record is what it was.
@@ -172,7 +192,9 @@ pub extern "C" fn algolmallet_write_block(
 pub extern "C" fn algolmallet_next_waking(e: &mut Exec) -> Reply
     ensures { Replies e.old Call.next_waking (coded_of e.new result) [] }
 {
-    stored(told(e.next_waking()), e)
+    let s = told((*e).next_waking());
+    *e = s.exec;
+    s.reply
 }
 
 // How many of the task's starts came too soon. The value is its number of overruns; no running task is needed. The record is what it was.
@@ -180,7 +202,9 @@ pub extern "C" fn algolmallet_next_waking(e: &mut Exec) -> Reply
 pub extern "C" fn algolmallet_overruns(e: &mut Exec, task: u32) -> Reply
     ensures { Replies e.old (Call.read_overruns task) (coded_of e.new result) [] }
 {
-    stored(told(e.overruns(task)), e)
+    let s = told((*e).overruns(task));
+    *e = s.exec;
+    s.reply
 }
 
 // Why the inactive task won't start within so many links. The value is the position of the lowest condition that blocks, 16 for none; no running
@@ -189,7 +213,9 @@ pub extern "C" fn algolmallet_overruns(e: &mut Exec, task: u32) -> Reply
 pub extern "C" fn algolmallet_why_not(e: &mut Exec, task: u32, links: u32) -> Reply
     ensures { Replies e.old (Call.why_not task links) (coded_of e.new result) [] }
 {
-    stored(told(e.why_not(task, links)), e)
+    let s = told((*e).why_not(task, links));
+    *e = s.exec;
+    s.reply
 }
 
 // The monitor's side of the bus: words that it hears, taken apart and judged. No record is needed.
