@@ -4,11 +4,14 @@
 ghost use Rattle.std.specs.Prelude.{◌≡◌, ℕ, ◌≤◌, length, get_or};
 ghost use Rattle.refusals.specs.Numbers.{refusal_number};
 ghost use Rattle.rig_whole.specs.Numbers.{rule_number};
+ghost use Rattle.rig_lines.specs.Kinds.{kind_rig};
 ghost use Rattle.rig_held.specs.Held.{held, Begins};
+ghost use Rattle.rig_build.specs.Bytes.{lines_in, known};
 ghost use Rattle.rig_build.specs.Read.{file_refused, file_accepted, behind, whole_file};
 
 use refusals::Refusal;
-use rig_held::Line;
+use rig_held::{Held, Line};
+use rig_lines::Kind;
 use rig_tables::CYCLES;
 use rig_whole::Rule;
 
@@ -58,8 +61,50 @@ fn taken(g: rig::Rig, cycles: [rig::Cycle; CYCLES]) -> Answer
     }
 }
 
+// How many bytes the lines take that `whole` goes over, ten a line.
+pub const ROOM: usize = 10 * rig_held::MOST;
+
+// The lines of the six kinds among the first `n` that stand in bytes.
+fn known_in(lines: &[u8; ROOM], n: usize) -> Held
+    requires { (1 ≤ n) × (n ≤ 10240) × (get_or lines.now 0 0 ≡ kind_rig) }
+    ensures known { held result ≡ known (lines_in lines.now n) }
+    ensures begins { Begins result }
+    ensures few { length result ≤ 10240 }
+{
+    let mut held = Held::none();
+    for i in 0..n {
+        let a = 10 * i;
+        if let Some(kind) = Kind::numbered(lines[a] as usize) {
+            held.hold(
+                kind,
+                [
+                    lines[a + 1],
+                    lines[a + 2],
+                    lines[a + 3],
+                    lines[a + 4],
+                    lines[a + 5],
+                    lines[a + 6],
+                    lines[a + 7],
+                    lines[a + 8],
+                    lines[a + 9],
+                ],
+            );
+        }
+    }
+    held
+}
+
+// The whole file of the first `n` lines that stand in bytes, ten bytes a line: its kind's number, then its numbers. A line of another
+// number has no numbers, and counts for nothing.
+pub fn whole(lines: &[u8; ROOM], n: usize) -> Answer
+    requires { (1 ≤ n) × (n ≤ 10240) × (get_or lines.now 0 0 ≡ kind_rig) }
+    ensures { result ≡ whole_file (lines_in lines.now n) }
+{
+    whole_of(known_in(lines, n).lines())
+}
+
 // The whole file: every line was right, and the rules over all of them are left.
-pub fn whole(lines: &[Line]) -> Answer
+pub fn whole_of(lines: &[Line]) -> Answer
     requires begins { Begins lines.now }
     requires few { length lines.now ≤ 10240 }
     ensures { result ≡ whole_file (held lines.now) }

@@ -24,6 +24,10 @@ kind_m = 5
 abbrev pub kind_b : ℕ
 kind_b = 6
 
+-- whether a number is a kind's
+abbrev pub is_known : ℕ → Bool
+is_known k = ltb 0 k && ltb k 7
+
 -- how many numbers a line of each kind has, in the order of the kinds' numbers: none, RIG, T, C, A, M, B
 unfoldable pub counts : List ℕ
 counts = 0 ∷ 4 ∷ 5 ∷ 4 ∷ 3 ∷ 2 ∷ 7 ∷ []

@@ -29,7 +29,7 @@ fn read_lines(s: &[u8]) -> rig_build::Answer
             if at < n || count == 0 {
                 break 'lines rig_build::refused(Refusal::WrongShape, line, 0);
             }
-            break 'lines rig_build::whole(held.lines());
+            break 'lines rig_build::whole_of(held.lines());
         }
         let q = text::find(s, at, e, b'\t');
         let Some(kind) = rig_lines::kind_in(&s[at..q]) else {

@@ -1,12 +1,13 @@
--- The code's test of two kinds is the test of their numbers.
-use Rattle.std.specs.Prelude.{◌<◌, ◌≡◌, refl, Bool, true, false, not, eqb}
-use Rattle.std.proofs.Common.{sym, ◌∙◌, arith}
+-- The code's test of two kinds is the test of their numbers; and what the kind that a number is taken for says of the number.
+use Rattle.std.specs.Prelude.{ℕ, zero, suc, ◌≤◌, ◌<◌, ◌≡◌, refl, ◌⊎◌, Bool, true, false, cond, not, eqb}
+use Rattle.std.proofs.Common.{sym, ap, ◌∙◌, inl, inr, arith, lt-ltb, ltb-false, true≢false}
 use borrow.Author.Tests.{not-true, not-false}
+use Rattle.laws.specs.Cases.{by}
 use denote.Enum.Bare.{sameb}
 use Rattle.rig_lines.specs.contracts.Kind.{the_type}
 use Rattle.rig_lines.specs.declared.Kind.{Kind}
 use Rattle.rig_lines.specs.declared.Kind.TheVariants.{Rig, Task, Condition, Line, Flag, Row}
-use Rattle.rig_lines.specs.Kinds.{kind_rig}
+use Rattle.rig_lines.specs.Kinds.{kind_rig, is_known}
 use Rattle.rig_lines.specs.Kind.{kind_number}
 
 pub same_kind : (a b : Kind) → sameb the_type a b ≡ eqb (kind_number a) (kind_number b)
@@ -75,3 +76,17 @@ only_rig Condition e = absurd (omega arith)
 only_rig Line e = absurd (omega arith)
 only_rig Flag e = absurd (omega arith)
 only_rig Row e = absurd (omega arith)
+
+-- what the kind that a number is taken for says of the number
+pub numbered : (k : Kind) (n : ℕ) → kind_number k ≡ cond (is_known n) n 0 → kind_number k ≡ n
+numbered k n e = by (is_known n) (λ t. e ∙ rw t) (λ f. let w = (kind_known k).0 in let z : kind_number k ≡ 0 = e ∙ rw f in absurd (omega arith))
+
+pub unnumbered : (n : ℕ) → 0 ≡ cond (is_known n) n 0 → is_known n ≡ false
+unnumbered n e =
+    by (is_known n)
+    (λ t. let z : 0 ≡ n = e ∙ rw t in absurd (true≢false (sym (ap (λ (x : ℕ). is_known x) z ∙ t))))
+    (λ f. f)
+
+pub no_number : (n : ℕ) → is_known n ≡ false → (n ≡ 0) ⊎ (7 ≤ n)
+no_number zero e = inl refl
+no_number (suc n) e = inr (ltb-false (suc n) 7 (rw (lt-ltb 0 (suc n) (omega arith)) at e))

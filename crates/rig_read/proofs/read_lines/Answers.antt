@@ -12,8 +12,8 @@ use Rattle.rig_read.proofs.read_lines.Goals.{then-at-n-via-then-at-n, then-at-n-
 pub lines-init : goal.lines-init
 lines-init c = rw c.none-held.ensures (lines_start _ _ refl c.requires)
 
-pub whole-r-requires-clause-begins : goal.whole-r-requires-clause-begins
-whole-r-requires-clause-begins c =
+pub whole_of-r-requires-clause-begins : goal.whole_of-r-requires-clause-begins
+whole_of-r-requires-clause-begins c =
     let w = as_counted _ _ _ _ _ _ c.lines-count.ensures c.lines.invariant in
     rw c.lines-then-e-n.ensures (leave_begins _ _ _ _ _ _ _ w (c.line_of-e.ensures.0 w.low) c.if-e-n.true c.if-at-n.false c.if-count-eq0.false)
 
@@ -50,7 +50,7 @@ pub returns-else-count-eq0 : goal.returns-else-count-eq0
 returns-else-count-eq0 c =
     let w = as_counted _ _ _ _ _ _ c.lines-count.ensures c.lines.invariant in
     let e = c.line_of-e.ensures.0 w.low in
-    c.whole-r.ensures ∙ (ap whole_file (ap held c.lines-then-e-n.ensures ∙ leave_held _ _ _ _ _ _ _ w e c.if-e-n.true c.if-at-n.false c.if-count-eq0.false)
+    c.whole_of-r.ensures ∙ (ap whole_file (ap held c.lines-then-e-n.ensures ∙ leave_held _ _ _ _ _ _ _ w e c.if-e-n.true c.if-at-n.false c.if-count-eq0.false)
     ∙ by_whole _ (leave_clean _ _ _ _ _ _ _ w e c.if-e-n.true c.if-at-n.false c.if-count-eq0.false))
 
 pub returns-in_default : goal.returns-in_default
