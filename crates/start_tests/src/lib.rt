@@ -2,7 +2,8 @@
 // that is not; whether nobody can start.
 #![tactic(auto)]
 
-ghost use Rattle.std.specs.Prelude.{◌≡◌, ◌≤◌, unwrap_or};
+ghost use Rattle.std.specs.Prelude.{◌≡◌, ◌≤◌, ◌<◌, unwrap_or};
+ghost use Rattle.std.specs.Option.{IfSome};
 ghost use Rattle.start_tests.specs.Tables.{helps, is_link, nobody, clear, lowest_in};
 
 use exec_running::INACTIVE;
@@ -53,7 +54,8 @@ pub fn nobody(can: &[u8; TASK_PLACES]) -> bool
 // The lowest position of task t whose condition is not 1.
 pub fn lowest(table: &[u8; CONDITIONS], t: usize) -> Option<usize>
     requires { t ≤ 64 }
-    ensures { unwrap_or result 16 ≡ lowest_in table.now t }
+    ensures told { unwrap_or result 16 ≡ lowest_in table.now t }
+    ensures position { IfSome result (λ p. p < 16) }
 {
     for p in 0..POSITIONS {
         if table[POSITIONS * t + p] != 1 {
