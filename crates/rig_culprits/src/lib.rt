@@ -1,9 +1,9 @@
 // Which line or task breaks a rule over the whole file.
 #![tactic(auto)]
 
-ghost use Rattle.std.specs.Prelude.{◌≡◌, ◌≤◌, ◌<◌, length};
+ghost use Rattle.std.specs.Prelude.{◌≡◌, ◌≤◌, ◌<◌, Some, length};
 ghost use Rattle.rig_suspects.specs.Suspects.{counted};
-ghost use Rattle.rig_culprits.specs.Culprits.{guilty, culprit_line, culprit_told, culprit_of, rule_of};
+ghost use Rattle.rig_culprits.specs.Culprits.{guilty, culprit_line, culprit_told, culprit_of, rule_of, rule_number};
 
 // The rules over the whole file that a sentence tells apart.
 #[derive(Debug, Clone, Copy, PartialEq, Eq)]
@@ -23,6 +23,13 @@ pub enum Rule {
 }
 
 impl Rule {
+    // The number that the reader gives it.
+    pub fn number(self) -> u16
+        ensures { result ≡ rule_number (Some self) }
+    {
+        self as u16
+    }
+
     // The rule that the reader gives a number: those of the lines, then those of the rig, 5 behind. No line of a file leads to any other.
     #[tactic(auto, unfolding(crate::specs::Culprits::rule_of))]
     pub fn of_number(number: u16) -> Option<Rule>
@@ -59,13 +66,13 @@ fn is_guilty(s: &[u8], rule: u16, at: usize, e: usize) -> bool
     requires { (at ≤ e) × (e < length s.now) }
     ensures { result ≡ guilty rule s.now at e }
 {
-    if rule == Rule::Controller as u16 {
+    if rule == Rule::Controller.number() {
         return rig_suspects::is_stray(s, &s[at..e]);
     }
-    if rule == Rule::Shared as u16 {
+    if rule == Rule::Shared.number() {
         return rig_suspects::is_shared(s, &s[at..e], e + 1);
     }
-    if rule == Rule::NoA as u16 {
+    if rule == Rule::NoA.number() {
         return rig_suspects::is_unused(s, &s[at..e]);
     }
     rig_read::read(&s[0..e + 1]).rule == rule
@@ -96,7 +103,7 @@ fn first_guilty(s: &[u8], rule: u16) -> Option<usize>
 pub fn culprit_of(s: &[u8], rule: u16) -> Option<Culprit>
     ensures { culprit_told result ≡ culprit_of rule s.now }
 {
-    if rule == Rule::NoT as u16 {
+    if rule == Rule::NoT.number() {
         return Some(Culprit::Task(rig_suspects::missing_task(s)? as usize));
     }
     Some(Culprit::Line(first_guilty(s, rule)?))

@@ -26,6 +26,25 @@ pub fn of_shape(reason: Reason) -> &'static [u8]
     }
 }
 
+// The same by a reason's number, for one that comes from elsewhere: a number that no other reason has is told as the last.
+pub fn of_number(reason: u8) -> &'static [u8]
+    ensures { result.now ≡ shape_sentence reason }
+{
+    match reason {
+        1 => of_shape(Reason::EmptyFile),
+        2 => of_shape(Reason::NoLineEnd),
+        3 => of_shape(Reason::ByteOrderMark),
+        4 => of_shape(Reason::CarriageReturn),
+        5 => of_shape(Reason::EmptyLine),
+        6 => of_shape(Reason::Space),
+        7 => of_shape(Reason::UnknownKind),
+        8 => of_shape(Reason::TooFewFields),
+        9 => of_shape(Reason::TooManyFields),
+        10 => of_shape(Reason::SpareZero),
+        _ => of_shape(Reason::NoDecimal),
+    }
+}
+
 // By the number and the line that the reader answers.
 #[tactic(auto, unfolding(crate::specs::Sentences::line_sentence))]
 pub fn of_line(number: u8, line: usize) -> &'static [u8]

@@ -7,18 +7,18 @@ use Rattle.rig_build.specs.declared.Answer.{Answer}
 use Rattle.rig_culprits.specs.Culprits.{guilty}
 use Rattle.rig_culprits.proofs.is_guilty.Goals as goal
 
-pub returns-then-rule : goal.returns-then-rule
+pub returns-then-rule-number : goal.returns-then-rule-number
 unfolding guilty part
-returns-then-rule c = c.is_stray.ensures ∙ sym (if_yes _ (eq-eqb _ _ c.if-rule.true) refl)
+returns-then-rule-number c = c.is_stray.ensures ∙ sym (if_yes _ (eq-eqb _ _ (c.if-rule-number.true ∙ c.number.ensures)) refl)
 
-pub returns-then-rule-2 : goal.returns-then-rule-2
+pub returns-then-rule-number-2 : goal.returns-then-rule-number-2
 unfolding guilty part
-returns-then-rule-2 c = c.is_shared.ensures ∙ sym (if_no _ (ne_eqb _ _ c.if-rule.false) (if_yes _ (eq-eqb _ _ c.if-rule-2.true) refl))
+returns-then-rule-number-2 c = c.is_shared.ensures ∙ sym (if_no _ (ne_eqb _ _ (λ q. c.if-rule-number.false (q ∙ sym c.number.ensures))) (if_yes _ (eq-eqb _ _ (c.if-rule-number-2.true ∙ c.number-2.ensures)) refl))
 
-pub returns-then-rule-3 : goal.returns-then-rule-3
+pub returns-then-rule-number-3 : goal.returns-then-rule-number-3
 unfolding guilty part
-returns-then-rule-3 c = c.is_unused.ensures ∙ sym (if_no _ (ne_eqb _ _ c.if-rule.false) (if_no _ (ne_eqb _ _ c.if-rule-2.false) (if_yes _ (eq-eqb _ _ c.if-rule-3.true) refl)))
+returns-then-rule-number-3 c = c.is_unused.ensures ∙ sym (if_no _ (ne_eqb _ _ (λ q. c.if-rule-number.false (q ∙ sym c.number.ensures))) (if_no _ (ne_eqb _ _ (λ q. c.if-rule-number-2.false (q ∙ sym c.number-2.ensures))) (if_yes _ (eq-eqb _ _ (c.if-rule-number-3.true ∙ c.number-3.ensures)) refl)))
 
 pub returns : goal.returns
 unfolding guilty part
-returns c = ap (λ (a : Answer). eqb a.rule c.args.rule) c.read.ensures ∙ sym (if_no _ (ne_eqb _ _ c.if-rule.false) (if_no _ (ne_eqb _ _ c.if-rule-2.false) (if_no _ (ne_eqb _ _ c.if-rule-3.false) refl)))
+returns c = ap (λ (a : Answer). eqb a.rule c.args.rule) c.read.ensures ∙ sym (if_no _ (ne_eqb _ _ (λ q. c.if-rule-number.false (q ∙ sym c.number.ensures))) (if_no _ (ne_eqb _ _ (λ q. c.if-rule-number-2.false (q ∙ sym c.number-2.ensures))) (if_no _ (ne_eqb _ _ (λ q. c.if-rule-number-3.false (q ∙ sym c.number-3.ensures))) refl)))
