@@ -1,6 +1,6 @@
 -- Laws of the definitions of Rebuilt.antt.
 use Rattle.std.specs.Prelude.{◌≡◌, List, ℕ}
-use Rattle.std.proofs.Common.{ap}
+use Rattle.std.proofs.Common.{sym, ap, ◌∙◌}
 use Rattle.rig.specs.declared.Rig.{Rig}
 use Rattle.rules.specs.Calls as R
 use Rattle.exec.specs.Call.{Meets}
@@ -25,3 +25,6 @@ lent_same x y z k a b u v m n =
 pub begun_same : (g : Rig) (table : List (List ℕ)) (y z : Exec) (a b : Answer) → Starts g table (step_of y a) → Starts g table (step_of z b)
     → (y ≡ z) × (a ≡ b)
 begun_same g table y z a b m n = parts y z a b (starts_same g table (step_of y a) (step_of z b) m n)
+
+pub stored_same : (s : Step) (y z : Exec) (a b : Answer) → step_of y a ≡ s → step_of z b ≡ s → (y ≡ z) × (a ≡ b)
+stored_same s y z a b m n = parts y z a b (m ∙ sym n)
