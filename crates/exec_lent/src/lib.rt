@@ -13,8 +13,8 @@ use exec::{Answer, Exec, Step};
 use rig::Rig;
 use rig_tables::{CYCLE_FLAGS, CYCLES};
 
-// The record that a step hands back stands in the lent one's place then, and its answer is told. The entries write these two
-// lines themselves: the laws of crate lent_walks speak of just that code.
+// The record that a step hands back stands in the lent one's place then, and its answer is told. The other entries write
+// such two lines themselves: the laws of crate lent_walks speak of just that code.
 pub fn stored(step: Step, e: &mut Exec) -> Answer
     ensures { step_of e.new result ≡ step }
 {
@@ -84,8 +84,8 @@ mod tests {
         (number, e.rig.tasks, e.st.running)
     }
 
-    // A record of all zeros becomes a fresh one, in which task 1 runs. It waits until count 1; then nobody runs, so a finish is refused
-    // by 5 and the record stays.
+    // A record of all zeros becomes a fresh one, in which task 1 runs. The task waits until count 1; then nobody runs, so a finish is
+    // refused by 5 and the record stays.
     #[test]
     fn steps_are_stored(rt: HostRuntime) {
         let mut e = exec::none();
